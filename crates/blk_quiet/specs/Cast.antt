@@ -1,2 +1,3 @@
 -- The block class at the layout's queues, apart from any system.
 pub mod Casting
+pub mod Lengths

@@ -15,6 +15,7 @@ ghost use Rattle.blk_law.specs.Sheets.Numbers.{BlkPlace};
 ghost use Rattle.blk_quiet.specs.Still.{IsBlock, AnswersAll};
 
 pub mod cast;
+pub mod lengths;
 pub mod pools;
 
 /// Where nobody is runnable, each client put all its requests and took a response to each.

@@ -23,6 +23,7 @@ use Rattle.blk_law.proofs.HopsLemmas.Moves.{blk_moved}
 use Rattle.actor_set.specs.Parts.{Part}
 use Rattle.actor_set.specs.Laws.Kinds.{sheet, scene_of, hostiles}
 use Rattle.actor_set.proofs.LawsLemmas.Calm.{calm_actor, calm_row}
+use Rattle.actor_set.proofs.LawsLemmas.Told.{none_wild}
 use Rattle.wired_law.specs.Wiring.{HasPart, HasBlk}
 use Rattle.expect_core.specs.Expected.{client_entry}
 use Rattle.cast_core.specs.Sources.{first_blk}
@@ -73,7 +74,7 @@ module _ (plan : Plan) (trace : Trace) (cast : List Part) (history : History) (j
     disk = row_of _ has.disk;
     driver = row_of _ has.driver;
     virt = row_of _ has.virt;
-    client = λ k entry asks pool of. row_of _ (has.client k entry asks pool of);
+    client = λ k entry asks pool of. row_of _ (has.client k entry asks pool of (none_wild cast (queues_of plan) (place.first + 4 + 2 * k)));
     holds = λ i below.
         let all = (has_rows plan valid).blk blk is in
         let r = there_is (queues_of plan) (place.first + i) (let n = many in omega (arith, below, all, n)) in

@@ -1,6 +1,7 @@
 -- The network of a plan's actors puts no more than its entries have to be moved.
 use Rattle.std.proofs.Common.{◌≡◌, ◌≢◌, ◌⊎◌, ◌≤◌, ◌<◌, ◌+◌, ◌*◌, ℕ, true, nat_le, nat_lt, Option, Some, None, List, [], length, slice_get, refl, sym, ap, ◌∙◌, subst, arith, inl, inr}
 use Rattle.std.specs.Option.{option_map_or}
+use Rattle.std.proofs.Math.Nat.{mul_comm}
 use Rattle.std.proofs.lemmas.Bool.{and_parts, leb-true, ltb-true, cases_lt}
 use Rattle.cargo_core.specs.declared.item.Item.{Item}
 use Rattle.wire_core.specs.declared.names.Entry.{Entry}
@@ -13,7 +14,6 @@ use Rattle.sdf_plan.specs.declared.plan.Net.{Net}
 use Rattle.sdf_check.specs.Valid.{Valid}
 use Rattle.trace_text.specs.declared.trace.Trace.{Trace}
 use Rattle.trace_text.specs.Events.{net_clients}
-use Rattle.class_table.specs.Rows.{net_buffer}
 use Rattle.region_layout.specs.Rows.{queues_of, pools_of}
 use Rattle.buffer_kit.specs.Entries.{addr_of}
 use Rattle.net_law.specs.Owners.Names.{ClientPools}
@@ -23,11 +23,13 @@ use Rattle.net_law.specs.TxParts.Rows.{in_range}
 use Rattle.actor_set.specs.Parts.{Part}
 use Rattle.actor_set.specs.Laws.Kinds.{sheet, scene_of, hostiles}
 use Rattle.actor_set.proofs.LawsLemmas.Calm.{calm_actor, calm_row}
+use Rattle.actor_set.proofs.LawsLemmas.Told.{none_wild}
+use Rattle.net_law.specs.Parts.Numbers.{client_first}
 use Rattle.wired_law.specs.Wiring.{HasPart, HasWhole}
 use Rattle.cast_core.specs.Sources.{pool_at, first_blk_pool}
 use Rattle.cast_core.specs.Casts.{client_pools, net_place, scene_for}
 use Rattle.cast_core.proofs.Listing.{value_is}
-use Rattle.cast_core.proofs.Rooms.{pools_apart, net_size}
+use Rattle.cast_core.proofs.Rooms.{pools_apart}
 use Rattle.net_law.specs.Hops.Hops.{net_put, net_moves, AreApart, IsNetwork}
 use Rattle.net_law.proofs.HopsLemmas.Moves.{net_moved}
 use Rattle.cast_bound.specs.PlayBound.Standing.{NetMoves, without_net, with_net}
@@ -38,6 +40,12 @@ in_bounds : (p : PoolAt) (item : Item) → in_range p item ≡ true → (p.base 
 in_bounds p item h =
     let parts = and_parts (nat_le p.base (addr_of item)) (nat_lt (addr_of item) (p.base + p.buffers * p.size)) h in
     (leb-true p.base (addr_of item) parts.0, ltb-true (addr_of item) (p.base + p.buffers * p.size) parts.1)
+
+-- what is in a range is in that of the same numbers
+reached : (item : Item) (base first buffers many size bytes : ℕ) → base ≡ first → buffers ≡ many → size ≡ bytes → addr_of item < base + buffers * size → addr_of item < first + many * bytes
+reached item base first buffers many size bytes same_base same_many same_size here =
+    subst (λ b. addr_of item < b + many * bytes) same_base
+    (subst (λ n. addr_of item < base + n * bytes) same_many (subst (λ s. addr_of item < base + buffers * s) same_size here))
 
 module _ (plan : Plan) (valid : Valid plan) where
   -- two pools of the network by their numbers, of which the first is lower
@@ -66,14 +74,12 @@ module _ (plan : Plan) (valid : Valid plan) where
           let other_size : (pool_at (pools_of plan) k).buffers ≡ other.buffers = ap (λ (o : Option PoolRow). option_map_or (λ (row : PoolRow). row.buffers) o 0) second in
           let from = a.0 in
           let other_from = b.0 in
-          let sized : one.size ≡ net_buffer = net_size plan j one (omega (arith, less, below)) first in
-          let other_sized : other.size ≡ net_buffer = net_size plan k other below second in
-          let told : (pool_at (pools_of plan) j).size ≡ net_buffer = ap (λ (o : Option PoolRow). option_map_or (λ (row : PoolRow). row.size) o 0) first ∙ sized in
-          let other_told : (pool_at (pools_of plan) k).size ≡ net_buffer = ap (λ (o : Option PoolRow). option_map_or (λ (row : PoolRow). row.size) o 0) second ∙ other_sized in
-          let to : addr_of item < (pool_at (pools_of plan) j).base + (pool_at (pools_of plan) j).buffers * net_buffer = subst (λ z. addr_of item < (pool_at (pools_of plan) j).base + (pool_at (pools_of plan) j).buffers * z) told a.1 in
-          let other_to : addr_of item < (pool_at (pools_of plan) k).base + (pool_at (pools_of plan) k).buffers * net_buffer = subst (λ z. addr_of item < (pool_at (pools_of plan) k).base + (pool_at (pools_of plan) k).buffers * z) other_told b.1 in
-          let end : addr_of item < one.base + one.size * one.buffers = rw sized (omega (arith, base, size, to)) in
-          let other_end : addr_of item < other.base + other.size * other.buffers = rw other_sized (omega (arith, other_base, other_size, other_to)) in
+          let told : (pool_at (pools_of plan) j).size ≡ one.size = ap (λ (o : Option PoolRow). option_map_or (λ (row : PoolRow). row.size) o 0) first in
+          let other_told : (pool_at (pools_of plan) k).size ≡ other.size = ap (λ (o : Option PoolRow). option_map_or (λ (row : PoolRow). row.size) o 0) second in
+          let to : addr_of item < one.base + one.buffers * one.size = reached item (pool_at (pools_of plan) j).base _ (pool_at (pools_of plan) j).buffers _ (pool_at (pools_of plan) j).size _ base size told a.1 in
+          let other_to : addr_of item < other.base + other.buffers * other.size = reached item (pool_at (pools_of plan) k).base _ (pool_at (pools_of plan) k).buffers _ (pool_at (pools_of plan) k).size _ other_base other_size other_told b.1 in
+          let end : addr_of item < one.base + one.size * one.buffers = rw (mul_comm one.size one.buffers) to in
+          let other_end : addr_of item < other.base + other.size * other.buffers = rw (mul_comm other.size other.buffers) other_to in
           pools_apart plan valid j k one other less first second (addr_of item) (omega (arith, base, from)) end (omega (arith, other_base, other_from)) other_end
 
   apart_at : (j k : ℕ) → j < first_blk_pool plan → k < first_blk_pool plan → j ≢ k → AreApart (pool_at (pools_of plan) j) (pool_at (pools_of plan) k)
@@ -110,7 +116,7 @@ module _ (plan : Plan) (trace : Trace) (cast : List Part) (history : History) (j
     receiver = row_of _ w.receiver;
     sender = row_of _ w.sender;
     copier = λ k below. row_of _ (w.copier k below);
-    client = λ k program mac q runs address pooled. row_of _ (w.client k program mac q (record { address = address; pools = pooled; plays = runs }));
+    client = λ k program mac q runs address pooled. row_of _ (w.client k program mac q (record { address = address; pools = pooled; plays = runs }) (none_wild cast (queues_of plan) (client_first place.first k + 4)));
     holds = λ i below. let r = w.kinds i below in record { row = r.0; there = r.1; calm = calm_row cast r.0; enough = omega arith };
     apart = λ j k p q first second off.
         let a = value_is (length (net_clients plan)) (client_pools plan) j p first in

@@ -20,13 +20,14 @@ use Rattle.region_layout.specs.Layouts.{layout_of}
 use Rattle.region_layout.specs.Rows.{actors_of, queues_of, pools_of}
 use Rattle.region_layout.specs.declared.layout.Layout.{Layout}
 use Rattle.region_layout.proofs.NameLemmas.{few_actors}
-use Rattle.region_layout.proofs.ValidLemmas.{net_counts, serial_counts, blk_counts, small_numbers}
+use Rattle.region_layout.proofs.ValidLemmas.{net_frames, net_counts, serial_counts, blk_counts, small_numbers}
 use Rattle.region_layout.proofs.WalkLemmas.{kept, blk_client_walked}
 use Rattle.layout_laws.proofs.Lists.{all-at, there_is}
 use Rattle.play_core.proofs.Lists.{some_is}
 use Rattle.trace_text.specs.declared.trace.Trace.{Trace}
 use Rattle.trace_text.specs.Events.{net_clients, serial_clients, blk_clients}
 use Rattle.trace_text.specs.Traces.{IsReadFor}
+use Rattle.trace_text.specs.Limits.{frame_most}
 use Rattle.trace_text.specs.Shapes.{IsFrame, IsDisk}
 use Rattle.trace_text.proofs.Limits.{limits_kept}
 use Rattle.trace_text.proofs.Shapes.{shapes-read}
@@ -120,19 +121,28 @@ has_asks plan trace blk read is =
       image = let long = disk.2 in let most = disk.3 in omega (arith, long, most);
     }
 
--- the frames of a trace
-short_frames : (frames : List (List ℕ)) → All IsFrame frames → AreShort frames
-short_frames [] all = All-nil (λ frame. length frame < 2 ^ 16)
-short_frames (x ∷ xs) all =
-    let one = (All-head IsFrame x xs all).1 in
-    let short : length x < 2 ^ 16 = omega (arith, one) in
-    All-cons (λ frame. length frame < 2 ^ 16) x xs short (short_frames xs (All-tail IsFrame x xs all))
+-- the longest frame of a valid plan
+pub frames_few : (plan : Plan) → Valid plan → frame_most plan ≤ 9014
+unfolding frame_most
+frames_few plan valid = by plan.net refl
+  where
+    by : (o : Option Net) → plan.net ≡ o → option_map_or (λ (net : Net). net.max_frame) o 0 ≤ 9014
+    by None is = omega arith
+    by (Some net) is = (net_frames plan net valid is).1
 
-pub has_frames : (plan : Plan) (trace : Trace) → IsReadFor plan trace → HasFrames trace (length (net_clients plan))
-has_frames plan trace read = record {
-  device = short_frames trace.frames (shapes-read plan trace read).frames;
+-- the frames of a trace
+short_frames : (most : ℕ) (frames : List (List ℕ)) → most ≤ 9014 → All (IsFrame most) frames → AreShort frames
+short_frames most [] few all = All-nil (λ frame. length frame < 2 ^ 16)
+short_frames most (x ∷ xs) few all =
+    let one = (All-head (IsFrame most) x xs all).1 in
+    let short : length x < 2 ^ 16 = omega (arith, one, few) in
+    All-cons (λ frame. length frame < 2 ^ 16) x xs short (short_frames most xs few (All-tail (IsFrame most) x xs all))
+
+pub has_frames : (plan : Plan) (trace : Trace) → Valid plan → IsReadFor plan trace → HasFrames trace (length (net_clients plan))
+has_frames plan trace valid read = record {
+  device = short_frames (frame_most plan) trace.frames (frames_few plan valid) (shapes-read plan trace read).frames;
   count = (limits_kept plan trace read).sends;
-  client = λ c frames at. short_frames frames (all-at (All IsFrame) trace.sends (shapes-read plan trace read).sends c frames at);
+  client = λ c frames at. short_frames (frame_most plan) frames (frames_few plan valid) (all-at (All (IsFrame (frame_most plan))) trace.sends (shapes-read plan trace read).sends c frames at);
 }
 
 pub says_count : (plan : Plan) (trace : Trace) → IsReadFor plan trace → length trace.says ≡ length (serial_clients plan)

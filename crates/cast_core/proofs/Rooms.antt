@@ -3,6 +3,7 @@ use Rattle.std.proofs.Common.{subst, ◌≡◌, ◌⊎◌, ◌+◌, ◌-◌, ◌
 use Rattle.std.specs.List.{All}
 use Rattle.std.specs.Option.{option_map_or}
 use Rattle.std.proofs.Math.Nat.{div-mul-le_self, mul_comm}
+use Rattle.std.proofs.lemmas.Nat.{mul-le}
 use Rattle.std.proofs.lemmas.Option.{slice_get_within}
 use Rattle.std.proofs.lemmas.List.Elements.{All-nil, All-cons}
 use Rattle.std.proofs.lemmas.Bool.{cases_Bool, and_parts, leb-true, ltb-true}
@@ -14,14 +15,16 @@ use Rattle.sdf_plan.specs.declared.plan.Net.{Net}
 use Rattle.sdf_plan.specs.declared.plan.NetClient.{NetClient}
 use Rattle.sdf_plan.specs.declared.plan.Blk.{Blk}
 use Rattle.sdf_plan.specs.declared.plan.BlkClient.{BlkClient}
+use Rattle.sdf_check.specs.ClassRules.{IsBufferSize}
 use Rattle.sdf_check.specs.Valid.{Valid}
+use Rattle.trace_text.specs.Limits.{frame_most}
 use Rattle.sdf_check.proofs.ListLemmas.{get-right, get-either}
 use Rattle.region_layout.specs.Bases.{given_end, floor_of, round_up, base_at, free_after, bases_from, bases_of}
 use Rattle.region_layout.specs.Sizes.{IsSmallRegion}
-use Rattle.class_table.specs.Rows.{net_buffer, blk_buffer}
+use Rattle.class_table.specs.Rows.{blk_buffer}
 use Rattle.region_layout.specs.Rows.{queues_of, pool_in, net_client_pools, net_pools, blk_client_pools, blk_pools, pools_of, client_name, each_client}
 use Rattle.region_layout.proofs.SameLemmas.{pools_same}
-use Rattle.region_layout.proofs.ValidLemmas.{small_numbers}
+use Rattle.region_layout.proofs.ValidLemmas.{small_numbers, net_buffer, net_client_buffers}
 use Rattle.layout_laws.specs.Sound.{IsSoundPool, queue_range, pool_range}
 use Rattle.layout_laws.proofs.Lists.{option_cases, there_is, each-at, all-at, all-clients, all-class}
 use Rattle.layout_laws.proofs.Pools.{pools_sound}
@@ -80,15 +83,32 @@ base_low plan valid r base at =
 abbrev HasSize : ℕ → PoolRow → Type 0
 HasSize size row = row.size ≡ size
 
-net_sized : (plan : Plan) (net : Net) → All (HasSize net_buffer) (net_pools plan net)
+-- a network buffer takes the longest frame, and is one of 16,384 bytes at most
+pub record TakesFrames (plan : Plan) (row : PoolRow) : Type 0 where
+  pub fits : frame_most plan ≤ row.size
+  pub some : 1 ≤ row.size
+  pub few : row.size ≤ 16384
+
+most_is : (plan : Plan) (net : Net) → plan.net ≡ Some net → frame_most plan ≡ net.max_frame
+unfolding frame_most
+most_is plan net is = ap (λ (o : Option Net). option_map_or (λ (x : Net). x.max_frame) o 0) is
+
+takes_frames : (plan : Plan) (net : Net) (row : PoolRow) → plan.net ≡ Some net → IsBufferSize row.size × (net.max_frame ≤ row.size) → TakesFrames plan row
+takes_frames plan net row is fine =
+    let most = most_is plan net is in
+    record { fits = omega (arith, most, fine.1); some = omega (arith, fine.0.1); few = omega (arith, fine.0.2) }
+
+net_sized : (plan : Plan) (net : Net) → Valid plan → plan.net ≡ Some net → All (TakesFrames plan) (net_pools plan net)
 unfolding net_pools net_client_pools pool_in
-net_sized plan net =
-    let first = pool_in plan net.rx_region (codes "net.rx") net.rx_buffers net_buffer in
-    let rx : ℕ → NetClient → PoolRow = λ k client. pool_in plan client.rx_region (client_name (codes "net.") k (codes ".rx")) client.rx_buffers net_buffer in
-    let tx : ℕ → NetClient → PoolRow = λ k client. pool_in plan client.tx_region (client_name (codes "net.") k (codes ".tx")) client.tx_buffers net_buffer in
-    All-cons (HasSize net_buffer) first (each_client (net_client_pools plan) 0 net.client) refl
-    (all-clients (HasSize net_buffer) (net_client_pools plan) 0 net.client (λ k (client : NetClient) there.
-    All-cons (HasSize net_buffer) (rx (0 + k) client) (tx (0 + k) client ∷ []) refl (All-cons (HasSize net_buffer) (tx (0 + k) client) [] refl (All-nil (HasSize net_buffer)))))
+net_sized plan net valid is =
+    let first = pool_in plan net.rx_region (codes "net.rx") net.rx_buffers net.rx_buffer_size in
+    let rx : ℕ → NetClient → PoolRow = λ k client. pool_in plan client.rx_region (client_name (codes "net.") k (codes ".rx")) client.rx_buffers client.rx_buffer_size in
+    let tx : ℕ → NetClient → PoolRow = λ k client. pool_in plan client.tx_region (client_name (codes "net.") k (codes ".tx")) client.tx_buffers client.tx_buffer_size in
+    All-cons (TakesFrames plan) first (each_client (net_client_pools plan) 0 net.client) (takes_frames plan net first is (net_buffer plan net valid is))
+    (all-clients (TakesFrames plan) (net_client_pools plan) 0 net.client (λ k (client : NetClient) there.
+    let sizes = net_client_buffers plan net k client valid is there in
+    All-cons (TakesFrames plan) (rx (0 + k) client) (tx (0 + k) client ∷ []) (takes_frames plan net (rx (0 + k) client) is sizes.0)
+    (All-cons (TakesFrames plan) (tx (0 + k) client) [] (takes_frames plan net (tx (0 + k) client) is sizes.1) (All-nil (TakesFrames plan)))))
 
 blk_sized : (plan : Plan) (blk : Blk) → All (HasSize 32768) (blk_pools plan blk)
 unfolding blk_pools blk_client_pools pool_in
@@ -127,10 +147,10 @@ module _ (plan : Plan) where
   at_class : (n : ℕ) (row : PoolRow) → slice_get (pools_of plan) n ≡ Some row → slice_get (net_part ++ blk_part) n ≡ Some row
   at_class n row at = ap (λ rows. slice_get rows n) (sym (pools_same plan)) ∙ at
 
-  -- the network's pools have buffers of the network's size
-  pub net_size : (n : ℕ) (row : PoolRow) → n < first_blk_pool plan → slice_get (pools_of plan) n ≡ Some row → row.size ≡ net_buffer
-  net_size n row lt at = elim (get-either net_part blk_part n row (at_class n row at)) [
-    | inl h ↦ all-at (HasSize net_buffer) net_part (all-class (HasSize net_buffer) (net_pools plan) plan.net (λ net is. net_sized plan net)) n row h
+  -- the network's pools have buffers that take the longest frame
+  pub net_size : (n : ℕ) (row : PoolRow) → Valid plan → n < first_blk_pool plan → slice_get (pools_of plan) n ≡ Some row → TakesFrames plan row
+  net_size n row valid lt at = elim (get-either net_part blk_part n row (at_class n row at)) [
+    | inl h ↦ all-at (TakesFrames plan) net_part (all-class (TakesFrames plan) (net_pools plan) plan.net (λ net is. net_sized plan net valid is)) n row h
     | inr h ↦ let past = h.0 in let long = front_long in absurd (omega (arith, past, long, lt))
   ]
 
@@ -173,9 +193,11 @@ module _ (plan : Plan) (valid : Valid plan) where
       let low = base_low plan valid row.region row.base sound.base in
       let few = sound.buffers.1 in
       let told : row.size ≡ (pool_at (pools_of plan) n).size = sym (ap (λ (o : Option PoolRow). option_map_or (λ (r : PoolRow). r.size) o 0) at) in
-      let size = net_size plan n row below at in
-      let ends : row.base + row.buffers * net_buffer ≤ 2 ^ 62 = omega (arith, low, few) in
-      record { row = row; there = at; some = sound.buffers.0; few = few; sized = told; large = omega (arith, size, told); ends = subst (λ z. row.base + row.buffers * z ≤ 2 ^ 62) (sym size ∙ told) ends }
+      let size = net_size plan n row valid below at in
+      let some = size.some in
+      let wide : row.buffers * row.size ≤ 512 * 16384 = mul-le row.buffers row.size 512 16384 few size.few in
+      let ends : row.base + row.buffers * row.size ≤ 2 ^ 62 = omega (arith, low, wide) in
+      record { row = row; there = at; some = sound.buffers.0; few = few; sized = told; large = omega (arith, some, told); ends = subst (λ z. row.base + row.buffers * z ≤ 2 ^ 62) told ends }
 
   pub has_blk_pool : (n : ℕ) (row : PoolRow) → first_blk_pool plan ≤ n → slice_get (pools_of plan) n ≡ Some row → HasPool 32768 (pools_of plan) n
   has_blk_pool n row past at =

@@ -40,7 +40,7 @@ net_place plan trace = record {
   macs = per_client (length (net_clients plan)) (client_mac plan);
   pools = per_client (length (net_clients plan)) (client_pools plan);
   programs = per_client (length (net_clients plan)) (client_program plan trace);
-  most = frame_most;
+  most = frame_most plan;
 }
 
 -- the pool of the block client of a number: it stands behind the virtualiser's
@@ -65,7 +65,7 @@ job_part plan trace EthDriver = Some (NetworkPart (driver_at 0))
 job_part plan trace NetReceiver = Some (NetworkPart
     (receiver_at 0 (net_place plan trace).pool (net_place plan trace).macs))
 job_part plan trace NetSender =
-    Some (SendingPart (sender_at 0 frame_most (net_place plan trace).pools))
+    Some (SendingPart (sender_at 0 (frame_most plan) (net_place plan trace).pools))
 job_part plan trace (NetCopier c) = Some (NetworkPart (copier_at 0 c))
 job_part plan trace (NetClient c) = Some (NetworkPart
     (client_at 0 c (client_program plan trace c)

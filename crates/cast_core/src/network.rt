@@ -1,5 +1,5 @@
 //! The actors of the network class.
-ghost use Rattle.std.specs.Prelude.{◌≡◌, ◌<◌, ◌≤◌, ◌+◌, ◌*◌, ℕ, List, Some, length, slice_get};
+ghost use Rattle.std.specs.Prelude.{◌≡◌, ◌<◌, ◌≤◌, ◌+◌, ◌*◌, ◌^◌, ℕ, List, Some, length, slice_get};
 ghost use Rattle.std.specs.Prelude.{IfOk};
 ghost use Rattle.region_layout.specs.Rows.{pools_of};
 ghost use Rattle.trace_text.specs.Events.{net_clients, is_source};
@@ -39,7 +39,7 @@ use net_virt_rx::{LeaseEnds, NetVirtRx};
 use net_virt_tx::NetVirtTx;
 use sdf_plan::Plan;
 use std::alloc::Global;
-use trace_text::{LONGEST_FRAME, Trace, is_source, runs};
+use trace_text::{Trace, frame_most, is_source, runs};
 use wire_core::{PoolRow, QueueId};
 
 /// The address that no client of a valid plan has.
@@ -164,16 +164,18 @@ fn receiver(
 }
 
 // The sending virtualiser.
-fn sender(alloc: Global, pools: &[PoolRow], clients: u16) -> Result<NetVirtTx, Memory>
+fn sender(alloc: Global, plan: &Plan, pools: &[PoolRow], clients: u16) -> Result<NetVirtTx, Memory>
     requires few { clients ≤ 8 }
+    requires longest { frame_most plan.now < 2 ^ 16 }
     requires pools { HasPools pools.now clients }
     ensures new { IfOk result IsNewSender }
     ensures part { IfOk result (λ v. send_part v
-        ≡ sender_at 0 frame_most (per_client clients (pools_at pools.now))) }
+        ≡ sender_at 0 (frame_most plan.now) (per_client clients (pools_at pools.now))) }
 {
     let ends = tx_ends(alloc, pools, clients)?;
     let ranges = ranges(alloc, &ends)?;
-    Ok(NetVirtTx::new(alloc, QueueId(6), QueueId(7), ends, ranges, LONGEST_FRAME)?)
+    let most = frame_most(plan) as u16;
+    Ok(NetVirtTx::new(alloc, QueueId(6), QueueId(7), ends, ranges, most)?)
 }
 
 // The copier of the client of a number.
@@ -243,6 +245,7 @@ pub fn net_actor(
     requires clients { clients ≡ length (net_clients plan.now) }
     requires few { clients ≤ 8 }
     requires rows { pools.now ≡ pools_of plan.now }
+    requires longest { frame_most plan.now < 2 ^ 16 }
     requires pools { HasPools pools.now clients }
     requires frames { HasFrames trace.now clients }
     requires there { net_within clients job }
@@ -254,7 +257,7 @@ pub fn net_actor(
         NetJob::Device => Ok(Actor::EthDevice(device(alloc, trace)?)),
         NetJob::Driver => Ok(Actor::EthDriver(driver())),
         NetJob::Receiver => Ok(Actor::NetVirtRx(receiver(alloc, plan, pools, clients)?)),
-        NetJob::Sender => Ok(Actor::NetVirtTx(sender(alloc, pools, clients)?)),
+        NetJob::Sender => Ok(Actor::NetVirtTx(sender(alloc, plan, pools, clients)?)),
         NetJob::Copier(c) => Ok(Actor::NetCopier(copier(c))),
         NetJob::Client(c) => Ok(Actor::NetClient(client(alloc, plan, pools, trace, c)?)),
     }

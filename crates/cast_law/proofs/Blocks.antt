@@ -232,7 +232,7 @@ module _ (plan : Plan) (trace : Trace) (actors : List Actor) (valid : Valid plan
     disk = disk_there;
     driver = driver_there;
     virt = virt_there;
-    client = client_there;
+    client = λ k entry asks pool of calm. client_there k entry asks pool of;
     only = only_these;
     requests = requests_there;
     some = some_buffers;

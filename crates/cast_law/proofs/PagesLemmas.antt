@@ -2,3 +2,4 @@ pub mod Acting
 pub mod Counting
 pub mod Lending
 pub mod Holding
+pub mod Once

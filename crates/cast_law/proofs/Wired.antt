@@ -50,6 +50,7 @@ use Rattle.layout_laws.proofs.SeatsLemmas.Carrying.{net_kinds}
 use Rattle.layout_laws.proofs.SeatsLemmas.Naming.{net_named, blk_named}
 use Rattle.cast_core.specs.Casts.{client_pools, net_place, blk_place, job_part, scene_for, AreCast}
 use Rattle.cast_core.specs.Sources.{first_blk_pool, pool_at, no_mac, client_mac, client_kind, client_program}
+use Rattle.cast_core.proofs.Joining.{frames_few}
 use Rattle.cast_core.proofs.Rooms.{net_size}
 use Rattle.cast_core.proofs.Listing.{value_count, value_at, value_is}
 
@@ -296,12 +297,12 @@ module _ (plan : Plan) (trace : Trace) (actors : List Actor) (valid : Valid plan
         ∙ (ap (λ m. Some (NetworkPart (client_at 0 k program m (own_pools (client_pools plan k))))) (sym b)
         ∙ ap (λ r. Some (NetworkPart (client_at 0 k program mac (own_pools r)))) (sym c))
 
-    sent_frames : (k : ℕ) → AreFrames frame_most (unwrap_or (slice_get trace.sends k) [])
+    sent_frames : (k : ℕ) → AreFrames (frame_most plan) (unwrap_or (slice_get trace.sends k) [])
     sent_frames k = by (slice_get trace.sends k) refl
       where
-        by : (o : Option (List (List ℕ))) → slice_get trace.sends k ≡ o → AreFrames frame_most (unwrap_or o [])
+        by : (o : Option (List (List ℕ))) → slice_get trace.sends k ≡ o → AreFrames (frame_most plan) (unwrap_or o [])
         by None at = λ j frame j_at. cc
-        by (Some sent) at = λ j frame j_at. all_at IsTraceFrame sent (all_at (All IsTraceFrame) trace.sends shapes.sends k sent at) j frame j_at
+        by (Some sent) at = λ j frame j_at. all_at (IsTraceFrame (frame_most plan)) sent (all_at (All (IsTraceFrame (frame_most plan))) trace.sends shapes.sends k sent at) j frame j_at
 
     pub whole_is : HasWhole (queues_of plan) place cast
     whole_is = record {
@@ -314,7 +315,7 @@ module _ (plan : Plan) (trace : Trace) (actors : List Actor) (valid : Valid plan
       copier = λ k lt.
           let c = there_is net.client k (let a = macs_many in omega (arith, lt, a)) in
           ((actor_named plan c.0.copier).0, part_at (NetCopier k) (actor_named plan c.0.copier).0 (named.copier k c.0 c.1));
-      client = λ k program mac q of.
+      client = λ k program mac q of calm.
           let a = value_is count (client_program plan trace) k program of.plays in
           let b = value_is count (client_mac plan) k mac of.address in
           let d = value_is count (client_pools plan) k q of.pools in
@@ -336,12 +337,12 @@ module _ (plan : Plan) (trace : Trace) (actors : List Actor) (valid : Valid plan
           let many : q.rx.buffers ≡ room.1.buffers = ap (λ (r : ClientPools). r.rx.buffers) v.1 ∙ ap (λ (o : Option PoolRow). option_map_or (λ (r : PoolRow). r.buffers) o 0) room.3 in
           omega (arith, many, some);
       addresses = λ k mac at. ap (λ (m : Mac). length m.0) (value_is count (client_mac plan) k mac at).1 ∙ client_six plan k;
-      frames = λ k frame at. all_at IsTraceFrame trace.frames shapes.frames k frame (ap (λ fs. slice_get fs k) (sym frames_here) ∙ at);
+      frames = λ k frame at. all_at (IsTraceFrame (frame_most plan)) trace.frames shapes.frames k frame (ap (λ fs. slice_get fs k) (sym frames_here) ∙ at);
       scripts = λ k script at.
           let v = value_is count (client_program plan trace) k (Source script) at in
           let same : script ≡ unwrap_or (slice_get trace.sends k) [] = script_is (client_kind plan k) (unwrap_or (slice_get trace.sends k) []) script v.1 in
-          subst (AreFrames frame_most) (sym same) (sent_frames k);
-      told = omega arith;
+          subst (AreFrames (frame_most plan)) (sym same) (sent_frames k);
+      told = let most = frames_few plan valid in omega (arith, most);
       fits = sized 0 (let long = front_long in omega (arith, long)) ((has_rooms plan valid net is).free.1) ((has_rooms plan valid net is).free.3);
       fits_client = λ k q at.
           let v = value_is count (client_pools plan) k q at in
@@ -349,7 +350,7 @@ module _ (plan : Plan) (trace : Trace) (actors : List Actor) (valid : Valid plan
           let rx = (has_rooms plan valid net is).rx_free k below in
           let tx = (has_rooms plan valid net is).tx_free k below in
           let long = front_long in
-          (subst (λ (r : ClientPools). frame_most ≤ r.rx.size) (sym v.1) (sized (1 + 2 * k) (omega (arith, below, long)) rx.1 rx.3), subst (λ (r : ClientPools). frame_most ≤ r.tx.size) (sym v.1) (sized (2 + 2 * k) (omega (arith, below, long)) tx.1 tx.3));
+          (subst (λ (r : ClientPools). frame_most plan ≤ r.rx.size) (sym v.1) (sized (1 + 2 * k) (omega (arith, below, long)) rx.1 rx.3), subst (λ (r : ClientPools). frame_most plan ≤ r.tx.size) (sym v.1) (sized (2 + 2 * k) (omega (arith, below, long)) tx.1 tx.3));
     }
       where
         -- the network's pools stand first
@@ -357,9 +358,9 @@ module _ (plan : Plan) (trace : Trace) (actors : List Actor) (valid : Valid plan
         front_long = ap (λ (o : Option Net). option_map_or (λ (x : Net). 1 + 2 * length x.client) o 0) is
 
         -- the longest frame fits a buffer of each
-        sized : (n : ℕ) → n < first_blk_pool plan → (row : PoolRow) → slice_get (pools_of plan) n ≡ Some row → frame_most ≤ (pool_at (pools_of plan) n).size
+        sized : (n : ℕ) → n < first_blk_pool plan → (row : PoolRow) → slice_get (pools_of plan) n ≡ Some row → frame_most plan ≤ (pool_at (pools_of plan) n).size
         sized n below row at =
-            let size = net_size plan n row below at in
+            let size = (net_size plan n row valid below at).fits in
             let told : (pool_at (pools_of plan) n).size ≡ row.size = ap (λ (o : Option PoolRow). option_map_or (λ (r : PoolRow). r.size) o 0) at in
             omega (arith, size, told)
 

@@ -1,21 +1,26 @@
 //! The buffers of a cast at play, one by one, whatever classes it has.
 
-ghost use Rattle.std.specs.Prelude.{◌≡◌, ◌<◌, ◌≤◌, ℕ, Some, List, map, slice_get};
+ghost use Rattle.std.specs.Prelude.{◌≡◌, ◌<◌, ◌≤◌, ℕ, Some, List, length, map, slice_get};
 ghost use Rattle.wire_core.specs.declared.names.PoolRow.{PoolRow};
 ghost use Rattle.wire_core.specs.declared.names.QueueRow.{QueueRow};
 ghost use Rattle.wire_core.specs.declared.names.Entry.{Entry};
+ghost use Rattle.wire_core.specs.Ends.{Role, End};
 ghost use Rattle.wire_core.specs.Journal.{History};
 ghost use Rattle.wire_core.specs.Lists.{Passed};
 ghost use Rattle.wire_core.specs.Queues.{Queue};
 ghost use Rattle.buffer_kit.specs.Conserving.{Count, counted, the_page, of_other_length};
 ghost use Rattle.play_core.specs.Moved.{moved};
+ghost use Rattle.play_core.specs.Sheets.{AreFilled, AreSeated};
+ghost use Rattle.play_core.specs.Still.{IsPeopled};
 ghost use Rattle.owner_law.specs.Pages.{CarryPages};
 ghost use Rattle.owner_law.specs.Pools.Places.{PoolAt};
 ghost use Rattle.page_law.specs.Holders.{AreHeld};
 ghost use Rattle.actor_set.specs.Parts.{Part};
 ghost use Rattle.actor_set.specs.Actors.{part_of};
 ghost use Rattle.actor_set.specs.declared.actor.Actor.{Actor};
-ghost use Rattle.actor_set.specs.Laws.Kinds.{scene_of};
+ghost use Rattle.actor_set.specs.Laws.Kinds.{scene_of, sheet};
+ghost use Rattle.wired_law.specs.Buffers.{HasEachOnce};
+ghost use Rattle.wired_law.specs.Wiring.{AreAtWork};
 ghost use Rattle.cast_law.specs.Pools.Places.{PoolPlace, IsPlaced, HasPools};
 ghost use Rattle.cast_law.specs.Pools.Places.{cast_naming, place_sizes};
 ghost use Rattle.cast_law.specs.Pools.Pooling.{AreAtPlay};
@@ -58,4 +63,17 @@ pub fn cast_page_law()
         → HasPools pools place → (i : ℕ) (p : Part) → slice_get (map part_of actors) i ≡ Some p
         → (j : ℕ) (q : PoolAt) → slice_get (part_pools p) j ≡ Some q → 1 ≤ q.buffers
         → cast_weighs (of_other_length (record { 0 = q.number }) q.size) passed world actors ≡ 0 }
+{}
+
+/// Of one moment's lists alone, wherever actors at work have just the ends that the rows give them:
+/// each buffer is there once, and those of block clients have their class's length. No journal is
+/// asked, nor whether anything came out of turn, nor what the actors put.
+pub fn cast_once_law()
+    ensures { (ends : Role → ℕ → End) (rows : List QueueRow) (actors : List Actor)
+        (passed : Passed) → IsPeopled rows (length (map part_of actors))
+        → AreSeated (sheet (scene_of (map part_of actors))) rows (map part_of actors)
+        → AreFilled (sheet (scene_of (map part_of actors))) rows (map part_of actors)
+        → (pools : List PoolRow) (place : PoolPlace) → IsPlaced rows place (map part_of actors)
+        → HasPools pools place → AreAtWork ends rows actors passed
+        → HasEachOnce rows actors passed }
 {}

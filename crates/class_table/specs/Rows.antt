@@ -88,10 +88,6 @@ abbrev pub pool : UseName Name → Name → ℕ → ℕ → List (Grant Name) �
 pool name region buffers size must may =
     record { name = name; region = region; must = must; may = may; buffers = buffers; size = size }
 
--- the bytes of a network buffer
-abbrev pub net_buffer : ℕ
-net_buffer = 2048
-
 -- the bytes of a block buffer
 abbrev pub blk_buffer : ℕ
 blk_buffer = blk_buffer_bytes
@@ -129,7 +125,7 @@ net_queues net =
 -- the pool of the network class: the receiving virtualiser and every copier read it
 abbrev pub net_pools : Net → List (PoolUse Name)
 net_pools net =
-    pool (whole (codes "net.rx")) net.rx_region net.rx_buffers net_buffer
+    pool (whole (codes "net.rx")) net.rx_region net.rx_buffers net.rx_buffer_size
     (reads net.rx_virt ∷ map (λ (c : NetClient). reads c.copier) net.client) (net.driver ∷ []) ∷ []
 
 -- the roles that a network client gives
@@ -157,13 +153,13 @@ net_client_queues net c client =
 -- the pool of what a network client receives
 abbrev pub rx_pool : ℕ → NetClient → PoolUse Name
 rx_pool c client =
-    pool (of_net c (codes ".rx")) client.rx_region client.rx_buffers net_buffer
+    pool (of_net c (codes ".rx")) client.rx_region client.rx_buffers client.rx_buffer_size
     (writes client.copier ∷ reads client.pd ∷ []) []
 
 -- the pool of what a network client sends
 abbrev pub tx_pool : Net → ℕ → NetClient → PoolUse Name
 tx_pool net c client =
-    pool (of_net c (codes ".tx")) client.tx_region client.tx_buffers net_buffer
+    pool (of_net c (codes ".tx")) client.tx_region client.tx_buffers client.tx_buffer_size
     (writes client.pd ∷ []) (net.tx_virt ∷ net.driver ∷ [])
 
 -- the two pools of a network client

@@ -15,9 +15,6 @@ use cargo_core::{Memory, QueueKind, Series};
 use sdf_plan::{Net, NetClient, Place};
 use std::alloc::Global;
 
-/// The bytes of a network buffer.
-const NET_BUFFER: u64 = 2048;
-
 fn roles<'a>(alloc: Global, net: &'a Net) -> Result<Vec<RoleUse<&'a str>>, Memory>
     ensures { IfOk result (λ roles. map role_shown roles.items ≡ net_roles net.now) }
 {
@@ -102,7 +99,7 @@ fn pools<'a>(alloc: Global, net: &'a Net) -> Result<Vec<PoolUse<&'a str>>, Memor
         must,
         may: Series::from_vec(may),
         buffers: net.rx_buffers,
-        size: NET_BUFFER,
+        size: net.rx_buffer_size,
     })?;
     Ok(pools)
 }
@@ -223,7 +220,7 @@ fn client_rx_pool<'a>(
         must: Series::from_vec(must),
         may: Series::new(alloc),
         buffers: client.rx_buffers,
-        size: NET_BUFFER,
+        size: client.rx_buffer_size,
     })
 }
 
@@ -245,7 +242,7 @@ fn client_tx_pool<'a>(
         must: Series::from_vec(must),
         may: Series::from_vec(may),
         buffers: client.tx_buffers,
-        size: NET_BUFFER,
+        size: client.tx_buffer_size,
     })
 }
 

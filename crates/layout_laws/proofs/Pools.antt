@@ -15,7 +15,7 @@ use Rattle.sdf_check.specs.ClassRules.{UsesNoRegion, IsSmaller, IsBufferCount}
 use Rattle.sdf_check.specs.Valid.{Valid}
 use Rattle.sdf_check.proofs.SoughtLemmas.{here-some}
 use Rattle.region_layout.specs.Bases.{bases_from, bases_of, floor_of, free_after}
-use Rattle.class_table.specs.Rows.{net_buffer, blk_buffer}
+use Rattle.class_table.specs.Rows.{blk_buffer}
 use Rattle.region_layout.specs.Rows.{pool_in, net_client_pools, net_pools, blk_client_pools, blk_pools, pools_of, each_client, client_name}
 use Rattle.region_layout.proofs.SameLemmas.{pools_same}
 use Rattle.region_layout.proofs.KeptLemmas.{net_keeps, net_client_keeps, blk_keeps, blk_client_keeps}
@@ -77,13 +77,13 @@ net_client_sound plan net valid is c client there =
     let named = net_client_named plan net c client valid is there in
     let rx = not-missed plan client.rx_region (λ none. named (inr (0, none))) in
     let tx = not-missed plan client.tx_region (λ none. named (inr (1, none))) in
-    let first = pool_in plan client.rx_region (client_name (codes "net.") c (codes ".rx")) client.rx_buffers net_buffer in
-    let second = pool_in plan client.tx_region (client_name (codes "net.") c (codes ".tx")) client.tx_buffers net_buffer in
+    let first = pool_in plan client.rx_region (client_name (codes "net.") c (codes ".rx")) client.rx_buffers client.rx_buffer_size in
+    let second = pool_in plan client.tx_region (client_name (codes "net.") c (codes ".tx")) client.tx_buffers client.tx_buffer_size in
     All-cons (IsSoundPool plan) first (second ∷ [])
-    (sound_pool plan client.rx_region (client_name (codes "net.") c (codes ".rx")) client.rx_buffers net_buffer rx.0 counts.0 rx.1
+    (sound_pool plan client.rx_region (client_name (codes "net.") c (codes ".rx")) client.rx_buffers client.rx_buffer_size rx.0 counts.0 rx.1
     (λ small. fine (inr (0, small))))
     (All-cons (IsSoundPool plan) second []
-    (sound_pool plan client.tx_region (client_name (codes "net.") c (codes ".tx")) client.tx_buffers net_buffer tx.0 counts.1 tx.1
+    (sound_pool plan client.tx_region (client_name (codes "net.") c (codes ".tx")) client.tx_buffers client.tx_buffer_size tx.0 counts.1 tx.1
     (λ small. fine (inr (1, small))))
     (All-nil (IsSoundPool plan)))
 
@@ -91,8 +91,8 @@ net_sound : (plan : Plan) → Valid plan → (net : Net) → plan.net ≡ Some n
 unfolding net_pools
 net_sound plan valid net is =
     let rx = not-missed plan net.rx_region (λ none. (net_named plan net valid is) (inr (0, none))) in
-    All-cons (IsSoundPool plan) (pool_in plan net.rx_region (codes "net.rx") net.rx_buffers net_buffer) (each_client (net_client_pools plan) 0 net.client)
-    (sound_pool plan net.rx_region (codes "net.rx") net.rx_buffers net_buffer rx.0 (net_counts plan net valid is).1 rx.1
+    All-cons (IsSoundPool plan) (pool_in plan net.rx_region (codes "net.rx") net.rx_buffers net.rx_buffer_size) (each_client (net_client_pools plan) 0 net.client)
+    (sound_pool plan net.rx_region (codes "net.rx") net.rx_buffers net.rx_buffer_size rx.0 (net_counts plan net valid is).1 rx.1
     (λ small. (net_fine plan net valid is) (inr (0, small))))
     (all-clients (IsSoundPool plan) (net_client_pools plan) 0 net.client
     (λ k (client : NetClient) there. subst (λ n. All (IsSoundPool plan) (net_client_pools plan n client)) (let e : k ≡ 0 + k = omega arith in e) (net_client_sound plan net valid is k client there)))

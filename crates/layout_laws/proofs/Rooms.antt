@@ -8,7 +8,6 @@ use Rattle.sdf_plan.specs.declared.plan.Net.{Net}
 use Rattle.sdf_plan.specs.declared.plan.NetClient.{NetClient}
 use Rattle.sdf_check.specs.Valid.{Valid}
 use Rattle.sdf_check.proofs.ListLemmas.{get-left, get-right}
-use Rattle.class_table.specs.Rows.{net_buffer}
 use Rattle.region_layout.specs.Rows.{queue_in, queue_pair, each_client, eth_rx_queues, eth_tx_queues, net_rx_queues, net_tx_queues, lease_queues, client_rx_queues, client_tx_queues, net_client_queues, net_queues, serial_queues, blk_queues, queues_of, pool_in, net_client_pools, net_pools, blk_pools, pools_of}
 use Rattle.region_layout.proofs.SameLemmas.{queues_same, pools_same}
 use Rattle.region_layout.proofs.KeptLemmas.{net_keeps, net_client_keeps}
@@ -77,13 +76,13 @@ module _ (plan : Plan) (valid : Valid plan) (net : Net) (is : plan.net ≡ Some 
   client_pool_at c i n x row e there at =
       let z : c ≡ 0 + c = omega arith in
       let flat = each-at (net_client_pools plan) 2 (λ k. 2 * k) 0 net.client c i x row (pool_count plan) (omega arith) (λ k. omega arith) there (ap (λ k. slice_get (net_client_pools plan k x) i) (sym z) ∙ at) in
-      let all = get-right (pool_in plan net.rx_region (codes "net.rx") net.rx_buffers net_buffer ∷ []) (each_client (net_client_pools plan) 0 net.client) (2 * c + i) row flat in
+      let all = get-right (pool_in plan net.rx_region (codes "net.rx") net.rx_buffers net.rx_buffer_size ∷ []) (each_client (net_client_pools plan) 0 net.client) (2 * c + i) row flat in
       let place : 1 + (2 * c + i) ≡ n = sym e in
-      pool_at n row (subst (λ k. slice_get (pool_in plan net.rx_region (codes "net.rx") net.rx_buffers net_buffer ∷ each_client (net_client_pools plan) 0 net.client) k ≡ Some row) place all)
+      pool_at n row (subst (λ k. slice_get (pool_in plan net.rx_region (codes "net.rx") net.rx_buffers net.rx_buffer_size ∷ each_client (net_client_pools plan) 0 net.client) k ≡ Some row) place all)
 
   first_pool : (row : PoolRow) × (slice_get (pools_of plan) 0 ≡ Some row) × (row.buffers ≡ net.rx_buffers)
   unfolding net_pools pool_in
-  first_pool = (pool_in plan net.rx_region (codes "net.rx") net.rx_buffers net_buffer, pool_at 0 _ refl, refl)
+  first_pool = (pool_in plan net.rx_region (codes "net.rx") net.rx_buffers net.rx_buffer_size, pool_at 0 _ refl, refl)
 
   free_row : (row : QueueRow) × (slice_get (queues_of plan) 5 ≡ Some row) × (row.capacity ≡ net.rx_capacity)
   unfolding eth_rx_queues eth_tx_queues net_rx_queues net_tx_queues queue_pair queue_in

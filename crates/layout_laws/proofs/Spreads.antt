@@ -21,7 +21,7 @@ use Rattle.sdf_check.specs.Valid.{Valid}
 use Rattle.sdf_check.proofs.ListLemmas.{get-either}
 use Rattle.sdf_check.proofs.SweepLemmas.{some-inj, none-is-some}
 use Rattle.wire_core.specs.declared.names.ActorId.{ActorId}
-use Rattle.class_table.specs.Rows.{net_buffer, blk_buffer}
+use Rattle.class_table.specs.Rows.{blk_buffer}
 use Rattle.region_layout.specs.Rows.{actor_named, eth_number, uart_number, disk_number, queue_span, queue_in, queue_pair, eth_rx_queues, eth_tx_queues, net_rx_queues, net_tx_queues, lease_queues, client_rx_queues, client_tx_queues, net_client_queues, net_queues, uart_queues, shared_serial_queues, serial_client_queues, serial_queues, disk_queues, shared_blk_queues, blk_client_queues, blk_queues, queues_of, pool_in, net_client_pools, net_pools, blk_client_pools, blk_pools, pools_of, each_client, client_name}
 use Rattle.region_layout.proofs.SameLemmas.{queues_same, pools_same}
 use Rattle.layout_laws.specs.Sound.{queue_range, pool_range, ranges_of}
@@ -271,11 +271,11 @@ net-client-pools plan net valid is c client there =
     let fifth : start + 4 < serial_at plan = omega (arith, begins, inside) in
     let rx_at = not-missed plan client.rx_region (λ none. names (inr (0, none))) in
     let tx_at = not-missed plan client.tx_region (λ none. names (inr (1, none))) in
-    let one = pool_in plan client.rx_region (client_name (codes "net.") c (codes ".rx")) client.rx_buffers net_buffer in
-    let other = pool_in plan client.tx_region (client_name (codes "net.") c (codes ".tx")) client.tx_buffers net_buffer in
-    let rx = pool plan (start + 3) client.rx_region (client_name (codes "net.") c (codes ".rx")) client.rx_buffers net_buffer rx_at.0 (inl (fourth, inr (c, inl refl)))
+    let one = pool_in plan client.rx_region (client_name (codes "net.") c (codes ".rx")) client.rx_buffers client.rx_buffer_size in
+    let other = pool_in plan client.tx_region (client_name (codes "net.") c (codes ".tx")) client.tx_buffers client.tx_buffer_size in
+    let rx = pool plan (start + 3) client.rx_region (client_name (codes "net.") c (codes ".rx")) client.rx_buffers client.rx_buffer_size rx_at.0 (inl (fourth, inr (c, inl refl)))
     (net-client-key plan net c 3 client client.rx_region is there refl) rx_at.1 (λ small. fine (inr (0, small))) in
-    let tx = pool plan (start + 4) client.tx_region (client_name (codes "net.") c (codes ".tx")) client.tx_buffers net_buffer tx_at.0 (inl (fifth, inr (c, inr refl)))
+    let tx = pool plan (start + 4) client.tx_region (client_name (codes "net.") c (codes ".tx")) client.tx_buffers client.tx_buffer_size tx_at.0 (inl (fifth, inr (c, inr refl)))
     (net-client-key plan net c 4 client client.tx_region is there refl) tx_at.1 (λ small. fine (inr (1, small))) in
     let joined : PoolSpread plan (start + 3) (start + 4 + 1) (one ∷ other ∷ []) =
     pools-both plan (start + 3) (start + 4) (start + 4 + 1) (one ∷ []) (other ∷ []) valid (omega arith) (omega arith)
@@ -294,8 +294,8 @@ net-pools plan valid net is =
     let begins = serial-begins plan net is in
     let two : 2 < serial_at plan = omega (arith, begins) in
     let there = not-missed plan net.rx_region (λ none. (net_named plan net valid is) (inr (0, none))) in
-    let one = pool_in plan net.rx_region (codes "net.rx") net.rx_buffers net_buffer in
-    let s = pool plan 2 net.rx_region (codes "net.rx") net.rx_buffers net_buffer there.0 (inl (two, inl refl)) (net-key plan net 2 net.rx_region is refl) there.1
+    let one = pool_in plan net.rx_region (codes "net.rx") net.rx_buffers net.rx_buffer_size in
+    let s = pool plan 2 net.rx_region (codes "net.rx") net.rx_buffers net.rx_buffer_size there.0 (inl (two, inl refl)) (net-key plan net 2 net.rx_region is refl) there.1
     (λ small. (net_fine plan net valid is) (inr (0, small))) in
     let clients = spread-clients plan pool_range (IsPool plan) (net_client_pools plan) (λ k. 3 + 5 * k) 0 net.client valid (λ k. omega arith)
     (λ k (client : NetClient) there. subst (λ n. PoolSpread plan (3 + 5 * k) (3 + 5 * suc k) (net_client_pools plan n client)) (sym (zero-add k)) (net-client-pools plan net valid is k client there)) in

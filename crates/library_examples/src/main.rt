@@ -1,30 +1,17 @@
-//! Short examples of the libraries that are taken by themselves, but for those that play: each
-//! module makes the main calls of one library, or of two, and gives what they come to as a text,
-//! which is printed here.
+//! Short examples of the libraries of queues, which are taken by themselves: each module makes the
+//! main calls of one library, and gives what they come to as a text, which is printed here.
 #![tactic(auto)]
 
-ghost use Rattle.sdf_check.specs.Valid.{Valid};
-
-mod description;
 mod discipline;
-mod layout;
-mod report;
 mod ring;
 mod seats;
-mod trace;
 mod world;
 
 use cargo_core::Memory;
-use description::{MISSPELT, judged, show_description};
 use discipline::show_discipline;
-use layout::show_layout;
-use report::show_report;
 use ring::show_ring;
-use sdf_model::TEXT_MOST;
-use sdf_plan::Plan;
 use seats::show_seats;
-use std::{fs, io};
-use trace::show_trace;
+use std::io;
 use world::show_world;
 
 // Prints an example under the name of its library.
@@ -36,46 +23,10 @@ fn print(rt: &HostRuntime, name: &str, text: Result<String, Memory>) -> io::Resu
     }
 }
 
-// Prints the examples over a plan.
-fn print_plan(rt: &HostRuntime, plan: &Plan) -> io::Result<()>
-    requires { Valid plan.now }
-{
-    let alloc = rt.alloc();
-    print(rt, "region_layout", show_layout(alloc, plan))?;
-    print(
-        rt,
-        "trace_text",
-        show_trace(alloc, plan, "say 0 616263\nin 6465\n"),
-    )?;
-    print(
-        rt,
-        "trace_text",
-        show_trace(alloc, plan, "say 0 616263\nsay 1 61\n"),
-    )
-}
-
 fn main(rt: HostRuntime) -> io::Result<()> {
     let alloc = rt.alloc();
     print(&rt, "spsc_queue", show_ring(alloc))?;
     print(&rt, "seat_wires", show_seats(alloc))?;
     print(&rt, "plain_wires", show_world(alloc))?;
-    print(&rt, "turn_kit", show_discipline(alloc))?;
-    let text = fs::read_to_string(&rt, "serial.toml")?;
-    let text = text.as_str();
-    print(
-        &rt,
-        "sdf_model and sdf_check",
-        show_description(alloc, text),
-    )?;
-    print(
-        &rt,
-        "sdf_model and sdf_check",
-        show_description(alloc, MISSPELT),
-    )?;
-    if text.len() <= TEXT_MOST
-        && let Ok(plan) = judged(alloc, text)
-    {
-        print_plan(&rt, &plan)?;
-    }
-    print(&rt, "report_text", show_report(alloc))
+    print(&rt, "turn_kit", show_discipline(alloc))
 }

@@ -13,22 +13,22 @@ ghost use Rattle.net_virt_tx.specs.Traffics.{senders};
 ghost use Rattle.net_virt_tx.specs.declared.NetVirtTx.{NetVirtTx};
 ghost use Rattle.net_law.specs.TxParts.Playing.{sender_pool};
 ghost use Rattle.net_law.specs.Wire.Telling.{told_frames};
-ghost use Rattle.net_law.specs.Wire.Sending.{IsSending, AllSendGood, frames_from};
+ghost use Rattle.net_law.specs.Wire.Sending.{IsSending, AllBegin, frames_from};
 
 /// The wire is a merge of beginnings: of the frames of the good descriptors that came from each
-/// client, whatever the clients put; and of the frames that each client sends, where all that it
-/// put is good and begins them. Then it is what the items tell that the device took: each names a
-/// buffer of a client, and has the frame of its place among those of that client.
+/// client, whatever the clients put; and of the frames that each client sends, where those begin
+/// them. Then it is what the items tell that the device took: each names a buffer of a client, and
+/// has the frame of its place among those of that client.
 pub fn wire_law()
     ensures good { (d : EthDevice) (p : Pipes (Pipes (Pipes Pipe))) (v : NetVirtTx)
         (passed : Passed) → IsSending d p v passed
         → PrefixMerge (frames_from v passed) d.wire.tape.shown }
     ensures sends { (d : EthDevice) (p : Pipes (Pipes (Pipes Pipe))) (v : NetVirtTx)
         (passed : Passed) (sends : List (List (List ℕ))) → IsSending d p v passed
-        → AllSendGood v passed sends → PrefixMerge sends d.wire.tape.shown }
+        → AllBegin v passed sends → PrefixMerge sends d.wire.tape.shown }
     ensures told { (d : EthDevice) (p : Pipes (Pipes (Pipes Pipe))) (v : NetVirtTx)
         (passed : Passed) (sends : List (List (List ℕ))) → IsSending d p v passed
-        → AllSendGood v passed sends → d.wire.tape.shown
+        → AllBegin v passed sends → d.wire.tape.shown
         ≡ told_frames (map sender_pool (senders v.work)) sends
         (items_of (passed.taken (tx_active d))) }
 {}

@@ -1,6 +1,6 @@
 -- What the actors recorded where nobody is runnable: a beginning that is as long as the whole is the
 -- whole.
-use Rattle.std.proofs.Common.{◌≡◌, ◌+◌, ℕ, Some, List, length, map, slice_get, ap, arith}
+use Rattle.std.proofs.Common.{◌≡◌, ◌+◌, ℕ, Some, List, length, map, slice_get, ap, subst, arith}
 use Rattle.std.proofs.lemmas.List.{length-map}
 use Rattle.cargo_core.specs.Lists.{IsPrefix, Merge, PrefixMerge}
 use Rattle.frame_core.specs.declared.mac.Mac.{Mac}
@@ -10,6 +10,7 @@ use Rattle.wire_core.specs.Deeds.{Cargo}
 use Rattle.wire_core.specs.Journal.{History, Hostiles}
 use Rattle.wire_core.specs.Lists.{Passed}
 use Rattle.play_core.specs.Moved.{moved, taken}
+use Rattle.play_core.specs.Names.{Wild}
 use Rattle.play_core.specs.Sheets.{Scene}
 use Rattle.play_core.specs.Still.{IsStill}
 use Rattle.play_core.specs.Wants.{Needful}
@@ -24,9 +25,9 @@ use Rattle.net_law.specs.Parts.Numbers.{client_first}
 use Rattle.net_law.specs.TxParts.Numbers.{NetPlace}
 use Rattle.net_quiet.specs.Cast.Casting.{IsClientAt}
 use Rattle.net_quiet.proofs.CastLemmas.Casting.{cast_records}
-use Rattle.net_quiet.specs.TxCast.Casting.{AllSend, IsClientOf, IsSendingClient, IsWholeCast, sends_at}
+use Rattle.net_quiet.specs.TxCast.Casting.{AreClients, CalmSend, IsClientOf, IsSendingClient, IsWholeCast, NoneHostile, sends_at}
 use Rattle.net_quiet.proofs.TxCast.Numbers.{client_queues, client_rx, device_sends}
-use Rattle.net_quiet.proofs.TxCast.Wholes.{client_long, wire_is}
+use Rattle.net_quiet.proofs.TxCast.Wholes.{client_long, sends_calm, wire_is}
 use Rattle.net_quiet.specs.Still.{IsNetwork}
 use Rattle.net_quiet.proofs.Receiving.{arrives_all, sends_all}
 
@@ -60,7 +61,8 @@ module _ (hostile : Hostiles) (h : History) (rows : List QueueRow) (actors : Nee
         let at : IsClientAt net.first k scene.frames c passed = record { active = own.0; free = own.1; long = λ j f f_at. client_long net scene.frames passed whole k q of.pools (client_rx net.first k program mac q c is.part) j f f_at; some = is.some; row = is.row } in
         record_whole k mac of.address c.frames.tape.shown (c.frames.pipe.input.queue.0) own.0 is.row.got (cast_records net.first scene.frames net.pool net.macs passed whole.half k mac of.address c at)
 
-    pub cast_wire : AllSend net passed → Merge (sends_at net.programs net.macs scene.frames) whole.half.device.wire.tape.shown
-    cast_wire send =
+    pub cast_wire : (wild : Wild) → NoneHostile wild net → AreClients wild net passed → CalmSend wild net passed → Merge (sends_at net.programs net.macs scene.frames) whole.half.device.wire.tape.shown
+    cast_wire wild none clients send =
         let own = device_sends net.first scene.frames whole.half.device whole.device_at in
-        wire_whole whole.half.device.wire.tape.shown _ own.0 whole.half.device_at.row.wire (wire_is net scene.frames passed whole whole.sender_at.row send)
+        let begun = wire_is net scene.frames passed whole whole.sender_at.row wild clients send in
+        wire_whole whole.half.device.wire.tape.shown _ own.0 whole.half.device_at.row.wire (subst (λ l. PrefixMerge l whole.half.device.wire.tape.shown) (sends_calm wild net scene.frames passed whole none) begun)

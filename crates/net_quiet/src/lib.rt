@@ -13,6 +13,7 @@ ghost use Rattle.wire_core.specs.declared.names.Entry.{Entry};
 ghost use Rattle.wire_core.specs.Journal.{History, Hostiles};
 ghost use Rattle.wire_core.specs.Lists.{Passed};
 ghost use Rattle.play_core.specs.Moved.{moved};
+ghost use Rattle.play_core.specs.Names.{Wild};
 ghost use Rattle.play_core.specs.Sheets.{Scene};
 ghost use Rattle.play_core.specs.Still.{IsStill};
 ghost use Rattle.play_core.specs.Wants.{Needful};
@@ -21,8 +22,9 @@ ghost use Rattle.net_expect.specs.Expecting.{Program, frames_for};
 ghost use Rattle.client_programs.specs.declared.net.NetClient.{NetClient};
 ghost use Rattle.net_law.specs.Owners.Names.{ClientPools};
 ghost use Rattle.net_law.specs.TxParts.Numbers.{NetPlace};
-ghost use Rattle.net_quiet.specs.TxCast.Casting.{AllSend, IsClientOf, IsSendingClient};
-ghost use Rattle.net_quiet.specs.TxCast.Casting.{IsWholeCast, sends_at};
+ghost use Rattle.net_quiet.specs.TxCast.Casting.{AreClients, CalmSend, IsClientOf};
+ghost use Rattle.net_quiet.specs.TxCast.Casting.{IsSendingClient, IsWholeCast, NoneHostile};
+ghost use Rattle.net_quiet.specs.TxCast.Casting.{sends_at};
 ghost use Rattle.net_quiet.specs.Still.{IsNetwork, ArrivesAll, SendsAll};
 
 pub mod cast;
@@ -48,7 +50,7 @@ pub fn still_law()
 
 /// So the actors, of whose entries these are the items, recorded all: each client the device's
 /// frames that are for its address, and the device a merge of all that the clients send by their
-/// programs, where each client put good descriptors alone.
+/// programs, where no client is hostile and each put good descriptors alone.
 pub fn whole_law()
     ensures records { (hostile : Hostiles) (history : History) (rows : List QueueRow)
         (actors : Needful) (journal : List Entry) (scene : Scene) (net : NetPlace)
@@ -59,12 +61,13 @@ pub fn whole_law()
         → IsClientOf net k program mac q → (c : NetClient)
         → IsSendingClient net k program mac q c passed
         → c.frames.tape.shown ≡ frames_for mac scene.frames }
-    ensures wire { (hostile : Hostiles) (history : History) (rows : List QueueRow)
+    ensures wire { (wild : Wild) (hostile : Hostiles) (history : History) (rows : List QueueRow)
         (actors : Needful) (journal : List Entry) (scene : Scene) (net : NetPlace)
         (passed : Passed) → IsStill hostile history rows actors journal
         → IsNetwork hostile scene rows actors net (moved history journal)
         → HaveItems passed (moved history journal)
-        → (whole : IsWholeCast net scene.frames passed) → AllSend net passed
+        → (whole : IsWholeCast net scene.frames passed) → NoneHostile wild net
+        → AreClients wild net passed → CalmSend wild net passed
         → Merge (sends_at net.programs net.macs scene.frames)
         whole.half.device.wire.tape.shown }
 {}

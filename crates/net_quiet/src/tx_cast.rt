@@ -1,13 +1,15 @@
 //! The whole network in a system: from the rows of its actors at the layout's queues nothing comes
-//! out of turn at the sending virtualiser, and the wire is a merge of beginnings of what the
-//! clients send by their programs. A client puts good descriptors alone, as long as such came back
-//! to it alone; that none other came back is told by what was put before.
+//! out of turn at the sending virtualiser but from a hostile client, and the wire is a merge of
+//! beginnings of what the clients send: each by its program, a hostile one the frames of its good
+//! descriptors. A client puts good descriptors alone, as long as such came back to it alone; that
+//! none other came back is told by what it put before, whatever the others put.
 
-ghost use Rattle.std.specs.Prelude.{◌≡◌, ◌+◌, ℕ, List, [], map};
+ghost use Rattle.std.specs.Prelude.{◌≡◌, ◌+◌, ℕ, List, map};
 ghost use Rattle.cargo_core.specs.Lists.{IsPrefix, PrefixMerge};
 ghost use Rattle.frame_core.specs.declared.mac.Mac.{Mac};
 ghost use Rattle.wire_core.specs.Lists.{Passed};
 ghost use Rattle.wire_core.specs.Queues.{items_of};
+ghost use Rattle.play_core.specs.Names.{Wild};
 ghost use Rattle.net_expect.specs.Expecting.{Program, sends_of};
 ghost use Rattle.buffer_kit.specs.Entries.{frame_of};
 ghost use Rattle.client_programs.specs.declared.net.NetClient.{NetClient};
@@ -15,42 +17,56 @@ ghost use Rattle.net_virt_tx.specs.Sending.{TxRow};
 ghost use Rattle.net_law.specs.Owners.Names.{ClientPools};
 ghost use Rattle.net_law.specs.Parts.Numbers.{client_first};
 ghost use Rattle.net_law.specs.TxParts.Numbers.{NetPlace};
-ghost use Rattle.net_law.specs.TxParts.Playing.{TakesGood};
+ghost use Rattle.net_law.specs.TxScene.Playing.{CalmGood};
 ghost use Rattle.net_quiet.specs.TxCast.Casting.{IsWholeCast, IsClientOf, IsSendingClient};
-ghost use Rattle.net_quiet.specs.TxCast.Casting.{AreSends, AllSend, sends_at, wire_at};
+ghost use Rattle.net_quiet.specs.TxCast.Casting.{AreClients, AreSends, CalmSend, NoneHostile};
+ghost use Rattle.net_quiet.specs.TxCast.Casting.{sends_at, sends_beside, wire_at, wire_beside};
+ghost use Rattle.net_quiet.specs.TxTurns.Turning.{StraysWild};
 
-/// Where each client put good descriptors of its own buffers alone, nothing comes out of turn at
-/// the sending virtualiser, which takes good descriptors alone and gives such back alone; and the
-/// wire is a merge of beginnings of what the clients send: the frames that the items tell which the
-/// device took. A client to which its buffers alone came back puts good descriptors of them alone;
-/// and the frames that it puts are a beginning of those that it sends.
+/// Where each client that isn't hostile put good descriptors of its own buffers alone, nothing
+/// comes out of turn at the sending virtualiser but from a hostile client; of the others it takes
+/// good descriptors alone; and the wire is a merge of beginnings of what the clients send: the
+/// frames that the items tell which the device took. Whatever the others put, to a client that put
+/// good descriptors of its own buffers such come back alone; to which such came back, it puts them
+/// alone; and the frames that it puts are a beginning of those that it sends. Where no client is
+/// hostile, each sends by its program.
 pub fn whole_law()
-    ensures turn { (net : NetPlace) (frames : List (List ℕ)) (passed : Passed)
-        → (h : IsWholeCast net frames passed) → AllSend net passed
-        → (row : TxRow h.sender passed) → row.stray ≡ [] }
-    ensures good { (net : NetPlace) (frames : List (List ℕ)) (passed : Passed)
-        → (h : IsWholeCast net frames passed) → AllSend net passed
-        → TakesGood h.sender passed }
+    ensures turn { (wild : Wild) (net : NetPlace) (frames : List (List ℕ)) (passed : Passed)
+        → (h : IsWholeCast net frames passed) → AreClients wild net passed
+        → CalmSend wild net passed → (row : TxRow h.sender passed)
+        → StraysWild wild h.sender row.place row.stray }
+    ensures good { (wild : Wild) (net : NetPlace) (frames : List (List ℕ)) (passed : Passed)
+        → (h : IsWholeCast net frames passed) → AreClients wild net passed
+        → CalmSend wild net passed → CalmGood wild h.sender passed }
     ensures back { (net : NetPlace) (frames : List (List ℕ)) (passed : Passed)
-        → IsWholeCast net frames passed → AllSend net passed
-        → (k : ℕ) (program : Program) (mac : Mac) (q : ClientPools)
+        → IsWholeCast net frames passed → (k : ℕ) (program : Program) (mac : Mac) (q : ClientPools)
         → IsClientOf net k program mac q
+        → AreSends net.most q.tx (passed.sent (client_first net.first k + 4))
         → AreSends net.most q.tx (passed.taken (client_first net.first k + 5)) }
     ensures puts { (net : NetPlace) (frames : List (List ℕ)) (passed : Passed)
         → IsWholeCast net frames passed → (k : ℕ) (program : Program) (mac : Mac) (q : ClientPools)
         → IsClientOf net k program mac q
+        → (c : NetClient) → IsSendingClient net k program mac q c passed
         → AreSends net.most q.tx (passed.taken (client_first net.first k + 5))
         → AreSends net.most q.tx (passed.sent (client_first net.first k + 4)) }
     ensures begins { (net : NetPlace) (frames : List (List ℕ)) (passed : Passed)
-        → IsWholeCast net frames passed → AllSend net passed
-        → (k : ℕ) (program : Program) (mac : Mac) (q : ClientPools)
+        → IsWholeCast net frames passed → (k : ℕ) (program : Program) (mac : Mac) (q : ClientPools)
         → IsClientOf net k program mac q
+        → (c : NetClient) → IsSendingClient net k program mac q c passed
+        → AreSends net.most q.tx (passed.sent (client_first net.first k + 4))
         → IsPrefix (map frame_of (passed.sent (client_first net.first k + 4)))
         (sends_of program mac frames) }
-    ensures wire { (net : NetPlace) (frames : List (List ℕ)) (passed : Passed)
-        → (h : IsWholeCast net frames passed) → AllSend net passed
-        → PrefixMerge (sends_at net.programs net.macs frames) h.half.device.wire.tape.shown }
-    ensures told { (net : NetPlace) (frames : List (List ℕ)) (passed : Passed)
-        → (h : IsWholeCast net frames passed) → AllSend net passed → h.half.device.wire.tape.shown
-        ≡ wire_at net frames (items_of (passed.taken (net.first + 2))) }
+    ensures wire { (wild : Wild) (net : NetPlace) (frames : List (List ℕ)) (passed : Passed)
+        → (h : IsWholeCast net frames passed) → AreClients wild net passed
+        → CalmSend wild net passed
+        → PrefixMerge (sends_beside wild net frames passed) h.half.device.wire.tape.shown }
+    ensures told { (wild : Wild) (net : NetPlace) (frames : List (List ℕ)) (passed : Passed)
+        → (h : IsWholeCast net frames passed) → AreClients wild net passed
+        → CalmSend wild net passed
+        → h.half.device.wire.tape.shown ≡ wire_beside wild net frames passed }
+    ensures calm { (wild : Wild) (net : NetPlace) (frames : List (List ℕ)) (passed : Passed)
+        → IsWholeCast net frames passed → NoneHostile wild net
+        → (sends_beside wild net frames passed ≡ sends_at net.programs net.macs frames)
+        × (wire_beside wild net frames passed
+        ≡ wire_at net frames (items_of (passed.taken (net.first + 2)))) }
 {}

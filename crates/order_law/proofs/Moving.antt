@@ -2,6 +2,7 @@
 use Rattle.std.proofs.Common.{◌≡◌, ◌≢◌, ◌⊎◌, inl, inr, ⊎_elim, ◌∙◌, ℕ, ◌+◌, ◌<◌, ◌≤◌, Bool, true, false, List, [], ◌∷◌, ◌++◌, length, length-append, refl, sym, ap, subst, arith, append-nil, Option, Some, None, eqb, eq-eqb, ne_eqb}
 use mathlib.Core.Logic.{dite}
 use native.Mathlib.Decide.{ℕ_discrete}
+use Rattle.cargo_core.specs.declared.act.Word.{Word}
 use Rattle.wire_core.specs.declared.names.Op.{Op}
 use Rattle.wire_core.specs.declared.names.Op.TheVariants as Do
 use Rattle.wire_core.specs.declared.names.Side.TheVariants.{Forward, Backward}
@@ -13,7 +14,7 @@ use Rattle.spsc_queue.specs.declared.view.Half.{Half}
 use Rattle.spsc_queue.specs.Known.Ends.{EndIs}
 use Rattle.spsc_queue.specs.Steps.{EndDid}
 use Rattle.seat_wires.specs.Places.Are.{SeatsAre}
-use Rattle.seat_wires.specs.Places.{ends_of, stands_at, SeatDid}
+use Rattle.seat_wires.specs.Places.{ends_of, stands_at, IsMaker, SeatDid}
 use Rattle.seat_wires.specs.Times.{times_at, AddsTime, TimesGo}
 use Rattle.seat_wires.specs.Went.{ring_known}
 use Rattle.seat_wires.proofs.Timing.{times_go}
@@ -80,6 +81,32 @@ moved_else d r n away = moved_is d r n ∙ ⊎_elim
 moved_here : (d : Deed) (r : Role) → moved_by d r d.event.queue.0 ≡ moved r d.event.op (cargo_of d)
 moved_here d r = moved_is d r d.event.queue.0 ∙ ap (λ (b : Bool). if_there b (moved r d.event.op (cargo_of d))) (eq-eqb d.event.queue.0 d.event.queue.0 refl)
 
+-- a store moves nothing
+moved_none : (r : Role) (w : Word) (v : ℕ) (c : List Cargo) → moved r (Do.Store w v) c ≡ []
+moved_none Consumer w v c = refl
+moved_none Producer w v c = refl
+
+-- a call is at the end of its role, or it is a store
+is_made : (o : Op) (maker : Role) → IsMaker o maker → (maker ≡ role_of o) ⊎ ((r : Role) (c : List Cargo) → moved r o c ≡ [])
+is_made Do.See maker h = inl h
+is_made Do.Room maker h = inl h
+is_made Do.Take maker h = inl h
+is_made Do.Put maker h = inl h
+is_made (Do.Ask s) maker h = inl h
+is_made (Do.Waive s) maker h = inl h
+is_made (Do.Wake s) maker h = inl h
+is_made (Do.Wanted s) maker h = inl h
+is_made (Do.Settle s) maker h = inl h
+is_made (Do.Ring s) maker h = inl h
+is_made (Do.Store w v) maker h = inr (λ r c. moved_none r w v c)
+
+-- a call moves nothing at another end than its maker's
+pub moved_apart : (d : Deed) (maker : Role) → IsMaker d.event.op maker → (r : Role) (n : ℕ) → (r ≡ maker → n ≡ d.event.queue.0 → ⊥) → moved_by d r n ≡ []
+moved_apart d maker makes r n away = ⊎_elim
+    (λ is. moved_else d r n (λ same at. away (same ∙ sym is) at))
+    (λ none. moved_is d r n ∙ (ap (if_there (eqb d.event.queue.0 n)) (none r (cargo_of d)) ∙ if_nothing (eqb d.event.queue.0 n)))
+    (is_made d.event.op maker makes)
+
 -- a call adds to the list of its end as many entries as times
 one_each : (n : ℕ) (h : Half) (o : Op) (a : Answer) (c : List Cargo) (h' : Half) (s t : SeatsAre) (q : ℕ) → EndDid n h o a c h' → AddsTime o s q t
     → length (times_at t (role_of o) q) ≡ length (times_at s (role_of o) q) + length (moved (role_of o) o c)
@@ -99,7 +126,7 @@ one_each n h (Do.Settle Forward) a c h' s t q d adds = omega (arith, ap length a
 one_each n h (Do.Settle Backward) a c h' s t q d adds = omega (arith, ap length adds)
 one_each n h (Do.Ring Forward) a c h' s t q d adds = omega (arith, ap length adds)
 one_each n h (Do.Ring Backward) a c h' s t q d adds = omega (arith, ap length adds)
-one_each n h (Do.Store w v) a c h' s t q d adds = absurd d
+one_each n h (Do.Store w v) a c h' s t q d adds = omega (arith, ap length adds, ap length (moved_none (role_of (Do.Store w v)) w v c))
 
 one_entry : (n : ℕ) (h : Half) (o : Op) (a : Answer) (c : List Cargo) (h' : Half) → EndDid n h o a c h' → length (moved (role_of o) o c) ≤ 1
 one_entry n h Do.See a c h' d = omega arith
@@ -118,7 +145,7 @@ one_entry n h (Do.Settle Forward) a c h' d = omega arith
 one_entry n h (Do.Settle Backward) a c h' d = omega arith
 one_entry n h (Do.Ring Forward) a c h' d = omega arith
 one_entry n h (Do.Ring Backward) a c h' d = omega arith
-one_entry n h (Do.Store w v) a c h' d = absurd d
+one_entry n h (Do.Store w v) a c h' d = omega (arith, ap length (moved_none (role_of (Do.Store w v)) w v c))
 
 -- what is added stands behind what was there
 here_begins : (o : Op) (s t : SeatsAre) (q : ℕ) → AddsTime o s q t → (more : List ℕ) × (times_at t (role_of o) q ≡ times_at s (role_of o) q ++ more)

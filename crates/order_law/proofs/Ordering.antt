@@ -20,7 +20,7 @@ use Rattle.actor_set.specs.declared.actor.Actor.{Actor}
 use Rattle.order_law.specs.Tales.{Call, Made, Goes}
 use Rattle.order_law.specs.Orders.{Seated, Turn, IsTurn, InOrder, HaveRun, actors_of, entries_at, listed, passed_by}
 use Rattle.order_law.proofs.Lists.{same_some, same_heads, get_there, get_within, get_front, get_last, set_there, set_beside, length_set, same_lists, two_prefixes, prefix_same, prefix_then, map_set, map_there}
-use Rattle.order_law.proofs.Moving.{moved_by, moved_else, moved_there, moved_few, moved_take, entries_go, end_there, sized_go}
+use Rattle.order_law.proofs.Moving.{moved_by, moved_else, moved_apart, moved_there, moved_few, moved_take, entries_go, end_there, sized_go}
 use Rattle.order_law.proofs.Ranking.{rank, rank_take, times_grow, entries_grow, comes_before}
 
 -- how many calls are to come
@@ -176,8 +176,8 @@ module _ (rows : List QueueRow) (news : List Seated) (peers : (n : ℕ) (row : Q
       else_now j z ne is = sym (set_beside sits k j new ne) ∙ is
 
       -- the call is at an end of its own
-      own_row : (row : QueueRow) × (slice_get rows l.call.deed.event.queue.0 ≡ Some row) × (owner_of row (role_of l.call.deed.event.op) ≡ k)
-      own_row = u.own k x at_k.1 (role_of l.call.deed.event.op) l.call.deed.event.queue.0 made.did.before (ap joined_get made.did.there)
+      own_row : (row : QueueRow) × (slice_get rows l.call.deed.event.queue.0 ≡ Some row) × (owner_of row made.did.maker ≡ k)
+      own_row = u.own k x at_k.1 made.did.maker l.call.deed.event.queue.0 made.did.before (ap joined_get made.did.there)
 
       goes' : (j : ℕ) (z : Seated) (cs : List Call) → slice_get sits' j ≡ Some z → slice_get rest' j ≡ Some cs → (y : Seated) × (slice_get news j ≡ Some y) × Goes z.actor z.seats cs y.actor y.seats
       goes' j z cs is todo_is = dite (ℕ_discrete j k)
@@ -246,8 +246,8 @@ module _ (rows : List QueueRow) (news : List Seated) (peers : (n : ℕ) (row : Q
           (λ here. let z_is : z.0 ≡ x = same_some z.0 x (sym z.1 ∙ (ap (λ (m : ℕ). slice_get sits m) here ∙ at_k.1)) in
           listed_row rows sits' r n row new is (ap (λ (m : ℕ). slice_get sits' m) here ∙ set_there sits k x new at_k.1) ∙ (entries_go x.seats l.call.deed l.call.seats made.did r n
           ∙ ap (λ (w : List Cargo). w ++ moved_by l.call.deed r n) (ap (λ (w : Seated). entries_at w.seats r n) (sym z_is) ∙ sym (listed_row rows sits r n row z.0 is z.1))))
-          (λ ne. let away : r ≡ role_of l.call.deed.event.op → n ≡ l.call.deed.event.queue.0 → ⊥ = (λ same at. ne (ap (λ (w : QueueRow). owner_of w r) (same_some row own_row.0 (sym is ∙ (ap (λ (m : ℕ). slice_get rows m) at ∙ own_row.1))) ∙ (ap (owner_of own_row.0) same ∙ own_row.2))) in
-          listed_row rows sits' r n row z.0 is (set_beside sits k (owner_of row r) new ne ∙ z.1) ∙ (sym (listed_row rows sits r n row z.0 is z.1) ∙ (sym (append-nil (listed rows sits r n)) ∙ ap (λ (w : List Cargo). listed rows sits r n ++ w) (sym (moved_else l.call.deed r n away)))))
+          (λ ne. let away : r ≡ made.did.maker → n ≡ l.call.deed.event.queue.0 → ⊥ = (λ same at. ne (ap (λ (w : QueueRow). owner_of w r) (same_some row own_row.0 (sym is ∙ (ap (λ (m : ℕ). slice_get rows m) at ∙ own_row.1))) ∙ (ap (owner_of own_row.0) same ∙ own_row.2))) in
+          listed_row rows sits' r n row z.0 is (set_beside sits k (owner_of row r) new ne ∙ z.1) ∙ (sym (listed_row rows sits r n row z.0 is z.1) ∙ (sym (append-nil (listed rows sits r n)) ∙ ap (λ (w : List Cargo). listed rows sits r n ++ w) (sym (moved_apart l.call.deed made.did.maker made.did.makes r n away)))))
 
       passed_next : (calls : List Event) → passed_by rows sits' (calls ++ l.call.deed.event ∷ []) ≡ with_deed (passed_by rows sits calls) l.call.deed
       passed_next calls = λ i. record {

@@ -2,3 +2,4 @@
 pub mod ActorsLemmas
 pub mod DiskLemmas
 pub mod LawLemmas
+pub mod TurnsLemmas

@@ -8,3 +8,4 @@ pub mod actors;
 pub mod count;
 pub mod disk;
 pub mod law;
+pub mod turns;

@@ -31,7 +31,7 @@ module _ (rings : List RingIs) (limit : ℕ) where
   lawful stop old ran new h k = record { steps = ran.made + k.more; within = k.within; came = came_then rings old ran.made ran.part k.more new h.0 k.came.came; fine = k.fine }
 
   spent : (old : Part) (n : ℕ) (new : Part) → Came rings old n new → limit ≤ n → SpentOf rings limit old new
-  spent old n new h below = let e = h.comes.went.steps in omega (arith, e, below)
+  spent old n new h below = let e = h.comes.went.least in omega (arith, e, below)
 
   -- the last pass was made
   pub all_passed : (olds : List Part) (rans : List Ran) (news : List Part) → Each (RanOf rings limit) olds rans → Each (SettledOf rings limit false) rans news → Every Rests news ⊎ AnyPair (SpentOf rings limit) olds news

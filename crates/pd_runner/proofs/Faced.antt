@@ -8,6 +8,7 @@ use Rattle.wire_core.specs.Lists.{Passed}
 use Rattle.spsc_queue.specs.Known.Ends.{EndIs, RingIs}
 use Rattle.seat_wires.specs.Places.Are.{SeatsAre}
 use Rattle.seat_wires.specs.Places.{EndsOn, ends_of, stands_at}
+use Rattle.seat_wires.specs.Went.{NoneWild}
 use Rattle.actor_set.specs.Actors.{FitsActor, ActorStandsFor, actor_rests}
 use Rattle.actor_set.specs.declared.actor.Actor.{Actor}
 use Rattle.order_law.specs.declared.actor_parts.worker.Worker.{Worker}
@@ -16,6 +17,7 @@ use Rattle.order_law.specs.ActorParts.Going.{AreSeatsOf}
 use Rattle.order_law.specs.ActorParts.Numbered.{numbered}
 use Rattle.order_law.specs.ActorParts.Placing.{placed}
 use Rattle.order_law.specs.ActorParts.Parting.{Apart, ends_at, end_in, apart_end, StandsApart, HasItsEnds, AreApart, IsRingOf}
+use Rattle.order_law.proofs.ActorParts.Sorting.{none_wild, numbered_plain}
 use Rattle.pd_runner.specs.declared.part.Part.{Part}
 use Rattle.pd_runner.specs.Each.{Each, Every, AnyPair}
 use Rattle.pd_runner.specs.Ends.{LawfulOf, SpentOf, Rests}
@@ -51,13 +53,17 @@ module _ (rings : List RingIs) (limit : ℕ) (k : Kept) (p q : Part) (l : Kept) 
   pub came_within : CameWithin rings limit (apart_of k) (apart_of l)
   came_within = (lawful.steps, lawful.within, came_by)
 
-  pub has_spent : SpentOf rings limit p q → HasSpent rings limit (apart_of k) (apart_of l)
-  has_spent spent = (lawful.steps, (let e = lawful.came.comes.went.steps in omega (arith, e, spent)), came_by)
+  none_before : IsApart rings k → NoneWild (part_seats rings p)
+  none_before was = none_wild rings (apart_of k) (part_seats rings p) seated.seats was.plain
 
-  pub still_apart : IsApart rings l
-  still_apart = record {
+  pub has_spent : IsApart rings k → SpentOf rings limit p q → HasSpent rings limit (apart_of k) (apart_of l)
+  has_spent was spent = (lawful.steps, (let e = lawful.came.comes.went.steps (none_before was) in omega (arith, e, spent)), came_by)
+
+  pub still_apart : IsApart rings k → IsApart rings l
+  still_apart was = record {
     once = numbered_once (apart_of l) (part_seats rings q) numbers;
     on = numbered_on (apart_of l) (part_seats rings q) numbers ends_on;
+    plain = numbered_plain (apart_of l) (part_seats rings q) numbers (λ r m. lawful.came.comes.went.sorts r m ∙ none_before was r m);
     fits = subst (λ (z : (Role → ℕ → End) × Actor). FitsActor z.0 z.1) (λ i. (ends_same rings (apart_of l) (part_seats rings q) after_is i, (sym is.worker i).actor)) lawful.came.stands.sits.fits;
     stands = (lawful.came.stands.sits.lists.0, subst (λ (z : Actor × Passed). ActorStandsFor z.0 z.1) (λ i. ((sym is.worker i).actor, passed_same rings (apart_of l) (part_seats rings q) after_is lawful.came.stands.sits.lists.0 i)) lawful.came.stands.sits.lists.1);
     fine = ap (λ (w : Worker). w.wanted) is.worker ∙ lawful.fine;
@@ -171,14 +177,14 @@ all_rest (a ∷ gone) (b ∷ news) ended rest (suc k) l at = all_rest gone news 
 abbrev OneSpent : List RingIs → ℕ → List Kept → List Kept → Type 0
 OneSpent rings limit olds news = (k : ℕ) × (old : Kept) × (new : Kept) × (slice_get olds k ≡ Some old) × (slice_get news k ≡ Some new) × HasSpent rings limit (apart_of old) (apart_of new)
 
-one_spent : (rings : List RingIs) (limit : ℕ) (olds : List Kept) (seated gone : List Part) (news : List Kept) → Each (IsSeated rings) olds seated → Each (LawfulOf rings limit) seated gone → Each IsNumbered gone news → AnyPair (SpentOf rings limit) seated gone → OneSpent rings limit olds news
-one_spent rings limit olds [] gone news began lawful ended any = absurd any
-one_spent rings limit olds (p ∷ seated) [] news began lawful ended any = absurd any
-one_spent rings limit [] (p ∷ seated) (q ∷ gone) news began lawful ended any = absurd began
-one_spent rings limit (k ∷ olds) (p ∷ seated) (q ∷ gone) [] began lawful ended any = absurd ended
-one_spent rings limit (k ∷ olds) (p ∷ seated) (q ∷ gone) (l ∷ news) began lawful ended any = ⊎_elim
-    (λ spent. (0, k, l, refl, refl, has_spent rings limit k p q l began.0 lawful.0 ended.0 spent))
-    (λ later. let h = one_spent rings limit olds seated gone news began.1 lawful.1 ended.1 later in (suc h.0, h.1, h.2, h.3, h.4, h.5))
+one_spent : (rings : List RingIs) (limit : ℕ) (olds : List Kept) (seated gone : List Part) (news : List Kept) → Every (IsApart rings) olds → Each (IsSeated rings) olds seated → Each (LawfulOf rings limit) seated gone → Each IsNumbered gone news → AnyPair (SpentOf rings limit) seated gone → OneSpent rings limit olds news
+one_spent rings limit olds [] gone news were began lawful ended any = absurd any
+one_spent rings limit olds (p ∷ seated) [] news were began lawful ended any = absurd any
+one_spent rings limit [] (p ∷ seated) (q ∷ gone) news were began lawful ended any = absurd began
+one_spent rings limit (k ∷ olds) (p ∷ seated) (q ∷ gone) [] were began lawful ended any = absurd ended
+one_spent rings limit (k ∷ olds) (p ∷ seated) (q ∷ gone) (l ∷ news) were began lawful ended any = ⊎_elim
+    (λ spent. (0, k, l, refl, refl, has_spent rings limit k p q l began.0 lawful.0 ended.0 were.0 spent))
+    (λ later. let h = one_spent rings limit olds seated gone news were.1 began.1 lawful.1 ended.1 later in (suc h.0, h.1, h.2, h.3, h.4, h.5))
     any
 
 -- the rings stayed, each actor was seated, went and has its ends' numbers again
@@ -215,12 +221,12 @@ module _ (rings shared : List RingIs) (same : shared ≡ rings) (limit : ℕ) (o
     stand = λ k new at. (
         let y = map_from apart_of news k new at in let x = each_left (IsFrom rings limit) olds news all_from k y.0 y.1 in
         let h = each_at (IsFrom rings limit) olds news all_from k x.0 y.0 x.1 y.1 in
-        subst (StandsApart rings) y.2 (still_apart rings limit x.0 h.seated h.gone y.0 h.began h.lawful h.ended)
+        subst (StandsApart rings) y.2 (still_apart rings limit x.0 h.seated h.gone y.0 h.began h.lawful h.ended (apart.stand k (apart_of x.0) (map_get apart_of olds k x.0 x.1)))
         );
   }
 
-  pub all_end : Every Rests gone ⊎ AnyPair (SpentOf shared limit) seated gone
+  pub all_end : Every (IsApart rings) olds → Every Rests gone ⊎ AnyPair (SpentOf shared limit) seated gone
       → ((k : ℕ) (new : Apart) → slice_get (map apart_of news) k ≡ Some new → IsResting new) ⊎ ((k : ℕ) × (old : Apart) × (new : Apart) × (slice_get (map apart_of olds) k ≡ Some old) × (slice_get (map apart_of news) k ≡ Some new) × HasSpent rings limit old new)
-  all_end = ⊎_elim
+  all_end apart = ⊎_elim
       (λ rest. inl (λ k new at. let y = map_from apart_of news k new at in subst IsResting y.2 (all_rest gone news ended rest k y.0 y.1)))
-      (λ spent. let h = one_spent rings limit olds seated gone news began lawful ended (subst (λ (z : List RingIs). AnyPair (SpentOf z limit) seated gone) same spent) in inr (h.0, apart_of h.1, apart_of h.2, map_get apart_of olds h.0 h.1 h.3, map_get apart_of news h.0 h.2 h.4, h.5))
+      (λ spent. let h = one_spent rings limit olds seated gone news apart began lawful ended (subst (λ (z : List RingIs). AnyPair (SpentOf z limit) seated gone) same spent) in inr (h.0, apart_of h.1, apart_of h.2, map_get apart_of olds h.0 h.1 h.3, map_get apart_of news h.0 h.2 h.4, h.5))

@@ -7,33 +7,25 @@
 //! A row `trace of FILE | LINE | LINE` has the lines of a trace, of which the last doesn't end;
 //! `LINE x N` stands for N such lines. What the trace gives is written with its budget, or its first
 //! bad line.
+//!
+//! Behind the rows come the examples of the libraries that read and print texts.
 #![tactic(auto)]
 
-ghost use Rattle.std.specs.Prelude.{◌≤◌, IfOk, length};
 ghost use Rattle.sdf_check.specs.Valid.{Valid};
-ghost use Rattle.sdf_model.specs.Counts.{text_most};
 
+mod examples;
 mod traces;
 
 use cargo_core::Memory;
+use examples::description::judged;
+use examples::print_examples;
 use region_layout::lay_out;
 use report_text::{write_accepted, write_layout, write_refused, write_too_long};
-use sdf_check::check;
-use sdf_model::{TEXT_MOST, read_description};
+use sdf_model::TEXT_MOST;
 use sdf_plan::{Plan, SdfFault};
 use std::alloc::{AllocError, Global};
 use std::{fs, io};
 use traces::write_trace;
-
-// The plan that a text spells, where no rule is broken.
-fn judged(alloc: Global, text: &str) -> Result<Plan, SdfFault>
-    requires { length text.now ≤ text_most }
-    ensures { IfOk result Valid }
-{
-    let plan = read_description(alloc, text.as_bytes())?;
-    check(alloc, &plan)?;
-    Ok(plan)
-}
 
 /// What is written of an accepted description.
 #[derive(Clone, Copy)]
@@ -174,5 +166,5 @@ fn main(rt: HostRuntime) -> io::Result<()> {
     for line in rt.lines(rt.alloc()) {
         print_row(&rt, line?.as_str())?;
     }
-    Ok(())
+    print_examples(&rt)
 }

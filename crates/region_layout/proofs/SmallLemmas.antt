@@ -34,7 +34,7 @@ small_elements plan small =
     let n = small.net net is in
     let r = n.rx_capacity in
     let t = n.tx_capacity in
-    (each-all Queue (net_queues net) (r, (r, (t, (t, (r, (r, (t, (t, tt)))))))), each-all Pool (net_pools net) ((n.rx_buffers, omega arith), tt)))
+    (each-all Queue (net_queues net) (r, (r, (t, (t, (r, (r, (t, (t, tt)))))))), each-all Pool (net_pools net) ((n.rx_buffers, n.rx_buffer_size), tt)))
     (λ net c client is there.
     let n = small.net net is in
     let own = n.clients c client there in
@@ -42,7 +42,7 @@ small_elements plan small =
     let r = own.rx_capacity in
     let t = own.tx_capacity in (
       each-all Queue (net_client_queues net c client) (l, (l, (r, (r, (t, (t, tt)))))),
-      each-all Pool (net_client_pools net c client) ((own.rx_buffers, omega arith), ((own.tx_buffers, omega arith), tt)),
+      each-all Pool (net_client_pools net c client) ((own.rx_buffers, own.rx_buffer_size), ((own.tx_buffers, own.tx_buffer_size), tt)),
     ))
     (λ serial is.
     let n = small.serial serial is in

@@ -14,7 +14,7 @@ use Rattle.sdf_plan.specs.declared.plan.Blk.{Blk}
 use Rattle.sdf_plan.specs.declared.plan.BlkClient.{BlkClient}
 use Rattle.sdf_check.specs.Rules.{IsPageSize, IsMultiple, MeetsEarlier, given_range}
 use Rattle.cargo_core.specs.Capacities.{IsCapacity}
-use Rattle.sdf_check.specs.ClassRules.{IsClientCount, IsBufferCount}
+use Rattle.sdf_check.specs.ClassRules.{IsClientCount, IsBufferCount, IsBufferSize, IsBadBuffer}
 use Rattle.sdf_check.specs.Valid.{Valid}
 use Rattle.sdf_check.proofs.SoughtLemmas.{here-some}
 use Rattle.region_layout.specs.Bases.{AreGivenApart}
@@ -197,6 +197,43 @@ blk_client_counts plan blk c client valid is there =
     is_buffer_count client.buffers (not_of_part plan.blk blk (λ (x : Blk). x.client) c client (λ (x : BlkClient). IsBufferCount x.buffers → ⊥) is there
     (kept plan 30 (At.BlkClient c) valid (omega arith) (omega arith) (blk_client_walked plan blk c is (slice_get_within blk.client c client there))))
 
+-- rule 31
+pub net_frames : (plan : Plan) (net : Net) → Valid plan → plan.net ≡ Some net → (1514 ≤ net.max_frame) × (net.max_frame ≤ 9014)
+net_frames plan net valid is =
+    let fine = not_of plan.net net (λ (x : Net). (x.max_frame < 1514) ⊎ (9014 < x.max_frame)) is
+    (kept plan 31 At.Net valid (omega arith) (omega arith) (net_walked plan net is)) in
+    (not_above net.max_frame 1514 (λ low. fine (inl low)), not_above 9014 net.max_frame (λ high. fine (inr high)))
+
+-- rule 32
+is_buffer_size : (n : ℕ) → ((IsBufferSize n → ⊥) → ⊥) → IsBufferSize n
+is_buffer_size n h = (
+  is_capacity n (λ never. h (λ is. never is.0)),
+  not_above n 2048 (λ low. h (λ is. let no : ⊥ = omega (arith, is.1, low) in no)),
+  not_above 16384 n (λ high. h (λ is. let no : ⊥ = omega (arith, is.2, high) in no)),
+)
+
+-- a buffer of which it isn't said that it is bad
+fine_buffer : (longest size : ℕ) → (IsBadBuffer longest size → ⊥) → IsBufferSize size × (longest ≤ size)
+fine_buffer longest size fine = (is_buffer_size size (λ lacks. fine (inl lacks)), not_above size longest (λ less. fine (inr less)))
+
+pub net_buffer : (plan : Plan) (net : Net) → Valid plan → plan.net ≡ Some net → IsBufferSize net.rx_buffer_size × (net.max_frame ≤ net.rx_buffer_size)
+net_buffer plan net valid is =
+    fine_buffer net.max_frame net.rx_buffer_size (not_of plan.net net (λ (x : Net). IsBadBuffer x.max_frame x.rx_buffer_size) is
+    (kept plan 32 At.Net valid (omega arith) (omega arith) (net_walked plan net is)))
+
+-- the two buffers of a client
+pub net_client_buffers : (plan : Plan) (net : Net) (c : ℕ) (client : NetClient) → Valid plan → plan.net ≡ Some net → slice_get net.client c ≡ Some client
+    → (IsBufferSize client.rx_buffer_size × (net.max_frame ≤ client.rx_buffer_size)) × (IsBufferSize client.tx_buffer_size × (net.max_frame ≤ client.tx_buffer_size))
+net_client_buffers plan net c client valid is there =
+    let bad : Net → NetClient → Type 0 = λ x y. IsBadBuffer x.max_frame y.rx_buffer_size ⊎ IsBadBuffer x.max_frame y.tx_buffer_size in
+    let kept_here = kept plan 32 (At.NetClient c) valid (omega arith) (omega arith) (net_client_walked plan net c is (slice_get_within net.client c client there)) in
+    let fine : bad net client → ⊥ = λ p. kept_here (here-some plan.net net (λ (x : Net). IsSomeAnd (slice_get x.client c) (bad x)) is
+    (here-some (slice_get net.client c) client (bad net) there p)) in
+    (fine_buffer net.max_frame client.rx_buffer_size (λ b. fine (inl b)), fine_buffer net.max_frame client.tx_buffer_size (λ b. fine (inr b)))
+
+size_small : (n : ℕ) → IsBufferSize n → n < 2 ^ 32
+size_small n is = omega (arith, is.2)
+
 net_small : (plan : Plan) → Valid plan → (net : Net) → plan.net ≡ Some net → IsSmallNet net
 net_small plan valid net is =
     let caps = net_capacities plan net valid is in
@@ -204,14 +241,18 @@ net_small plan valid net is =
       rx_capacity = capacity_small net.rx_capacity caps.0;
       tx_capacity = capacity_small net.tx_capacity caps.1;
       rx_buffers = buffers_small net.rx_buffers (net_counts plan net valid is).1;
+      rx_buffer_size = size_small net.rx_buffer_size (net_buffer plan net valid is).0;
       clients = λ c client there.
           let own = net_client_capacities plan net c client valid is there in
           let counts = net_client_counts plan net c client valid is there in
+          let sizes = net_client_buffers plan net c client valid is there in
           record {
             rx_capacity = capacity_small client.rx_capacity own.0;
             tx_capacity = capacity_small client.tx_capacity own.1;
             rx_buffers = buffers_small client.rx_buffers counts.0;
             tx_buffers = buffers_small client.tx_buffers counts.1;
+            rx_buffer_size = size_small client.rx_buffer_size sizes.0.0;
+            tx_buffer_size = size_small client.tx_buffer_size sizes.1.0;
           };
     }
 

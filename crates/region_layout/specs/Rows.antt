@@ -25,7 +25,7 @@ use Rattle.class_table.specs.declared.uses.Ends.TheVariants as Way
 use Rattle.class_table.specs.declared.uses.QueueUse.{QueueUse}
 use Rattle.class_table.specs.declared.uses.PoolUse.{PoolUse}
 use Rattle.class_table.specs.Named.{text_of}
-use Rattle.class_table.specs.Rows.{Name, net_buffer, blk_buffer}
+use Rattle.class_table.specs.Rows.{Name, blk_buffer}
 use Rattle.class_table.specs.Sizes.{entry_size, offset_behind}
 use Rattle.class_table.specs.Table.{Element, table_of}
 use Rattle.sdf_check.specs.Names.{place_of, region_named}
@@ -306,13 +306,14 @@ blk_queues plan blk = disk_queues plan blk ++ shared_blk_queues plan blk
 unfoldable pub net_client_pools : Plan → ℕ → NetClient → List PoolRow
 net_client_pools plan c client =
     pool_in plan client.rx_region (client_name (codes "net.") c
-    (codes ".rx")) client.rx_buffers net_buffer
+    (codes ".rx")) client.rx_buffers client.rx_buffer_size
     ∷ pool_in plan client.tx_region (client_name (codes "net.") c
-    (codes ".tx")) client.tx_buffers net_buffer ∷ []
+    (codes ".tx")) client.tx_buffers client.tx_buffer_size ∷ []
 
 -- the pools of the network class and of its clients
 unfoldable pub net_pools : Plan → Net → List PoolRow
-net_pools plan net = pool_in plan net.rx_region (codes "net.rx") net.rx_buffers net_buffer
+net_pools plan net =
+    pool_in plan net.rx_region (codes "net.rx") net.rx_buffers net.rx_buffer_size
     ∷ each_client (net_client_pools plan) 0 net.client
 
 -- the pool of a block client

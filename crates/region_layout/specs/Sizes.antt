@@ -28,12 +28,15 @@ pub record IsSmallNetClient (client : NetClient) : Type 0 where
   pub tx_capacity : client.tx_capacity < 2 ^ 32
   pub rx_buffers : client.rx_buffers < 2 ^ 32
   pub tx_buffers : client.tx_buffers < 2 ^ 32
+  pub rx_buffer_size : client.rx_buffer_size < 2 ^ 32
+  pub tx_buffer_size : client.tx_buffer_size < 2 ^ 32
 
 -- the numbers of the network class, and of its clients, have 32 bits
 pub record IsSmallNet (net : Net) : Type 0 where
   pub rx_capacity : net.rx_capacity < 2 ^ 32
   pub tx_capacity : net.tx_capacity < 2 ^ 32
   pub rx_buffers : net.rx_buffers < 2 ^ 32
+  pub rx_buffer_size : net.rx_buffer_size < 2 ^ 32
   pub clients : (k : ℕ) (client : NetClient) → slice_get net.client k ≡ Some client
       → IsSmallNetClient client
 

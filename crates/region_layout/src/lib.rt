@@ -1,6 +1,6 @@
 //! Where the regions of a plan lie, which queues and pools stand in them, and who acts.
 //!
-//! An example of its calls: `crates/library_examples/src/layout.rt`.
+//! An example of its calls: `crates/plan_rows/src/examples/layout.rt`.
 #![tactic(auto)]
 
 mod actors;

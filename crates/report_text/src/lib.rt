@@ -1,6 +1,6 @@
 //! The texts that the program prints.
 //!
-//! An example of its calls: `crates/library_examples/src/report.rt`.
+//! An example of its calls: `crates/plan_rows/src/examples/report.rt`.
 #![tactic(auto)]
 
 mod answers;

@@ -7,6 +7,10 @@ mod hand;
 mod pause;
 #[cfg(test)]
 mod tests;
+mod wild;
+#[cfg(test)]
+mod wild_tests;
 
 pub use bells::{get, give, send_by_bells, take_by_bells};
 pub use hand::{byte_ring, give_up, offer, poll, send, take};
+pub use wild::{scribble, send_wildly, wild_byte_ring};

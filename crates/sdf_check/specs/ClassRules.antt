@@ -1,4 +1,5 @@
--- The rules on the classes of a plan: roles, channels, maps, capacities, sizes, ids and counts.
+-- The rules on the classes of a plan: roles, channels, maps, capacities, sizes, ids, counts and
+-- frames.
 use Rattle.std.specs.Prelude.{◌≡◌, ◌≢◌, ℕ, ◌+◌, ◌*◌, ◌^◌, ◌<◌, ◌≤◌, ◌⊎◌, Bool, true, List, [], ◌∷◌}
 use Rattle.std.specs.Prelude.{◌++◌, length, map, take, Option, slice_get, codes, IsNone, IsSomeAnd}
 use Rattle.std.specs.Prelude.{MatchBool}
@@ -269,3 +270,28 @@ IsPastLimit plan At.Serial = IsSomeAnd plan.serial
 IsPastLimit plan At.Blk = IsSomeAnd plan.blk (λ blk. ¬ IsClientCount (length blk.client))
 IsPastLimit plan (At.BlkClient c) = OfBlkClient plan c (λ client. ¬ IsBufferCount client.buffers)
 IsPastLimit plan _ = ⊥
+
+-- rule 31: the longest frame is below 1,514 bytes or above 9,014
+abbrev pub HasBadMaxFrame : Plan → Place → Type 0
+HasBadMaxFrame plan At.Net = IsSomeAnd plan.net
+    (λ net. (net.max_frame < 1514) ⊎ (9014 < net.max_frame))
+HasBadMaxFrame plan _ = ⊥
+
+-- a size that a network buffer may have: a power of two, from 2,048 to 16,384
+abbrev pub IsBufferSize : ℕ → Type 0
+IsBufferSize size = IsCapacity size × (2048 ≤ size) × (size ≤ 16384)
+
+-- a network buffer has no such size, or the longest frame doesn't fit it
+abbrev pub IsBadBuffer : ℕ → ℕ → Type 0
+IsBadBuffer longest size = (¬ IsBufferSize size) ⊎ (size < longest)
+
+-- rule 32: the size of a buffer is no power of two from 2,048 to 16,384, or is below the longest
+-- frame
+abbrev pub HasBadBufferSize : Plan → Place → Type 0
+HasBadBufferSize plan At.Net = IsSomeAnd plan.net
+    (λ net. IsBadBuffer net.max_frame net.rx_buffer_size)
+HasBadBufferSize plan (At.NetClient c) =
+    IsSomeAnd plan.net (λ net. IsSomeAnd (slice_get net.client c) (λ client.
+    IsBadBuffer net.max_frame client.rx_buffer_size
+    ⊎ IsBadBuffer net.max_frame client.tx_buffer_size))
+HasBadBufferSize plan _ = ⊥

@@ -12,7 +12,7 @@ use Rattle.sdf_check.specs.ClassRules.{UsesNoRegion, UsesNoDomain, LacksRole, Gi
 use Rattle.sdf_check.specs.ClassRules.{NamesDomainAgain, LacksChannel, LacksRight}
 use Rattle.sdf_check.specs.ClassRules.{IsSharedWithStranger, NamesRegionAgain, HasBadCapacity}
 use Rattle.sdf_check.specs.ClassRules.{HasLowCapacity, LacksRoom, HasBadMac, HasBadPartition}
-use Rattle.sdf_check.specs.ClassRules.{IsPastLimit}
+use Rattle.sdf_check.specs.ClassRules.{IsPastLimit, HasBadMaxFrame, HasBadBufferSize}
 use Rattle.sdf_check.specs.Rules.{TakesName, IsPastLastDomain, HasPriorityTooHigh}
 use Rattle.sdf_check.specs.Rules.{HasPeriodTooShort, HasBadSize, HasBadPageSize, HasBadPhysAddr}
 use Rattle.sdf_check.specs.Rules.{MeetsGivenRange, NamesNoRegion, HasBadVaddr, MeetsMap}
@@ -24,7 +24,7 @@ first_rule = 5
 
 -- the number of the last rule
 abbrev pub last_rule : ℕ
-last_rule = 30
+last_rule = 32
 
 -- the element at the place breaks the rule of this number: one of those on any system, or one of
 -- those on its domains, ids and counts
@@ -47,14 +47,16 @@ BreaksPlanRule plan rule place =
     MatchBool (rule == 19) (TakesId plan place) (
     MatchBool (rule == 20) (JoinsOneDomain plan place) ⊥)))))))))))))))
 
--- the element at a place breaks the rule of this number, of those on roles, addresses, partitions
--- and limits of a class
+-- the element at a place breaks the rule of this number, of those on roles, addresses, partitions,
+-- limits, frames and buffers of a class
 abbrev pub BreaksClassRule : Plan → ℕ → Place → Type 0
 BreaksClassRule plan rule place =
     MatchBool (rule == 21) (LacksRole plan place) (
     MatchBool (rule == 28) (HasBadMac plan place) (
     MatchBool (rule == 29) (HasBadPartition plan place) (
-    MatchBool (rule == 30) (IsPastLimit plan place) ⊥)))
+    MatchBool (rule == 30) (IsPastLimit plan place) (
+    MatchBool (rule == 31) (HasBadMaxFrame plan place) (
+    MatchBool (rule == 32) (HasBadBufferSize plan place) ⊥)))))
 
 -- this rule is told of the place alone, and the element breaks it
 abbrev pub BreaksAtPlace : Plan → ℕ → Place → Type 0

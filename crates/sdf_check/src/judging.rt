@@ -13,6 +13,7 @@ ghost use Rattle.sdf_check.specs.Valid.{BreaksPlanRule, BreaksClassRule, BreaksB
 
 use crate::class_ids::{has_bad_mac, has_bad_partition};
 use crate::counts::is_past_limit;
+use crate::frames::{has_bad_buffer_size, has_bad_max_frame};
 use crate::judge::{Judge, Tables};
 use crate::keys::{Named, keys_of};
 use crate::names::{domains_by_name, regions_by_name};
@@ -33,7 +34,7 @@ use std::alloc::Global;
 const FIRST_RULE: u8 = 5;
 
 /// The last rule.
-const LAST_RULE: u8 = 30;
+const LAST_RULE: u8 = 32;
 
 fn judge_of<'a>(alloc: Global, plan: &'a Plan) -> Result<Judge<'a>, Memory>
     ensures { IfOk result (λ judge. judge.plan.now ≡ plan.now) }
@@ -93,7 +94,7 @@ fn breaks_plan_rule(judge: &Judge<'_>, tables: &Tables<'_>, rule: u8, place: Pla
     }
 }
 
-// Whether the element at a place breaks a rule on domains, ids and counts.
+// Whether the element at a place breaks a rule on domains, ids, counts and frames.
 fn breaks_class_rule(judge: &Judge<'_>, tables: &Tables<'_>, rule: u8, place: Place) -> bool
     requires { AreTables tables.now judge.now.plan.now }
     ensures { IsTrue result ↔ BreaksClassRule judge.now.plan.now rule place }
@@ -103,6 +104,8 @@ fn breaks_class_rule(judge: &Judge<'_>, tables: &Tables<'_>, rule: u8, place: Pl
         28 => has_bad_mac(judge, place),
         29 => has_bad_partition(judge, place),
         30 => is_past_limit(judge, place),
+        31 => has_bad_max_frame(judge, place),
+        32 => has_bad_buffer_size(judge, place),
         _ => false,
     }
 }
@@ -202,7 +205,7 @@ fn refusal_of(alloc: Global, plan: &Plan) -> Result<Option<Refusal>, Memory>
     Ok(None)
 }
 
-/// Judges a plan by the rules on names, sizes, ranges, permissions, ids and classes. `Refused` has
+/// Judges a plan by the rules on names, sizes, ranges, permissions, ids and classes, 5 to 32. `Refused` has
 /// the least rule that an element breaks, and the first element that breaks it, in the order of the
 /// walk over a description. Want of memory may come at any plan.
 pub fn check(alloc: Global, plan: &Plan) -> Result<(), SdfFault>

@@ -10,7 +10,7 @@ use Rattle.sdf_plan.specs.declared.place.SdfFault.{SdfFault}
 use Rattle.sdf_plan.specs.declared.place.SdfFault.TheVariants as Fault
 use Rattle.sdf_plan.specs.Places.{IsKept, KeepsRules, IsRefusal}
 use Rattle.sdf_model.specs.Keys.{breaks_with}
-use Rattle.sdf_model.specs.Tree.{element_at, IsDocument, places_of, places_in, breaks, IsNoDocument, BreaksText, IfRefused}
+use Rattle.sdf_model.specs.Tree.{element_at, IsDocument, places_of, places_in, breaks, IsNoDocument, BreaksText, IfRefused, version_of}
 use Rattle.sdf_model.specs.Elements.{Seen, elements_of, first_broken, Judged}
 use Rattle.sdf_model.proofs.Found.{places, elements-walk, Every, every-at, Stands, elements-stand}
 
@@ -21,7 +21,7 @@ none-step : (test : Seen → Bool) (x : Seen) (es : List Seen) (b : Bool) → te
 none-step test x es true t h more = cc
 none-step test x es false t h more = (t, more h)
 
-none-found : (test : Seen → Bool) (es : List Seen) → find test es ≡ None → Every (λ e. test e ≡ false) es
+pub none-found : (test : Seen → Bool) (es : List Seen) → find test es ≡ None → Every (λ e. test e ≡ false) es
 none-found test [] h = tt
 none-found test (x ∷ es) h = none-step test x es (test x) refl h (none-found test es)
 
@@ -68,7 +68,7 @@ mapped : (o : Option Seen) (p : Place) → option_map (λ e. e.0) o ≡ Some p �
 mapped None p h = cc
 mapped (Some e) p h = (e, refl, same_Some _ _ h)
 
-unmapped : (o : Option Seen) → option_map (λ e. e.0) o ≡ None → o ≡ None
+pub unmapped : (o : Option Seen) → option_map (λ e. e.0) o ≡ None → o ≡ None
 unmapped None h = refl
 unmapped (Some e) h = cc
 
@@ -80,14 +80,14 @@ document-places text root doc = elements-walk root ∙ ap places_in (sym doc.1)
 
 -- an element of a document that breaks rule 2, 3 or 4 is one whose table does
 broken-element : (text : List ℕ) (root : Members) → IsDocument text root → (n : ℕ) → 2 ≤ n → (k : ℕ) (p : Place) → slice_get (places_of text) k ≡ Some p
-    → BreaksText text n p → (e : Seen) × (slice_get (elements_of root) k ≡ Some e) × (breaks n e.0 e.1 ≡ true)
+    → BreaksText text n p → (e : Seen) × (slice_get (elements_of root) k ≡ Some e) × (breaks (version_of root) n e.0 e.1 ≡ true)
 broken-element text root doc n two k p at (inl b) = absurd (omega (arith, two, b.0))
 broken-element text root doc n two k p at (inr b) =
     let (e, there, same) = at-place (elements_of root) k p (ap (λ l. slice_get l k) (document-places text root doc) ∙ at) in
     let stands : element_at root e.0 ≡ Some e.1 = every-at (Stands (element_at root)) (elements_of root) k e there (elements-stand root) in
     let root-same : b.0 ≡ root = same_Some _ _ (sym b.2 ∙ doc.1) in
     let t-same : b.1 ≡ e.1 = same_Some _ _ (sym b.3 ∙ ap (λ r. element_at r p) root-same ∙ ap (element_at root) (sym same) ∙ stands) in
-    (e, there, ap (λ q. breaks n q e.1) same ∙ ap (breaks n p) (sym t-same) ∙ b.4)
+    (e, there, ap (λ q. breaks (version_of root) n q e.1) same ∙ ap (breaks (version_of root) n p) (sym t-same) ∙ ap (λ x. breaks (version_of x) n p b.1) (sym root-same) ∙ b.4)
 
 -- rule 1 is kept by a document
 first-kept : (text : List ℕ) (root : Members) → IsDocument text root → (p : Place) → BreaksText text 1 p → ⊥
@@ -101,13 +101,13 @@ one-or-more (suc zero) h = inl refl
 one-or-more (suc (suc n)) h = inr (omega arith)
 
 -- a rule that no element breaks is kept by the text
-rule-kept : (text : List ℕ) (root : Members) → IsDocument text root → (n : ℕ) → 2 ≤ n → first_broken n (elements_of root) ≡ None → IsKept (BreaksText text n) (places_of text)
+rule-kept : (text : List ℕ) (root : Members) → IsDocument text root → (n : ℕ) → 2 ≤ n → first_broken (version_of root) n (elements_of root) ≡ None → IsKept (BreaksText text n) (places_of text)
 rule-kept text root doc n two none = λ k p at broken.
     let (e, there, is) = broken-element text root doc n two k p at broken in
-    let not : breaks n e.0 e.1 ≡ false = every-at _ (elements_of root) k e there (none-found (λ e. breaks n e.0 e.1) (elements_of root) (unmapped _ none)) in
+    let not : breaks (version_of root) n e.0 e.1 ≡ false = every-at _ (elements_of root) k e there (none-found (λ e. breaks (version_of root) n e.0 e.1) (elements_of root) (unmapped _ none)) in
     cc (is, not)
 
-kept-below : (text : List ℕ) (root : Members) → IsDocument text root → (n : ℕ) → 1 ≤ n → (2 ≤ n → first_broken n (elements_of root) ≡ None) → IsKept (BreaksText text n) (places_of text)
+kept-below : (text : List ℕ) (root : Members) → IsDocument text root → (n : ℕ) → 1 ≤ n → (2 ≤ n → first_broken (version_of root) n (elements_of root) ≡ None) → IsKept (BreaksText text n) (places_of text)
 kept-below text root doc n one none =
     elim (one-or-more n one) [
       | inl is ↦ rw is (λ k p at broken. first-kept text root doc p broken)
@@ -115,15 +115,15 @@ kept-below text root doc n one none =
     ]
 
 -- a document of which no element breaks rule 2, 3 or 4 keeps the first four rules
-pub kept-text : (text : List ℕ) (root : Members) → IsDocument text root → ((n : ℕ) → 2 ≤ n → n ≤ 4 → first_broken n (elements_of root) ≡ None)
+pub kept-text : (text : List ℕ) (root : Members) → IsDocument text root → ((n : ℕ) → 2 ≤ n → n ≤ 4 → first_broken (version_of root) n (elements_of root) ≡ None)
     → KeepsRules (BreaksText text) (places_of text) 1 4
 kept-text text root doc none = λ n one four. kept-below text root doc n one (λ two. none n two four)
 
 -- what is judged of the elements of a document is the refusal of the text
-pub judged-text : (text : List ℕ) (root : Members) → IsDocument text root → (r : Refusal) → Judged (elements_of root) r → IsRefusal (BreaksText text) (places_of text) 1 4 r
+pub judged-text : (text : List ℕ) (root : Members) → IsDocument text root → (r : Refusal) → Judged (version_of root) (elements_of root) r → IsRefusal (BreaksText text) (places_of text) 1 4 r
 judged-text text root doc r j =
     let (e, is, same) = mapped _ r.place j.0 in
-    let first = first-found (λ e. breaks r.rule e.0 e.1) (elements_of root) e is in
+    let first = first-found (λ e. breaks (version_of root) r.rule e.0 e.1) (elements_of root) e is in
     let stands : element_at root e.0 ≡ Some e.1 = every-at (Stands (element_at root)) (elements_of root) first.at e first.there (elements-stand root) in
     record {
       from = omega (arith, j.1);
@@ -131,7 +131,7 @@ judged-text text root doc r j =
       broken_at = record {
         at = first.at;
         there = ap (λ l. slice_get l first.at) (sym (document-places text root doc)) ∙ place-at (elements_of root) first.at e first.there ∙ ap Some same;
-        here = inr (root, e.1, doc.1, ap (element_at root) (sym same) ∙ stands, ap (λ q. breaks r.rule q e.1) (sym same) ∙ first.here);
+        here = inr (root, e.1, doc.1, ap (element_at root) (sym same) ∙ stands, ap (λ q. breaks (version_of root) r.rule q e.1) (sym same) ∙ first.here);
         before = λ k p below at broken.
             let (f, there, is') = broken-element text root doc r.rule j.1 k p at broken in
             cc (is', first.before k f below there);

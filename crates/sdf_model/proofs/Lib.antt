@@ -1,4 +1,5 @@
 pub mod EditedCounts
+pub mod First
 pub mod Found
 pub mod Judging
 pub mod Numbered

@@ -63,13 +63,14 @@ elements_of root =
     ++ class_parts At.Serial (At.SerialClient 0) (table_at (codes "serial") root)
     ++ class_parts At.Blk (At.BlkClient 0) (table_at (codes "blk") root)
 
--- the first element that breaks a rule
-abbrev pub first_broken : ℕ → List Seen → Option Place
-first_broken rule elements = option_map (λ e. e.0) (find (λ e. breaks rule e.0 e.1) elements)
+-- the first element that breaks a rule, of a document of a version
+abbrev pub first_broken : ℕ → ℕ → List Seen → Option Place
+first_broken version rule elements =
+    option_map (λ e. e.0) (find (λ e. breaks version rule e.0 e.1) elements)
 
 -- the least of the rules read on one element that is broken, and the first element that breaks it
-abbrev pub Judged : List Seen → Refusal → Type 0
-Judged elements refusal =
-    (first_broken refusal.rule elements ≡ Some refusal.place)
+abbrev pub Judged : ℕ → List Seen → Refusal → Type 0
+Judged version elements refusal =
+    (first_broken version refusal.rule elements ≡ Some refusal.place)
     × (2 ≤ refusal.rule) × (refusal.rule ≤ 4)
-    × ((n : ℕ) → 2 ≤ n → n < refusal.rule → first_broken n elements ≡ None)
+    × ((n : ℕ) → 2 ≤ n → n < refusal.rule → first_broken version n elements ≡ None)

@@ -1,6 +1,6 @@
 -- The key table: the keys of each element and what their values have to be, and the rules on them.
 use Rattle.std.specs.Prelude.{if◌then◌else◌, ℕ, ℤ, pos, negsuc, Bool, true, false, not, ◌&&◌, ◌||◌}
-use Rattle.std.specs.Prelude.{◌==◌, nat_le, List, [], ◌∷◌, length, codes, Option, Some, None}
+use Rattle.std.specs.Prelude.{◌==◌, nat_le, List, [], ◌∷◌, ◌++◌, length, codes, Option, Some, None}
 use Rattle.std.specs.Prelude.{is_some}
 use Rattle.std.specs.List.{list_any, list_all}
 use Rattle.std.specs.Str.{bytes_eq}
@@ -135,7 +135,7 @@ blk_client_keys =
     all_of A.Name (codes "pd" ∷ codes "region" ∷ codes "queues" ∷ [])
     (all_of A.Number (codes "partition" ∷ codes "buffers" ∷ codes "capacity" ∷ []) [])
 
--- the keys of the element at a place
+-- the keys of the element at a place, in a text of version 1
 abbrev pub keys_at : Place → List Row
 keys_at At.System = system_keys
 keys_at (At.Region r) = region_keys
@@ -150,6 +150,20 @@ keys_at At.Serial = serial_keys
 keys_at (At.SerialClient c) = serial_client_keys
 keys_at At.Blk = blk_keys
 keys_at (At.BlkClient c) = blk_client_keys
+
+-- the keys that version 2 has more, of the element at a place
+abbrev pub more_keys_at : Place → List Row
+more_keys_at At.Net =
+    row (codes "max_frame") A.Number (If.Number 1514)
+    ∷ row (codes "rx_buffer_size") A.Number (If.Number 2048) ∷ []
+more_keys_at (At.NetClient c) =
+    row (codes "rx_buffer_size") A.Number (If.Number 2048)
+    ∷ row (codes "tx_buffer_size") A.Number (If.Number 2048) ∷ []
+more_keys_at _ = []
+
+-- the keys of the element at a place, in a text of a version
+abbrev pub keys_in : ℕ → Place → List Row
+keys_in version place = keys_at place ++ (if version == 2 then more_keys_at place else [])
 
 -- the programs that a domain may run
 abbrev pub programs : List (List ℕ)
@@ -185,10 +199,10 @@ abbrev pub is_natural : ℤ → Bool
 is_natural (pos n) = true
 is_natural (negsuc n) = false
 
--- the integer is 1
-abbrev pub is_one : ℤ → Bool
-is_one (pos n) = n == 1
-is_one (negsuc n) = false
+-- the integer is a version: 1 or 2
+abbrev pub is_version : ℤ → Bool
+is_version (pos n) = (n == 1) || (n == 2)
+is_version (negsuc n) = false
 
 -- the tables among the values of a list
 abbrev pub tables_of : Items → List Members
@@ -202,7 +216,7 @@ is_pair items = are_tables items && (length (tables_of items) == 2)
 
 -- a value of the kind, in its set and its form
 abbrev pub is_kind : Kind → Data → Bool
-is_kind A.Version d = holds is_one (as_integer d)
+is_kind A.Version d = holds is_version (as_integer d)
 is_kind A.Number d = holds is_natural (as_integer d)
 is_kind A.Name d = holds is_name (as_str d)
 is_kind A.Text d = is_some (as_str d)

@@ -1,8 +1,9 @@
 -- The elements of a document by their places, and the rules that are read on the text.
-use Rattle.std.specs.Prelude.{◌≡◌, ℕ, Bool, true, if◌then◌else◌, ◌⊎◌, List, [], ◌∷◌, length, map}
+use Rattle.std.specs.Prelude.{◌≡◌, ℕ, ℤ, pos, negsuc, Bool, true, false, if◌then◌else◌, ◌==◌, ◌⊎◌}
+use Rattle.std.specs.Prelude.{List, [], ◌∷◌, length, map}
 use Rattle.std.specs.Prelude.{slice_get, codes, Option, Some, None, option_map, option_and_then}
 use Rattle.std.specs.Str.{IsUtf8}
-use Rattle.toml.specs.Data.{Items, Members, get_member, as_array, as_table}
+use Rattle.toml.specs.Data.{Items, Members, get_member, as_integer, as_array, as_table}
 use Rattle.toml.specs.Text.{are_tables}
 use Rattle.toml.specs.Parse.{parse_document}
 use Rattle.sdf_plan.specs.declared.place.Place.{Place}
@@ -10,7 +11,7 @@ use Rattle.sdf_plan.specs.declared.place.Place.TheVariants as At
 use Rattle.sdf_plan.specs.declared.place.Refusal.{Refusal}
 use Rattle.sdf_plan.specs.declared.place.SdfFault.{SdfFault}
 use Rattle.sdf_plan.specs.declared.place.SdfFault.TheVariants as Fault
-use Rattle.sdf_model.specs.Keys.{tables_of, keys_at, breaks_with}
+use Rattle.sdf_model.specs.Keys.{tables_of, holds, keys_in, breaks_with}
 use Rattle.sdf_plan.specs.Places.{Outline, walk}
 
 -- the elements of a list: its tables, where it holds nothing else
@@ -76,9 +77,22 @@ places_in (Some root) = walk (outline_of root)
 abbrev pub places_of : List ℕ → List Place
 places_of text = places_in (parse_document text)
 
--- the table of an element breaks the rule of this number
-abbrev pub breaks : ℕ → Place → Members → Bool
-breaks rule place t = breaks_with rule (keys_at place) t
+-- the integer is 2
+abbrev pub is_two : ℤ → Bool
+is_two (pos n) = n == 2
+is_two (negsuc n) = false
+
+-- the document says that its version is 2
+abbrev pub is_second : Members → Bool
+is_second root = holds is_two (option_and_then as_integer (get_member (codes "version") root))
+
+-- the version of a document: 2 where it says so, and else 1
+unfoldable pub version_of : Members → ℕ
+version_of root = if is_second root then 2 else 1
+
+-- the table of an element of a document of a version breaks the rule of this number
+abbrev pub breaks : ℕ → ℕ → Place → Members → Bool
+breaks version rule place t = breaks_with rule (keys_in version place) t
 
 -- rule 1 is broken: the text is no document
 abbrev pub IsNoDocument : List ℕ → Type 0
@@ -89,7 +103,7 @@ abbrev pub BreaksText : List ℕ → ℕ → Place → Type 0
 BreaksText text rule place =
     ((rule ≡ 1) × (place ≡ At.System) × IsNoDocument text)
     ⊎ ((root : Members) × (t : Members) × (parse_document text ≡ Some root)
-    × (element_at root place ≡ Some t) × (breaks rule place t ≡ true))
+    × (element_at root place ≡ Some t) × (breaks (version_of root) rule place t ≡ true))
 
 -- of a fault that is no want of memory
 abbrev pub IfRefused : SdfFault → (Refusal → Type 0) → Type 0

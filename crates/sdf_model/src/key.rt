@@ -2,7 +2,7 @@
 /// What the value of a key has to be.
 #[derive(Clone, Copy, Debug, PartialEq, Eq)]
 pub enum Kind {
-    /// The number 1.
+    /// The number 1 or 2.
     Version,
     /// An integer of at least 0.
     Number,
@@ -122,6 +122,12 @@ pub(crate) const NET: [Key; 10] = keys! {
     client: List, Absent::Refused;
 };
 
+/// The keys that the network class has more in version 2.
+pub(crate) const NET_MORE: [Key; 2] = keys! {
+    max_frame: Number, Absent::Number(1514);
+    rx_buffer_size: Number, Absent::Number(2048);
+};
+
 pub(crate) const NET_CLIENT: [Key; 12] = keys! {
     pd: Name, Absent::Refused;
     copier: Name, Absent::Refused;
@@ -135,6 +141,12 @@ pub(crate) const NET_CLIENT: [Key; 12] = keys! {
     rx_capacity: Number, Absent::Refused;
     tx_buffers: Number, Absent::Refused;
     tx_capacity: Number, Absent::Refused;
+};
+
+/// The keys that a network client has more in version 2.
+pub(crate) const NET_CLIENT_MORE: [Key; 2] = keys! {
+    rx_buffer_size: Number, Absent::Number(2048);
+    tx_buffer_size: Number, Absent::Number(2048);
 };
 
 pub(crate) const SERIAL: [Key; 8] = keys! {

@@ -37,7 +37,7 @@ pub(crate) fn is_kind(value: &Value, kind: Kind) -> bool
     ensures { result ≡ is_kind kind (view value.now) }
 {
     match kind {
-        Kind::Version => value.as_integer().is_some_and(|n| n == 1),
+        Kind::Version => value.as_integer().is_some_and(|n| n == 1 || n == 2),
         Kind::Number => value.as_integer().is_some_and(|n| n >= 0),
         Kind::Name => value.as_str().is_some_and(is_name),
         Kind::Text => value.is_str(),

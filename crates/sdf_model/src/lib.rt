@@ -1,6 +1,6 @@
 //! System descriptions: how a text is read into a plan.
 //!
-//! An example of its calls: `crates/library_examples/src/description.rt`.
+//! An example of its calls: `crates/plan_rows/src/examples/description.rt`.
 #![tactic(auto)]
 
 mod element;

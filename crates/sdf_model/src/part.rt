@@ -14,13 +14,22 @@ use std::alloc::Global;
 use toml::Table;
 
 /// Reads a part of a plan from the table of its element: each field, in the order of the element's
-/// array of keys, by the key that stands there; so many fields at once.
+/// arrays of keys, by the key that stands there; so many fields at once.
 macro_rules! reading {
     ($part:ident by $keys:expr, $alloc:ident, $table:ident;
     $($many:ident($($field:ident),*))*) => {{
         let [$($($field),*),*] = &$keys;
         $(let ($($field),*) = $many($alloc, $table, $($field),*)?;)*
         Ok($part { $($($field),*),* })
+    }};
+    ($part:ident by $keys:expr, $alloc:ident, $table:ident;
+    $($many:ident($($field:ident),*))*;
+    $more:expr; $last:ident($($added:ident),*)) => {{
+        let [$($($field),*),*] = &$keys;
+        let [$($added),*] = &$more;
+        $(let ($($field),*) = $many($alloc, $table, $($field),*)?;)*
+        let ($($added),*) = $last($alloc, $table, $($added),*)?;
+        Ok($part { $($($field),*),*, $($added),* })
     }};
 }
 
@@ -92,7 +101,8 @@ impl Part for Net {
         reading!(Net by key::NET, alloc, table;
             four(driver, rx_virt, tx_virt, rx_region)
             four(rx_queues, tx_queues, rx_buffers, rx_capacity)
-            two(tx_capacity, client))
+            two(tx_capacity, client);
+            key::NET_MORE; two(max_frame, rx_buffer_size))
     }
 }
 
@@ -103,7 +113,8 @@ impl Part for NetClient {
         reading!(NetClient by key::NET_CLIENT, alloc, table;
             four(pd, copier, mac, lease_queues)
             four(rx_region, rx_queues, tx_region, tx_queues)
-            four(rx_buffers, rx_capacity, tx_buffers, tx_capacity))
+            four(rx_buffers, rx_capacity, tx_buffers, tx_capacity);
+            key::NET_CLIENT_MORE; two(rx_buffer_size, tx_buffer_size))
     }
 }
 

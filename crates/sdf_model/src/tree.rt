@@ -4,7 +4,7 @@ ghost use Rattle.toml.specs.View.{view, table_view, items_view};
 ghost use Rattle.toml.specs.Data.{get_member};
 ghost use Rattle.sdf_model.specs.Keys.{is_kind};
 ghost use Rattle.sdf_model.specs.Spelled.{number_if, text_if, truth_if};
-ghost use Rattle.sdf_model.specs.Tree.{tables_at, table_at, tables_in};
+ghost use Rattle.sdf_model.specs.Tree.{tables_at, table_at, tables_in, is_second, version_of};
 
 use cargo_core::Memory;
 use std::alloc::Global;
@@ -27,6 +27,24 @@ pub(crate) fn number_if(table: &Table, key: &str) -> Option<u64>
             _ => None,
         },
         None => None,
+    }
+}
+
+/// The version of a text, by its root table: 2 where it says so, and else 1.
+#[tactic(auto, unfolding(crate::specs::Tree::version_of))]
+pub(crate) fn version_of(root: &Table) -> u64
+    ensures { result ≡ version_of (table_view root.now) }
+{
+    if is_second(root) { 2 } else { 1 }
+}
+
+/// Whether a text says that its version is 2.
+fn is_second(root: &Table) -> bool
+    ensures { result ≡ is_second (table_view root.now) }
+{
+    match value_at(root, "version") {
+        Some(value) => value.as_integer().is_some_and(|n| n == 2),
+        None => false,
     }
 }
 

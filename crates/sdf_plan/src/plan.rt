@@ -68,7 +68,8 @@ pub struct End {
     pub id: u64,
 }
 
-/// The network class.
+/// The network class. A text of version 1 has no key for `max_frame` and for the sizes of buffers,
+/// in bytes, here and at a client: they are 1,514 and 2,048 there.
 #[derive(Debug, Drop)]
 pub struct Net {
     pub driver: Text,
@@ -81,6 +82,8 @@ pub struct Net {
     pub rx_capacity: u64,
     pub tx_capacity: u64,
     pub client: Series<NetClient>,
+    pub max_frame: u64,
+    pub rx_buffer_size: u64,
 }
 
 /// A client of the network class.
@@ -98,6 +101,8 @@ pub struct NetClient {
     pub rx_capacity: u64,
     pub tx_buffers: u64,
     pub tx_capacity: u64,
+    pub rx_buffer_size: u64,
+    pub tx_buffer_size: u64,
 }
 
 /// The serial class.

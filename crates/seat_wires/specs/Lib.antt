@@ -3,3 +3,4 @@ pub mod Times
 pub mod Places
 pub mod Inside
 pub mod Went
+pub mod Wildness

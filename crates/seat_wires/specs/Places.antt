@@ -2,7 +2,7 @@
 -- there, and what one call changes.
 pub mod Are
 use Rattle.std.specs.Prelude.{◌≡◌, ◌≢◌, ◌<◌, ℕ, Bool, true, false, List, [], ◌∷◌, length, slice_get}
-use Rattle.std.specs.Prelude.{slice_set, Option, Some, None, is_some, nat_eq}
+use Rattle.std.specs.Prelude.{slice_set, Option, Some, None, is_some, nat_eq, ◌⊎◌}
 use Rattle.cargo_core.specs.declared.item.QueueKind.{QueueKind}
 use Rattle.cargo_core.specs.declared.item.QueueKind.TheVariants as Kind
 use Rattle.wire_core.specs.declared.names.Op.{Op}
@@ -64,16 +64,44 @@ abbrev pub with_ends : SeatsAre → Role → List (Option EndIs) → SeatsAre
 with_ends s Consumer es = record s { consumers = es }
 with_ends s Producer es = record s { producers = es }
 
+-- which end may make a call: a store of a word either of the two, another call the one of its role
+abbrev pub IsMaker : Op → Role → Type 0
+IsMaker Do.See r = r ≡ role_of Do.See
+IsMaker Do.Room r = r ≡ role_of Do.Room
+IsMaker Do.Take r = r ≡ role_of Do.Take
+IsMaker Do.Put r = r ≡ role_of Do.Put
+IsMaker (Do.Ask s) r = r ≡ role_of (Do.Ask s)
+IsMaker (Do.Waive s) r = r ≡ role_of (Do.Waive s)
+IsMaker (Do.Wake s) r = r ≡ role_of (Do.Wake s)
+IsMaker (Do.Wanted s) r = r ≡ role_of (Do.Wanted s)
+IsMaker (Do.Settle s) r = r ≡ role_of (Do.Settle s)
+IsMaker (Do.Ring s) r = r ≡ role_of (Do.Ring s)
+IsMaker (Do.Store w v) r = Unit {0}
+
 -- one call on one of its ends, and nothing else
 pub record SeatDid (old : SeatsAre) (d : Deed) (new : SeatsAre) : Type 0 where
+  pub maker : Role
+  pub makes : IsMaker d.event.op maker
   pub before : EndIs
   pub knows : Half
-  pub there : slice_get (ends_of old (role_of d.event.op)) d.event.queue.0 ≡ Some (Some before)
+  pub there : slice_get (ends_of old maker) d.event.queue.0 ≡ Some (Some before)
   pub step : EndDid before.ring.slots before.knows d.event.op d.event.answer (cargo_of d) knows
   pub timely : d.event.op ≡ Do.Put → IsTimely old before.knows knows
-  pub after_is : new ≡ with_ends old (role_of d.event.op)
-      (slice_set (ends_of old (role_of d.event.op)) d.event.queue.0
+  pub after_is : new ≡ with_ends old maker
+      (slice_set (ends_of old maker) d.event.queue.0
       (Some (record { ring = before.ring; knows = knows })))
+
+-- the ring at a place is wild
+abbrev pub IsWildRing : List RingIs → ℕ → Type 0
+IsWildRing rings n = (ring : RingIs) × (slice_get rings n ≡ Some ring) × (ring.wild ≡ true)
+
+-- one of the two ends at a place is one's own
+abbrev pub OwnsEnd : SeatsAre → ℕ → Type 0
+OwnsEnd s n = ((seat_end s Consumer n).owned ≡ true) ⊎ ((seat_end s Producer n).owned ≡ true)
+
+-- a queue at which the words may be stored: one's own, on a wild ring
+abbrev pub IsWildSeat : SeatsAre → ℕ → Type 0
+IsWildSeat s n = IsWildRing s.rings n × OwnsEnd s n
 
 -- what is known of the list of an end that is there, or isn't
 abbrev pub entries_known : Option EndIs → List Cargo

@@ -1,5 +1,6 @@
 -- How far the ends of one actor went, between two moments.
-use Rattle.std.specs.Prelude.{◌≡◌, ℕ, ◌+◌, List, [], ◌∷◌, ◌++◌, slice_get, Option, Some, None}
+use Rattle.std.specs.Prelude.{◌≡◌, ◌≤◌, ℕ, ◌+◌, Bool, false, List, [], ◌∷◌, ◌++◌, slice_get, Option}
+use Rattle.std.specs.Prelude.{Some, None}
 use Rattle.atomic_table.specs.Seated.{TableId}
 use Rattle.wire_core.specs.Deeds.{Cargo}
 use Rattle.wire_core.specs.Ends.{Role}
@@ -35,11 +36,29 @@ ring_known (Some e) = Some e.ring
 abbrev pub ring_at : Option (Option EndIs) → Option TableId
 ring_at x = ring_known (joined_get x)
 
--- its ends stayed, their lists grew, and they made n word steps
+-- whether the ring of an end is wild, if it is there
+abbrev pub sort_known : Option EndIs → Bool
+sort_known None = false
+sort_known (Some e) = e.knows.wild
+
+-- the same of an end that stands at a place, if it does
+abbrev pub sort_at : Option (Option EndIs) → Bool
+sort_at x = sort_known (joined_get x)
+
+-- no ring of the actor is wild
+abbrev pub NoneWild : SeatsAre → Type 0
+NoneWild s = (r : Role) (k : ℕ) → sort_at (slice_get (ends_of s r) k) ≡ false
+
+-- its ends stayed, and their lists grew by n calls, each of one word step or two: of one where no
+-- ring is wild
 pub record Went (s : SeatsAre) (n : ℕ) (t : SeatsAre) : Type 0 where
   pub rings : t.rings ≡ s.rings
   pub ends : (r : Role) (k : ℕ) → ring_at (slice_get (ends_of t r) k)
       ≡ ring_at (slice_get (ends_of s r) k)
+  pub sorts : (r : Role) (k : ℕ) → sort_at (slice_get (ends_of t r) k)
+      ≡ sort_at (slice_get (ends_of s r) k)
   pub taken : (k : ℕ) → Begins (seats_taken s k) (seats_taken t k)
   pub sent : (k : ℕ) → Begins (seats_sent s k) (seats_sent t k)
-  pub steps : seats_steps t ≡ seats_steps s + n
+  pub least : seats_steps s + n ≤ seats_steps t
+  pub most : seats_steps t ≤ seats_steps s + (n + n)
+  pub steps : NoneWild s → seats_steps t ≡ seats_steps s + n

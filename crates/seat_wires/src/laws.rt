@@ -7,10 +7,10 @@ ghost use Rattle.seat_wires.specs.Places.Are.{SeatsAre};
 ghost use Rattle.seat_wires.specs.Times.{TimesGo};
 ghost use Rattle.seat_wires.specs.Went.{Went};
 
-/// One call of an actor on its ends is one step on a word, and adds to the lists of its ends what
-/// the call took or put and nothing else, so an actor stands for the lists of its own ends after
-/// each step where it did before. What it puts it puts after all that passed at its ends before.
-/// Steps add up.
+/// One call of an actor on its ends is one step on a word, but on a wild ring maybe two, and adds
+/// to the lists of its ends what the call took or put and nothing else, so an actor stands for the
+/// lists of its own ends after each step where it did before. What it puts it puts after all that
+/// passed at its ends before. Steps add up.
 pub fn seats_law()
     ensures taken { (s t : SeatsAre) (d : Deed) → SeatDid s d t
         → seats_taken t ≡ with (seats_taken s) (taken_by d) }

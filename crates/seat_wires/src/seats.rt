@@ -1,23 +1,28 @@
 //! The ends of one actor over shared rings, as the calls of `Wires`: a step that is generic over
 //! `Wires` runs over a ring as it does over the world of lists.
 ghost use Rattle.std.specs.Prelude.{◌≡◌, ◌<◌, ◌≤◌, ℕ, [], length, slice_get, Some, None, OnOk};
-ghost use Rattle.std.specs.Prelude.{IfErr, IfSome, IfNone};
+ghost use Rattle.std.specs.Prelude.{IfErr, IfSome, IfNone, true};
 ghost use Rattle.spsc_queue.specs.Known.Ends.{RingIs};
+ghost use Rattle.wire_core.specs.Deeds.{plain_deed};
+ghost use Rattle.wire_core.specs.Ends as roles;
 ghost use Rattle.seat_wires.specs.Places.{seat_end, SeatDid, stands_at, EndsOn, SameEnds, SetsEnd};
+ghost use Rattle.seat_wires.specs.Places.{IsWildRing, IsWildSeat};
+ghost use Rattle.seat_wires.specs.Wildness.{stays};
 
 use crate::places::{last_end, reach};
 use crate::putting::put_at;
-use cargo_core::{Body, Item};
+use cargo_core::{Body, Item, Word};
 use spsc_queue::{Consumer, Producer, Ring};
 use std::alloc::Global;
 use std::marker::{Brand, Model};
 use std::snapshot::Snapshot;
-use wire_core::{Op, QueueId, Side, Wires};
+use wire_core::{Op, QueueId, Side, WildWires, Wires};
 
 /// The ends of one actor over shared rings. The ends of the queue at a place, where they are its
 /// own, stand at that place, as the ring does. The ten calls are those of the ends, so each takes
-/// constant time and no memory, and waits for nobody. Each entry is put at a time after all that
-/// passed at these ends before, so what was done on all rings stands in one order.
+/// constant time and no memory, and waits for nobody; so does the store of a word of a wild ring,
+/// by whichever end is there. Each entry is put at a time after all that passed at these ends
+/// before, so what was done on all rings stands in one order.
 #[derive(Drop)]
 pub struct Seats<'a> {
     rings: &'a [Ring],
@@ -155,6 +160,42 @@ impl<'a> Seats<'a> {
             consumers,
         } = self;
         (producers, consumers)
+    }
+
+    // Whether the consuming end of a queue is its own.
+    fn consumes(&self, q: QueueId) -> bool
+        ensures { result ≡ (seat_end self.now roles.Consumer q.0).owned }
+    {
+        let place = q.0 as usize;
+        place < self.consumers.len() && self.consumers[place].is_some()
+    }
+
+    // Stores a value in a word by the consuming end.
+    fn store_by_consumer(&mut self, q: QueueId, word: Word, value: u64)
+        requires owned { (seat_end self.old roles.Consumer q.0).owned ≡ true }
+        requires wild { IsWildRing self.old.rings q.0 }
+        ensures { SeatDid self.old (plain_deed q (Op.Store word value)) self.new }
+    {
+        let place = q.0 as usize;
+        let ring = &self.rings[place];
+        let Some(end) = &mut self.consumers[place] else {
+            unreachable!()
+        };
+        end.store(ring, word, value);
+    }
+
+    // Stores a value in a word by the producing end.
+    fn store_by_producer(&mut self, q: QueueId, word: Word, value: u64)
+        requires owned { (seat_end self.old roles.Producer q.0).owned ≡ true }
+        requires wild { IsWildRing self.old.rings q.0 }
+        ensures { SeatDid self.old (plain_deed q (Op.Store word value)) self.new }
+    {
+        let place = q.0 as usize;
+        let ring = &self.rings[place];
+        let Some(end) = &mut self.producers[place] else {
+            unreachable!()
+        };
+        end.store(ring, word, value);
     }
 }
 
@@ -313,4 +354,18 @@ impl<'a> Wires for Seats<'a> {
             }
         }
     }
+}
+
+impl<'a> WildWires for Seats<'a> {
+    ghost wild = { IsWildSeat };
+
+    fn store(&mut self, q: QueueId, word: Word, value: u64) {
+        if self.consumes(q) {
+            self.store_by_consumer(q, word, value);
+        } else {
+            self.store_by_producer(q, word, value);
+        }
+    }
+
+    ghost stays = { stays };
 }

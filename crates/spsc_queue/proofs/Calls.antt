@@ -1,12 +1,13 @@
 -- What the calls need beside the steps.
-use Rattle.std.proofs.Common.{◌≡◌, ◌≢◌, ℕ, ◌+◌, ◌%◌, List, [], ◌∷◌, length, length-append, refl, sym, ap, ◌∙◌, Option, Some, None, Bool, true, false, is_some}
+use Rattle.std.proofs.Common.{◌≡◌, ◌≢◌, ℕ, ◌+◌, ◌%◌, ◌<◌, arith, mod-lt, subst, nat_eq, List, [], ◌∷◌, length, length-append, refl, sym, ap, ◌∙◌, Option, Some, None, Bool, true, false, is_some}
 use Rattle.atomic_table.specs.Table.{rest}
 use Rattle.cargo_core.specs.declared.item.QueueKind.{QueueKind}
 use Rattle.cargo_core.specs.Items.{kind_of}
 use Rattle.wire_core.specs.Deeds.{Cargo}
+use Rattle.spsc_queue.specs.declared.view.Half.{Half}
 use Rattle.spsc_queue.specs.declared.view.View.{View}
-use Rattle.spsc_queue.specs.Rule.{Slot, wrap}
-use Rattle.spsc_queue.specs.Steps.{Seated, slots_held, Granted, GrantedKind, with_producer, with_consumer, sent_one, took_one}
+use Rattle.spsc_queue.specs.Rule.{Slot, wrap, guard_word}
+use Rattle.spsc_queue.specs.Steps.{Seated, after_look, empty_if, last_value, slots_held, Granted, GrantedKind, with_producer, with_consumer, sent_one, took_one}
 use Rattle.spsc_queue.proofs.Looks.{place_is, next_index}
 
 -- the slot that an end holds, by the index that it keeps
@@ -71,3 +72,29 @@ same_first m k y z e f = let g : (k, y) ∷ [] ≡ (k, z) ∷ rest m = sym e ∙
 -- nothing is granted
 pub ungranted : (kind : QueueKind) (g : Option Slot) → g ≡ None → GrantedKind kind g
 ungranted kind g is = ((λ e. cc), λ x e. cc)
+
+-- the place of an end's index, by the index that it keeps
+pub slot_is : (n len index capacity slot : ℕ) → index ≡ wrap len → slot ≡ index % capacity → n ≡ capacity → 65536 % capacity ≡ 0 → slot ≡ len % n
+slot_is n len index capacity slot at is size divides = is ∙ (ap (λ (z : ℕ). z % capacity) at ∙ (place_is capacity len divides ∙ ap (λ (z : ℕ). len % z) (sym size)))
+
+pub slot_below : (index capacity slot : ℕ) → slot ≡ index % capacity → 0 < capacity → slot < capacity
+slot_below index capacity slot is some_place = subst (λ (z : ℕ). z < capacity) (sym is) (mod-lt index some_place)
+
+-- its guard lies inside the words
+pub guard_below : (words capacity slot : ℕ) → words ≡ 36 + capacity → slot < capacity → 36 + slot < words
+guard_below words capacity slot are lt = omega (arith, are, lt)
+
+-- the guard at an end's own place
+pub guard_here : (n n0 slot : ℕ) (h h0 : Half) → h ≡ h0 → slot ≡ length h.entries % n → n ≡ n0 → 36 + slot ≡ guard_word n0 (length h0.entries)
+guard_here n n0 slot h h0 same at size = ap (λ (z : ℕ). 36 + z) (at ∙ (λ i. length (same i).entries % size i))
+
+-- what an end knows after it read the guard there
+module _ (n n0 slot : ℕ) (h h0 h' : Half) (r : ℕ) (same : h ≡ h0) (at : slot ≡ length h.entries % n) (size : n ≡ n0) where
+  place_here : 36 + slot ≡ guard_word n0 (length h0.entries)
+  place_here = guard_here n n0 slot h h0 same at size
+
+  pub seen_guard : (g : Option Slot) → h' ≡ after_look (nat_eq r 1) (36 + slot) r g h.ahead h → h' ≡ after_look (nat_eq (last_value h') 1) (guard_word n0 (length h0.entries)) (last_value h') h'.grant h0.ahead h0
+  seen_guard g is = is ∙ (λ i. after_look (nat_eq (sym (ap last_value is) i) 1) (place_here i) (sym (ap last_value is) i) (sym (ap (λ (z : Half). z.grant) is) i) (same i).ahead (same i))
+
+  pub roomed_guard : h' ≡ after_look (nat_eq r 0) (36 + slot) r (empty_if (nat_eq r 0)) h.ahead h → h' ≡ after_look (nat_eq (last_value h') 0) (guard_word n0 (length h0.entries)) (last_value h') (empty_if (nat_eq (last_value h') 0)) h0.ahead h0
+  roomed_guard is = is ∙ (λ i. after_look (nat_eq (sym (ap last_value is) i) 0) (place_here i) (sym (ap last_value is) i) (empty_if (nat_eq (sym (ap last_value is) i) 0)) (same i).ahead (same i))

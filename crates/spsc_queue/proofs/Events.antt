@@ -12,30 +12,34 @@ use Rattle.wire_core.specs.declared.names.Answer.{Answer}
 use Rattle.wire_core.specs.declared.names.Answer.TheVariants.{Done}
 use Rattle.wire_core.specs.Bells.{bit}
 use Rattle.wire_core.specs.Deeds.{Cargo, answer_of}
-use Rattle.wire_core.specs.Ends.{Condition, role_of}
+use Rattle.wire_core.specs.Ends.{Role, Consumer, Producer, Condition, role_of}
 use Rattle.wire_core.specs.Queues.{Queue, queue_after, next_index}
 use Rattle.spsc_queue.specs.declared.view.Half.{Half}
 use Rattle.spsc_queue.specs.Rule.{Slot, wrap, head_word, tail_word, flag_word, pending_word, laid, ListsHold, EndsHold}
-use Rattle.spsc_queue.specs.Steps.{empty_if, after_look, Granted, tells_room, tells_entry, room_ahead, entries_ahead, knows_one, sent_one, took_one, after_wake, after_wanted, known_end, CallDid}
+use Rattle.spsc_queue.specs.Steps.{empty_if, after_look, Granted, tells_room, tells_entry, room_ahead, entries_ahead, knows_one, sent_one, took_one, SeeDid, RoomDid, took, sent, after_wake, after_wanted, known_end, CallDid}
 use Rattle.spsc_queue.specs.Shown.{ring_queue, half_of, words_after, read_by, IsEvent}
 use Rattle.spsc_queue.proofs.Looks.{room_tells, entry_tells}
 use Rattle.spsc_queue.proofs.Calls.{granted_some}
 
-drop_all : (xs ys : List Cargo) → drop (length xs) (xs ++ ys) ≡ ys
+pub drop_all : (xs ys : List Cargo) → drop (length xs) (xs ++ ys) ≡ ys
 drop_all [] ys = refl
 drop_all (x ∷ xs) ys = drop_all xs ys
 
-drop_short : (t : ℕ) (xs ys : List Cargo) → t ≤ length xs → drop t (xs ++ ys) ≡ drop t xs ++ ys
+pub drop_short : (t : ℕ) (xs ys : List Cargo) → t ≤ length xs → drop t (xs ++ ys) ≡ drop t xs ++ ys
 drop_short zero xs ys le = refl
 drop_short (suc t) [] ys le = absurd (omega arith)
 drop_short (suc t) (x ∷ xs) ys le = drop_short t xs ys (omega arith)
 
-drop_next : (t : ℕ) (xs : List Cargo) → drop (suc t) xs ≡ drop 1 (drop t xs)
+pub drop_next : (t : ℕ) (xs : List Cargo) → drop (suc t) xs ≡ drop 1 (drop t xs)
 drop_next zero xs = refl
 drop_next (suc t) [] = refl
 drop_next (suc t) (x ∷ xs) = drop_next t xs
 
-module _ (kind : QueueKind) (n : ℕ) (hs : List (maybe.Option Slot)) (p c : Half) (l : ListsHold kind n hs p c) (ra : p.ahead + length l.left ≤ n) (ea : c.ahead ≤ length l.left) (flag pending flag_back pending_back : Bool) where
+-- what is shown is what is left
+pub shown_left : (kind : QueueKind) (n : ℕ) (hs : List (maybe.Option Slot)) (p c : Half) (l : ListsHold kind n hs p c) → drop (length c.entries) p.entries ≡ l.left
+shown_left kind n hs p c l = ap (λ (z : List Cargo). drop (length c.entries) z) l.sent ∙ drop_all c.entries l.left
+
+module _ (kind : QueueKind) (n : ℕ) (hs : List (maybe.Option Slot)) (p c : Half) (l : ListsHold kind n hs p c) (pw : p.wild ≡ false) (cw : c.wild ≡ false) (ra : p.ahead + length l.left ≤ n) (ea : c.ahead ≤ length l.left) (flag pending flag_back pending_back : Bool) where
   abbrev words : List ℕ
   words = laid (wrap (length c.entries)) (wrap (length p.entries)) (bit flag) (bit pending) (bit flag_back) (bit pending_back)
 
@@ -43,7 +47,7 @@ module _ (kind : QueueKind) (n : ℕ) (hs : List (maybe.Option Slot)) (p c : Hal
   shown = ring_queue kind n words p c
 
   left_is : drop (length c.entries) p.entries ≡ l.left
-  left_is = ap (λ (z : List Cargo). drop (length c.entries) z) l.sent ∙ drop_all c.entries l.left
+  left_is = shown_left kind n hs p c l
 
   counts : length p.entries ≡ length c.entries + length l.left
   counts = ap length l.sent ∙ length-append c.entries l.left
@@ -124,26 +128,36 @@ module _ (kind : QueueKind) (n : ℕ) (hs : List (maybe.Option Slot)) (p c : Hal
   some_is : (x y : Cargo) → Some x ≡ Some y → x ≡ y
   some_is x y e = cc
 
-  event : (o : Op) (a : Answer) (cargo : List Cargo) (h : Half) → Condition (known_end (half_of (role_of o) p c)) o → CallDid n (half_of (role_of o) p c) o (read_by words (half_of (role_of o) p c) o) a cargo h → IsEvent kind n words p c o a cargo h
-  event Do.See a cargo h may d = record {
+  see_event : (a : Answer) (cargo : List Cargo) (h : Half) → SeeDid false n c (read_by words c Do.See) a cargo h → IsEvent kind n words p c Do.See a cargo h
+  see_event a cargo h d = record {
     tells = d.1 ∙ ap answer_of (see_answers (knows_one c) refl);
     carries = d.2;
     after = subst (λ (z : Half × (Answer × List Cargo)). ring_queue kind n (words_after words c Do.See) p z.0 ≡ queue_after shown Do.See z.1.0 z.1.1) (λ i. (sym d.0 i, (sym d.1 i, sym d.2 i))) (see_goes (knows_one c) h.grant d.3);
   }
-  event Do.Room a cargo h may d = record {
+
+  room_event : (a : Answer) (cargo : List Cargo) (h : Half) → RoomDid false n p (read_by words p Do.Room) a cargo h → IsEvent kind n words p c Do.Room a cargo h
+  room_event a cargo h d = record {
     tells = d.1 ∙ ap answer_of (room_answers_too (knows_one p) refl);
     carries = d.2;
     after = subst (λ (z : Half × (Answer × List Cargo)). ring_queue kind n (words_after words p Do.Room) z.0 c ≡ queue_after shown Do.Room z.1.0 z.1.1) (λ i. (sym d.0 i, (sym d.1 i, sym d.2 i))) (room_goes (knows_one p));
   }
-  event Do.Take a cargo h may d = let x : Cargo = d.0 in let o = filled_by (Some x) d.3 in let same : x ≡ o.0 = some_is x o.0 o.1 in record {
+
+  tame_half : (r : Role) → (half_of r p c).wild ≡ false
+  tame_half Consumer = cw
+  tame_half Producer = pw
+
+  event : (o : Op) (a : Answer) (cargo : List Cargo) (h : Half) → Condition (known_end (half_of (role_of o) p c)) o → CallDid n (half_of (role_of o) p c) o (read_by words (half_of (role_of o) p c) o) a cargo h → IsEvent kind n words p c o a cargo h
+  event Do.See a cargo h may d = see_event a cargo h (subst (λ (z : Bool). SeeDid z n c (read_by words c Do.See) a cargo h) cw d)
+  event Do.Room a cargo h may d = room_event a cargo h (subst (λ (z : Bool). RoomDid z n p (read_by words p Do.Room) a cargo h) pw d)
+  event Do.Take a cargo h may d = let x : Cargo = d.0 in let o = filled_by (Some x) d.3 in let same : x ≡ o.0 = some_is x o.0 o.1 in let knows : h ≡ took_one x d.1 head_word (wrap (length c.entries + 1)) c = d.4 ∙ ap (λ (z : Bool). took z n x d.1 c) cw in record {
     tells = (d.5, ap (λ (z : List Cargo). nat_lt 0 (length z)) o.2 ∙ lt-ltb 0 (suc (length (drop 1 (drop (length c.entries) p.entries)))) (omega arith));
     carries = (o.0, d.2 ∙ ap (λ (z : Cargo). z ∷ []) same, o.2);
-    after = subst (λ (z : Half × (Answer × List Cargo)). ring_queue kind n (words_after words c Do.Take) p z.0 ≡ queue_after shown Do.Take z.1.0 z.1.1) (λ i. (sym d.4 i, (sym d.5 i, sym d.2 i))) (take_after x d.1);
+    after = subst (λ (z : Half × (Answer × List Cargo)). ring_queue kind n (words_after words c Do.Take) p z.0 ≡ queue_after shown Do.Take z.1.0 z.1.1) (λ i. (sym knows i, (sym d.5 i, sym d.2 i))) (take_after x d.1);
   }
-  event Do.Put a cargo h may d = let x : Cargo = d.0 in record {
+  event Do.Put a cargo h may d = let x : Cargo = d.0 in let knows : h ≡ sent_one x d.1 tail_word (wrap (length p.entries + 1)) p = d.3 ∙ ap (λ (z : Bool). sent z n x d.1 p) pw in record {
     tells = (d.4, roomed_by may.1);
     carries = (x, d.2, d.5 ∙ l.producer_kind);
-    after = subst (λ (z : Half × (Answer × List Cargo)). ring_queue kind n (words_after words p Do.Put) z.0 c ≡ queue_after shown Do.Put z.1.0 z.1.1) (λ i. (sym d.3 i, (sym d.4 i, sym d.2 i))) (put_after x d.1);
+    after = subst (λ (z : Half × (Answer × List Cargo)). ring_queue kind n (words_after words p Do.Put) z.0 c ≡ queue_after shown Do.Put z.1.0 z.1.1) (λ i. (sym knows i, (sym d.4 i, sym d.2 i))) (put_after x d.1);
   }
   event (Do.Wake Forward) a cargo h may d = record {
     tells = d.1;
@@ -205,10 +219,10 @@ module _ (kind : QueueKind) (n : ℕ) (hs : List (maybe.Option Slot)) (p c : Hal
     carries = d.2;
     after = subst (λ (z : Half × (Answer × List Cargo)). ring_queue kind n (words_after words c (Do.Ring Backward)) p z.0 ≡ queue_after shown (Do.Ring Backward) z.1.0 z.1.1) (λ i. (sym d.0 i, (sym d.1 i, sym d.2 i))) refl;
   }
-  event (Do.Store w v) a cargo h may d = absurd d
+  event (Do.Store w v) a cargo h may d = absurd (let z : false ≡ true = sym (tame_half (role_of (Do.Store w v))) ∙ d.3 in cc)
 
 -- the same on the words as they are
-pub is_event : (kind : QueueKind) (n : ℕ) (words : List ℕ) (hs : List (maybe.Option Slot)) (p c : Half) (o : Op) (a : Answer) (cargo : List Cargo) (h : Half) → EndsHold kind n words hs p c
+pub is_event : (kind : QueueKind) (n : ℕ) (words : List ℕ) (hs : List (maybe.Option Slot)) (p c : Half) (o : Op) (a : Answer) (cargo : List Cargo) (h : Half) → EndsHold false kind n words hs p c
     → Condition (known_end (half_of (role_of o) p c)) o → CallDid n (half_of (role_of o) p c) o (read_by words (half_of (role_of o) p c) o) a cargo h → IsEvent kind n words p c o a cargo h
 is_event kind n ws hs p c o a cargo h e may did = let s = e.shared in subst (λ (z : List ℕ). IsEvent kind n z p c o a cargo h) (sym s.words_are)
-    (event kind n hs p c e.lists s.room_ahead s.entries_ahead s.flag s.pending s.flag_back s.pending_back o a cargo h may (subst (λ (z : List ℕ). CallDid n (half_of (role_of o) p c) o (read_by z (half_of (role_of o) p c) o) a cargo h) s.words_are did))
+    (event kind n hs p c e.lists e.producer_sort e.consumer_sort s.room_ahead s.entries_ahead s.flag s.pending s.flag_back s.pending_back o a cargo h may (subst (λ (z : List ℕ). CallDid n (half_of (role_of o) p c) o (read_by z (half_of (role_of o) p c) o) a cargo h) s.words_are did))

@@ -2,9 +2,14 @@ pub mod Places
 pub mod Looks
 pub mod Told
 pub mod Ends
+pub mod Guards
+pub mod WildEnds
 pub mod Views
 pub mod Calls
 pub mod Opening
 pub mod Emptying
 pub mod Closing
 pub mod Events
+pub mod Rows
+pub mod WildEvents
+pub mod TwoSteps

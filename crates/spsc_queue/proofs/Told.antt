@@ -36,5 +36,5 @@ pub ring_told : (flag pending wishes : Bool) (asks settled rings woken : ℕ) �
 ring_told flag pending wishes asks settled rings woken h = let le = h.woken_within in record { flag_is = h.flag_is; settled_within = h.settled_within; pending_is = sym (lt-ltb woken (rings + 1) (omega (arith, le))); woken_within = omega (arith, le) }
 
 -- the words are what the two ends did
-pub words_are : (kind : QueueKind) (n : ℕ) (words : List ℕ) (homes : List (maybe.Option Slot)) (p c : Half) → EndsHold kind n words homes p c → words ≡ words_of p c
+pub words_are : (kind : QueueKind) (n : ℕ) (words : List ℕ) (homes : List (maybe.Option Slot)) (p c : Half) → EndsHold false kind n words homes p c → words ≡ words_of p c
 words_are kind n words homes p c e = e.shared.words_are ∙ (λ i. laid (wrap (length c.entries)) (wrap (length p.entries)) (bit (e.shared.forward_told.flag_is i)) (bit (e.shared.forward_told.pending_is i)) (bit (e.shared.backward_told.flag_is i)) (bit (e.shared.backward_told.pending_is i)))

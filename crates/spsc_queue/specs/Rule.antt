@@ -1,12 +1,15 @@
--- The rule of a ring: its words, its slots and what its two ends know stand for one queue with its
--- bells.
+-- The rule of a ring: its words, its slots and what its two ends know stand for one queue, and on a
+-- ring that isn't wild for its bells too.
 use Rattle.std.specs.Prelude.{◌≡◌, ℕ, ◌+◌, ◌%◌, ◌<◌, ◌≤◌, Bool, true, false, not, ◌&&◌, List}
 use Rattle.std.specs.Prelude.{[], ◌∷◌, ◌++◌, length, drop, All, Option, Some, None, nat_lt}
 use mathlib.Core.Option.{some}
 use mathlib.Core.Option as maybe
 use lib.ListN.{get_elem?}
 use Rattle.atomic_table.specs.Table.{State}
+use Rattle.cargo_core.specs.declared.act.Word.{Word}
+use Rattle.cargo_core.specs.declared.act.Word.TheVariants as Words
 use Rattle.cargo_core.specs.declared.item.QueueKind.{QueueKind}
+use Rattle.cargo_core.specs.declared.item.QueueKind.TheVariants as Kind
 use Rattle.cargo_core.specs.Items.{kind_of}
 use Rattle.wire_core.specs.declared.names.BellState.{BellState}
 use Rattle.wire_core.specs.declared.names.Side.{Side}
@@ -17,6 +20,7 @@ use Rattle.wire_core.specs.Bells.{BellHolds, bit}
 use Rattle.wire_core.specs.Deeds.{Cargo}
 use Rattle.spsc_queue.specs.declared.view.Half.{Half}
 use Rattle.spsc_queue.specs.declared.view.View.{View}
+use Rattle.spsc_queue.specs.declared.rule.Terms.{Terms}
 
 -- an empty place, or an entry
 abbrev pub Slot : Type 0
@@ -39,6 +43,28 @@ flag_word Backward = 2
 abbrev pub pending_word : Side → ℕ
 pending_word Forward = 1
 pending_word Backward = 20
+
+-- the word of each name
+abbrev pub place_of_word : Word → ℕ
+place_of_word Words.Head = head_word
+place_of_word Words.Tail = tail_word
+place_of_word Words.Flag = flag_word Forward
+place_of_word Words.FlagBack = flag_word Backward
+place_of_word Words.Pending = pending_word Forward
+place_of_word Words.PendingBack = pending_word Backward
+
+-- what a word holds after a store of a value: the index words hold 16 bits of it, the others one
+abbrev pub stored_value : Word → ℕ → ℕ
+stored_value Words.Head v = v % 65536
+stored_value Words.Tail v = v % 65536
+stored_value Words.Flag v = v % 2
+stored_value Words.FlagBack v = v % 2
+stored_value Words.Pending v = v % 2
+stored_value Words.PendingBack v = v % 2
+
+-- the word of the guard of the place of an index, on a ring of n places
+abbrev pub guard_word : ℕ → ℕ → ℕ
+guard_word n index = 36 + index % n
 
 -- How the six words lie among others that no call touches: those that the consumer looks at most
 -- stand far from those of the producer.
@@ -141,14 +167,29 @@ abbrev pub words_of : Half → Half → List ℕ
 words_of p c = laid (wrap (length c.entries)) (wrap (length p.entries)) (bit (flag_of c p))
     (bit (pending_of c p)) (bit (flag_of p c)) (bit (pending_of p c))
 
--- what the two ends know, with the slots and the words
-pub record EndsHold (kind : QueueKind) (n : ℕ) (words : List ℕ) (homes : List (maybe.Option Slot))
-    (p c : Half) : Type 0 where
+-- the guards of a wild ring of n places, where t entries were taken and these are left: each place
+-- has the index of one of the n entries from the next one to be taken on, and its guard is 1 where
+-- that entry was sent, and else 0
+abbrev pub GuardsHold : ℕ → List ℕ → ℕ → List Cargo → Type 0
+GuardsHold n words t left = (k : ℕ) → k < n
+    → get_elem? words (guard_word n (t + k)) ≡ some (bit (nat_lt k (length left)))
+
+-- what the words are: on a wild ring nothing is said of the six, in which either end may store what
+-- it likes, and the guards tell what they did elsewhere
+abbrev pub SharedHold : (wild : Bool) → ℕ → List ℕ → List Cargo → Half → Half → Type 0
+SharedHold false n words left p c = WordsHold n words left p c
+SharedHold true n words left p c = GuardsHold n words (length c.entries) left
+
+-- what the two ends know, with the slots and the words, on a ring of this sort
+pub record EndsHold (wild : Bool) (kind : QueueKind) (n : ℕ) (words : List ℕ)
+    (homes : List (maybe.Option Slot)) (p c : Half) : Type 0 where
   pub lists : ListsHold kind n homes p c
-  pub shared : WordsHold n words lists.left p c
+  pub producer_sort : p.wild ≡ wild
+  pub consumer_sort : c.wild ≡ wild
+  pub shared : SharedHold wild n words lists.left p c
 
 -- one seat produces, one consumes, and what these two know fits the words and slots
-pub record RingHolds (kind : QueueKind) (s : State Slot View) : Type 0 where
+pub record RingHolds (wild : Bool) (kind : QueueKind) (s : State Slot View) : Type 0 where
   pub p : ℕ
   pub c : ℕ
   pub producing : View
@@ -159,7 +200,12 @@ pub record RingHolds (kind : QueueKind) (s : State Slot View) : Type 0 where
   pub consumes : consuming.consumes ≡ true
   pub one_producer : (j : ℕ) (v : View) → get_elem? s.views j ≡ some v → v.produces ≡ true → j ≡ p
   pub one_consumer : (j : ℕ) (v : View) → get_elem? s.views j ≡ some v → v.consumes ≡ true → j ≡ c
-  pub ends : EndsHold kind (length s.homes) s.words s.homes producing.producer consuming.consumer
+  pub ends : EndsHold wild kind (length s.homes) s.words s.homes
+      producing.producer consuming.consumer
+
+-- the rule of a ring on these terms
+abbrev pub TermsHold : Terms → State Slot View → Type 0
+TermsHold t s = RingHolds t.wild t.kind s
 
 -- what the producer of a new ring knows
 abbrev pub first_producer : QueueKind → Half
@@ -177,6 +223,7 @@ first_producer k = record {
   woken = 0;
   settled = 0;
   rings = 0;
+  wild = false;
   walked = [];
 }
 
@@ -196,14 +243,32 @@ first_consumer k = record {
   woken = 0;
   settled = 0;
   rings = 0;
+  wild = false;
   walked = [];
 }
 
+-- what the producer of a new wild ring knows
+abbrev pub wild_producer : QueueKind → Half
+wild_producer k = record (first_producer k) { wild = true }
+
+-- what its consumer knows
+abbrev pub wild_consumer : QueueKind → Half
+wild_consumer k = record (first_consumer k) { wild = true }
+
 -- what the one seat of a new ring knows, which has both roles
-abbrev pub first_view : QueueKind → View
-first_view k = record {
+abbrev pub first_view : Terms → View
+first_view t = record {
   produces = true;
   consumes = true;
-  producer = first_producer k;
-  consumer = first_consumer k;
+  producer = record (first_producer t.kind) { wild = t.wild };
+  consumer = record (first_consumer t.kind) { wild = t.wild };
+}
+
+-- what a seat knows that has no role and knew of nothing
+abbrev pub blank_view : View
+blank_view = record {
+  produces = false;
+  consumes = false;
+  producer = first_producer Kind.Byte;
+  consumer = first_consumer Kind.Byte;
 }

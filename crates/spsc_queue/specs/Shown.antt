@@ -1,20 +1,20 @@
 -- The queue that the words and the two ends show at a moment, and how a call goes on from there.
-use Rattle.std.specs.Prelude.{◌≡◌, ℕ, ◌+◌, ◌%◌, Bool, false, List, length, drop, nat_eq, is_some}
-use Rattle.std.specs.Prelude.{slice_index, slice_set, if◌then◌else◌}
+use Rattle.std.specs.Prelude.{◌≡◌, ℕ, ◌+◌, Bool, true, false, ◌&&◌, ◌||◌, List, length, drop}
+use Rattle.std.specs.Prelude.{nat_eq, is_some, slice_index, slice_set, if◌then◌else◌}
 use Rattle.cargo_core.specs.declared.item.QueueKind.{QueueKind}
-use Rattle.cargo_core.specs.declared.act.Word.{Word}
-use Rattle.cargo_core.specs.declared.act.Word.TheVariants as Words
 use Rattle.wire_core.specs.declared.names.Op.{Op}
 use Rattle.wire_core.specs.declared.names.Op.TheVariants as Do
 use Rattle.wire_core.specs.declared.names.Side.TheVariants.{Forward, Backward}
 use Rattle.wire_core.specs.declared.names.Answer.{Answer}
 use Rattle.wire_core.specs.Deeds.{Cargo}
-use Rattle.wire_core.specs.Ends.{Role, Consumer, Producer, role_of}
-use Rattle.wire_core.specs.Queues.{Queue, Tells, Carries, is_filled, has_room, queue_after}
+use Rattle.wire_core.specs.declared.names.Answer.TheVariants.{Done, Yes, No}
+use Rattle.wire_core.specs.Ends.{Role, Consumer, Producer, role_of, end_after}
+use Rattle.wire_core.specs.Queues.{Queue, Tells, Finds, Carries, is_filled, has_room}
+use Rattle.wire_core.specs.Queues.{entries_after, queue_after}
 use Rattle.spsc_queue.specs.declared.view.Half.{Half}
 use Rattle.spsc_queue.specs.Rule.{wrap, head_word, tail_word, flag_word, pending_word}
-use Rattle.spsc_queue.specs.Rule.{forward_bell, backward_bell}
-use Rattle.spsc_queue.specs.Steps.{knows_one}
+use Rattle.spsc_queue.specs.Rule.{place_of_word, stored_value, forward_bell, backward_bell}
+use Rattle.spsc_queue.specs.Steps.{knows_one, known_end, last_word, last_value}
 
 -- whether a flag or pending word is 1
 abbrev pub is_set : List ℕ → ℕ → Bool
@@ -45,24 +45,6 @@ ring_queue kind n words p c = record {
     stored = false;
   };
 }
-
--- the place of a word
-abbrev pub place_of_word : Word → ℕ
-place_of_word Words.Head = head_word
-place_of_word Words.Tail = tail_word
-place_of_word Words.Flag = flag_word Forward
-place_of_word Words.FlagBack = flag_word Backward
-place_of_word Words.Pending = pending_word Forward
-place_of_word Words.PendingBack = pending_word Backward
-
--- what a word holds after a store of a value: the index words hold 16 bits of it, the others one
-abbrev pub stored_value : Word → ℕ → ℕ
-stored_value Words.Head v = v % 65536
-stored_value Words.Tail v = v % 65536
-stored_value Words.Flag v = v % 2
-stored_value Words.FlagBack v = v % 2
-stored_value Words.Pending v = v % 2
-stored_value Words.PendingBack v = v % 2
 
 -- the word that a call of this end reads or writes
 abbrev pub word_of : Half → Op → ℕ
@@ -119,3 +101,79 @@ pub record IsEvent (kind : QueueKind) (n : ℕ) (words : List ℕ) (p c : Half) 
   pub carries : Carries (ring_queue kind n words p c) o cargo
   pub after : queue_with (role_of o) kind n (words_after words (half_of (role_of o) p c) o) p c h
       ≡ queue_after (ring_queue kind n words p c) o a cargo
+
+-- the last step of a look read what stands there at this moment
+abbrev pub WasRead : List ℕ → Op → Half → Type 0
+WasRead words Do.See h = slice_index words (last_word h) ≡ last_value h
+WasRead words Do.Room h = slice_index words (last_word h) ≡ last_value h
+WasRead words Do.Take h = Unit {0}
+WasRead words Do.Put h = Unit {0}
+WasRead words (Do.Ask s) h = Unit {0}
+WasRead words (Do.Waive s) h = Unit {0}
+WasRead words (Do.Wake s) h = Unit {0}
+WasRead words (Do.Wanted s) h = Unit {0}
+WasRead words (Do.Settle s) h = Unit {0}
+WasRead words (Do.Ring s) h = Unit {0}
+WasRead words (Do.Store w v) h = Unit {0}
+
+-- the entries that are shown where the end of a role now knows h
+abbrev pub entries_with : Role → Half → Half → Half → List Cargo
+entries_with Consumer p c h = drop (length h.entries) p.entries
+entries_with Producer p c h = drop (length c.entries) h.entries
+
+-- A call on a wild ring: it finds an entry or room where the queue law asks for it, it moves what
+-- the law moves, and what stands in the queue after it is the law's, whatever the words are.
+pub record IsWildEvent (kind : QueueKind) (n : ℕ) (words : List ℕ) (p c : Half) (o : Op)
+    (a : Answer) (cargo : List Cargo) (h : Half) : Type 0 where
+  pub finds : Finds (is_filled (ring_queue kind n words p c))
+      (has_room (ring_queue kind n words p c)) o a
+  pub carries : Carries (ring_queue kind n words p c) o cargo
+  pub after : entries_with (role_of o) p c h
+      ≡ entries_after (ring_queue kind n words p c).entries o cargo
+  pub end : known_end h ≡ end_after (known_end (half_of (role_of o) p c)) o a
+
+-- the call is a look
+abbrev pub is_look : Op → Bool
+is_look Do.See = true
+is_look Do.Room = true
+is_look Do.Take = false
+is_look Do.Put = false
+is_look (Do.Ask s) = false
+is_look (Do.Waive s) = false
+is_look (Do.Wake s) = false
+is_look (Do.Wanted s) = false
+is_look (Do.Settle s) = false
+is_look (Do.Ring s) = false
+is_look (Do.Store w v) = false
+
+-- the answer is no
+abbrev pub is_no : Answer → Bool
+is_no No = true
+is_no Yes = false
+is_no Done = false
+
+-- the noes that a call counts
+abbrev pub more_noes : Op → Answer → ℕ
+more_noes o a = if is_look o && is_no a then 1 else 0
+
+-- the call moves an entry
+abbrev pub moves : Op → Bool
+moves Do.Take = true
+moves Do.Put = true
+moves Do.See = false
+moves Do.Room = false
+moves (Do.Ask s) = false
+moves (Do.Waive s) = false
+moves (Do.Wake s) = false
+moves (Do.Wanted s) = false
+moves (Do.Settle s) = false
+moves (Do.Ring s) = false
+moves (Do.Store w v) = false
+
+-- how many word steps a call makes at least, on a ring of this sort
+abbrev pub fewest_steps : (wild : Bool) → Op → ℕ
+fewest_steps wild o = if wild && moves o then 2 else 1
+
+-- and how many at most
+abbrev pub most_steps : (wild : Bool) → Op → ℕ
+most_steps wild o = if wild && (moves o || is_look o) then 2 else 1

@@ -1,23 +1,23 @@
 -- What each step on a ring tells.
 use Rattle.std.specs.Prelude.{◌≡◌, ◌≢◌, ℕ, ◌+◌, ◌-◌, ◌%◌, ◌<◌, Bool, true, false, not, ◌||◌}
 use Rattle.std.specs.Prelude.{List, [], ◌∷◌, ◌++◌, length, Option, Some, None, nat_eq, nat_lt}
-use Rattle.std.specs.Prelude.{is_some, if◌then◌else◌}
+use Rattle.std.specs.Prelude.{is_some, if◌then◌else◌, ◌&&◌, nat_le}
 use Rattle.atomic_table.specs.Table.{Me, Step}
 use Rattle.cargo_core.specs.declared.item.QueueKind.{QueueKind}
 use Rattle.cargo_core.specs.Items.{kind_of}
 use Rattle.wire_core.specs.declared.names.Op.{Op}
 use Rattle.wire_core.specs.declared.names.Op.TheVariants as Do
 use Rattle.wire_core.specs.declared.names.Answer.{Answer}
-use Rattle.wire_core.specs.declared.names.Answer.TheVariants.{Done}
+use Rattle.wire_core.specs.declared.names.Answer.TheVariants.{Done, No}
 use Rattle.wire_core.specs.declared.names.Ringer.TheVariants as Rung
 use Rattle.wire_core.specs.declared.names.Waiter.TheVariants as Wait
-use Rattle.cargo_core.specs.declared.item.QueueKind.TheVariants as Kind
 use Rattle.wire_core.specs.Deeds.{Cargo, answer_of}
 use Rattle.wire_core.specs.Ends.{End, looked_waiter, woken_waiter, wanted_ringer}
+use Rattle.wire_core.specs.Queues.{ahead}
 use Rattle.spsc_queue.specs.declared.view.Half.{Half}
 use Rattle.spsc_queue.specs.declared.view.View.{View}
 use Rattle.spsc_queue.specs.Rule.{Slot, wrap, head_word, tail_word, flag_word, pending_word}
-use Rattle.spsc_queue.specs.Rule.{first_view}
+use Rattle.spsc_queue.specs.Rule.{guard_word, place_of_word, stored_value, blank_view}
 
 -- what a seat knows, and the slots that it holds
 abbrev pub Seated : Type 0
@@ -48,6 +48,15 @@ last_of (s ∷ ss) = s.1
 -- how many stand there then
 abbrev pub entries_ahead : ℕ → ℕ → ℕ
 entries_ahead taken tail = (wrap tail + (65536 - wrap taken)) % 65536
+
+-- the word of the last of them
+abbrev pub last_place : List (ℕ × ℕ) → ℕ
+last_place [] = 0
+last_place (s ∷ ss) = s.0
+
+-- the word of the last step
+abbrev pub last_word : Half → ℕ
+last_word h = last_place h.walked
 
 -- what the last step on a word read or stored there
 abbrev pub last_value : Half → ℕ
@@ -132,7 +141,8 @@ sent_one x t w r h = record h {
   walked = (w, r) ∷ h.walked;
 }
 
--- the step of `put` at a time: a store to the tail, at which the granted slot goes home filled
+-- the step of `put` at a time, at which the granted slot goes home filled: a store to the tail, or
+-- on a wild ring to the guard
 abbrev pub put_done : ℕ → Step Slot → Seated → ℕ → Seated → Type 0
 put_done t st m r m' = (x : Cargo) → m.1 ≡ (length m.0.producer.entries % st.slots, Some x) ∷ []
     → (m'.0 ≡ with_producer m.0 (sent_one x t st.word r m.0.producer)) × (m'.1 ≡ [])
@@ -190,10 +200,71 @@ took_one x t w r h = record h {
   walked = (w, r) ∷ h.walked;
 }
 
--- the step of `take`: a store to the head, at which the granted slot goes home empty
+-- the step of `take`, at which the granted slot goes home empty: a store to the head, or on a wild
+-- ring to the guard
 abbrev pub take_done : Step Slot → Seated → ℕ → Seated → Type 0
 take_done st m r m' = (x : Cargo) → m.0.consumer.grant ≡ Some (Some x)
     → (t : ℕ) × (m'.0 ≡ with_consumer m.0 (took_one x t st.word r m.0.consumer)) × (m'.1 ≡ [])
+
+-- one step more on a word, and nothing else
+abbrev pub passed : ℕ → ℕ → Half → Half
+passed w r h = record h { walked = (w, r) ∷ h.walked }
+
+-- Whether the tail that the consumer of a wild ring read tells of an entry. One that is further
+-- ahead than the capacity was stored by a neighbour that keeps no rule.
+abbrev pub fits_entry : ℕ → ℕ → ℕ → Bool
+fits_entry n taken tail = nat_lt 0 (ahead (wrap taken) (wrap tail))
+    && nat_le (ahead (wrap taken) (wrap tail)) n
+
+-- whether the head that its producer read tells of room
+abbrev pub fits_room : ℕ → ℕ → ℕ → Bool
+fits_room n sent head = nat_lt (ahead (wrap head) (wrap sent)) n
+
+-- An end of a wild ring after it read the other end's index: where that fits, the guard is looked
+-- at next, and where it doesn't, the look is over with no, and a granted slot goes home.
+abbrev pub index_read : Bool → ℕ → ℕ → Half → Half
+index_read true w r h = passed w r h
+index_read false w r h = after_look false w r None h.ahead h
+
+-- the slots that it holds then
+abbrev pub slots_kept : Bool → List (ℕ × Slot) → List (ℕ × Slot)
+slots_kept true m = m
+slots_kept false m = []
+
+-- the first step of `see` on a wild ring: a load of the tail
+abbrev pub tail_read : Step Slot → Seated → ℕ → Seated → Type 0
+tail_read st m r m' = (m'.0 ≡ with_consumer m.0 (index_read
+    (fits_entry st.slots (length m.0.consumer.entries) r) st.word r m.0.consumer))
+    × (m'.1 ≡ slots_kept (fits_entry st.slots (length m.0.consumer.entries) r) m.1)
+
+-- the second: a load of the guard at its own place, which grants the slot where it is 1
+abbrev pub entry_guard_read : Step Slot → Seated → ℕ → Seated → Type 0
+entry_guard_read st m r m' = (g : Option Slot) × Granted m.0.consumer.kind (nat_eq r 1) g
+    × (m'.0 ≡ with_consumer m.0
+    (after_look (nat_eq r 1) st.word r g m.0.consumer.ahead m.0.consumer))
+    × (m'.1 ≡ slots_held g (length m.0.consumer.entries % st.slots))
+
+-- the first step of `room` on a wild ring: a load of the head
+abbrev pub head_read : Step Slot → Seated → ℕ → Seated → Type 0
+head_read st m r m' = (m'.0 ≡ with_producer m.0 (index_read
+    (fits_room st.slots (length m.0.producer.entries) r) st.word r m.0.producer))
+    × (m'.1 ≡ slots_kept (fits_room st.slots (length m.0.producer.entries) r) m.1)
+
+-- the second: a load of the guard at its own place, which grants the slot where it is 0
+abbrev pub room_guard_read : Step Slot → Seated → ℕ → Seated → Type 0
+room_guard_read st m r m' = (m'.0 ≡ with_producer m.0 (after_look (nat_eq r 0) st.word r
+    (empty_if (nat_eq r 0)) m.0.producer.ahead m.0.producer))
+    × (m'.1 ≡ slots_held (empty_if (nat_eq r 0)) (length m.0.producer.entries % st.slots))
+
+-- a store to one of the six words of a wild ring, of which its rule says nothing
+abbrev pub producer_passed : Step Slot → Seated → ℕ → Seated → Type 0
+producer_passed st m r m' = (m'.0 ≡ with_producer m.0 (passed st.word r m.0.producer))
+    × (m'.1 ≡ m.1) × (m.0.producer.wild ≡ true)
+
+-- the same of the consumer
+abbrev pub consumer_passed : Step Slot → Seated → ℕ → Seated → Type 0
+consumer_passed st m r m' = (m'.0 ≡ with_consumer m.0 (passed st.word r m.0.consumer))
+    × (m'.1 ≡ m.1) × (m.0.consumer.wild ≡ true)
 
 -- A step that leaves the slots alone: the end is told the word, and what was read or stored there.
 abbrev pub producer_turned : (ℕ → ℕ → Half → Half) → Step Slot → Seated → ℕ → Seated → Type 0
@@ -247,9 +318,10 @@ after_ring w r h = record h {
   walked = (w, r) ∷ h.walked;
 }
 
--- something was pending just where notifications were made since the last time
+-- something was pending just where notifications were made since the last time; on a wild ring it
+-- is as it was stored
 abbrev pub IsWoken : ℕ → Half → Half → Type 0
-IsWoken r h h' = nat_eq r 1 ≡ nat_lt h.woken h'.woken
+IsWoken r h h' = h.wild ≡ false → nat_eq r 1 ≡ nat_lt h.woken h'.woken
 
 -- the producer takes what is pending, and is told how many notifications were made
 abbrev pub producer_woken : Step Slot → Seated → ℕ → Seated → Type 0
@@ -305,7 +377,7 @@ memory_of v = record v { produces = false; consumes = false }
 
 -- what is left of a seat that was joined
 abbrev pub spent : View
-spent = memory_of (first_view Kind.Byte)
+spent = blank_view
 
 -- what its owner knows of an end
 abbrev pub known_end : Half → End
@@ -317,19 +389,58 @@ known_end h = record {
   looked = is_some h.grant;
 }
 
--- What one call makes of what an end knows, on a ring of n places, where its step read r: the
--- answer, the entry that it moved, and what the end knows then. Each row counts one step, with the
--- word and what was read or stored there, and a look that answers no counts one no.
-abbrev pub CallDid : ℕ → Half → Op → ℕ → Answer → List Cargo → Half → Type 0
-CallDid n h Do.See r a c h' = (h' ≡ see_told h'.grant h r)
+-- what `see` makes of the consumer of a wild ring that read the tail x, by whether that fits, and
+-- where it does, read r at the guard of its place
+abbrev pub EntryTold : (fits : Bool) → ℕ → Half → (x r : ℕ) → Answer → Half → Type 0
+EntryTold false n h x r a h' = (h' ≡ index_read false tail_word x h) × (a ≡ No)
+EntryTold true n h x r a h' = (h' ≡ after_look (nat_eq r 1) (guard_word n (length h.entries)) r
+    h'.grant h.ahead (passed tail_word x h))
+    × (a ≡ answer_of (nat_eq r 1)) × Granted h.kind (nat_eq r 1) h'.grant
+
+-- the same of `room` and the head x
+abbrev pub RoomTold : (fits : Bool) → ℕ → Half → (x r : ℕ) → Answer → Half → Type 0
+RoomTold false n h x r a h' = (h' ≡ index_read false head_word x h) × (a ≡ No)
+RoomTold true n h x r a h' = (h' ≡ after_look (nat_eq r 0) (guard_word n (length h.entries)) r
+    (empty_if (nat_eq r 0)) h.ahead (passed head_word x h)) × (a ≡ answer_of (nat_eq r 0))
+
+-- what `see` makes of what the consumer knows, on a ring of this sort of n places, where its last
+-- step read r
+abbrev pub SeeDid : (wild : Bool) → ℕ → Half → ℕ → Answer → List Cargo → Half → Type 0
+SeeDid false n h r a c h' = (h' ≡ see_told h'.grant h r)
     × (a ≡ answer_of (see_answer h r)) × (c ≡ []) × Granted h.kind (see_answer h r) h'.grant
-CallDid n h Do.Room r a c h' = (h' ≡ room_told n h r)
+SeeDid true n h r a c h' = (x : ℕ) × (c ≡ [])
+    × EntryTold (fits_entry n (length h.entries) x) n h x r a h'
+
+-- what `room` makes of what the producer knows
+abbrev pub RoomDid : (wild : Bool) → ℕ → Half → ℕ → Answer → List Cargo → Half → Type 0
+RoomDid false n h r a c h' = (h' ≡ room_told n h r)
     × (a ≡ answer_of (room_answer n h r)) × (c ≡ [])
+RoomDid true n h r a c h' = (x : ℕ) × (c ≡ [])
+    × RoomTold (fits_room n (length h.entries) x) n h x r a h'
+
+-- the consumer after it took what was put at a time: on a wild ring it stores to the guard before
+-- it stores its index
+abbrev pub took : (wild : Bool) → ℕ → Cargo → ℕ → Half → Half
+took false n x t h = took_one x t head_word (wrap (length h.entries + 1)) h
+took true n x t h = passed head_word (wrap (length h.entries + 1))
+    (took_one x t (guard_word n (length h.entries)) 0 h)
+
+-- the producer after a put at a time
+abbrev pub sent : (wild : Bool) → ℕ → Cargo → ℕ → Half → Half
+sent false n x t h = sent_one x t tail_word (wrap (length h.entries + 1)) h
+sent true n x t h = passed tail_word (wrap (length h.entries + 1))
+    (sent_one x t (guard_word n (length h.entries)) 1 h)
+
+-- What one call makes of what an end knows, on a ring of n places, where its last step read r: the
+-- answer, the entry that it moved, and what the end knows then. Each row has each step of the call,
+-- with the word and what was read or stored there, and a look that answers no counts one no.
+abbrev pub CallDid : ℕ → Half → Op → ℕ → Answer → List Cargo → Half → Type 0
+CallDid n h Do.See r a c h' = SeeDid h.wild n h r a c h'
+CallDid n h Do.Room r a c h' = RoomDid h.wild n h r a c h'
 CallDid n h Do.Take r a c h' = (x : Cargo) × (t : ℕ) × (c ≡ x ∷ []) × (h.grant ≡ Some (Some x))
-    × (h' ≡ took_one x t head_word (wrap (length h.entries + 1)) h) × (a ≡ Done)
+    × (h' ≡ took h.wild n x t h) × (a ≡ Done)
 CallDid n h Do.Put r a c h' = (x : Cargo) × (t : ℕ) × (c ≡ x ∷ [])
-    × (h' ≡ sent_one x t tail_word (wrap (length h.entries + 1)) h) × (a ≡ Done)
-    × (kind_of x.0 ≡ h.kind)
+    × (h' ≡ sent h.wild n x t h) × (a ≡ Done) × (kind_of x.0 ≡ h.kind)
 CallDid n h (Do.Ask s) r a c h' = (h' ≡ asked (flag_word s) 0 h) × (a ≡ Done) × (c ≡ [])
 CallDid n h (Do.Waive s) r a c h' = (h' ≡ waived (flag_word s) 1 h) × (a ≡ Done) × (c ≡ [])
 CallDid n h (Do.Wake s) r a c h' = (h' ≡ after_wake (pending_word s) r h'.woken h)
@@ -339,8 +450,8 @@ CallDid n h (Do.Wanted s) r a c h' = (h' ≡ after_wanted (flag_word s) r h)
 CallDid n h (Do.Settle s) r a c h' = (h' ≡ after_settle (flag_word s) 1 h'.settled h)
     × (a ≡ Done) × (c ≡ [])
 CallDid n h (Do.Ring s) r a c h' = (h' ≡ after_ring (pending_word s) 1 h) × (a ≡ Done) × (c ≡ [])
--- no end of such a ring stores
-CallDid n h (Do.Store w v) r a c h' = ⊥
+CallDid n h (Do.Store w v) r a c h' = (h' ≡ passed (place_of_word w) (stored_value w v) h)
+    × (a ≡ Done) × (c ≡ []) × (h.wild ≡ true)
 
 -- the same, where what was read is what the end did last
 abbrev pub EndDid : ℕ → Half → Op → Answer → List Cargo → Half → Type 0

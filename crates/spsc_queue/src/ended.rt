@@ -1,7 +1,7 @@
 //! How a ring comes to its end: both ends are given up, and what was sent, taken and left is known,
 //! with both bells.
 ghost use Rattle.std.specs.Prelude.{◌≡◌, ◌<◌, ◌≤◌, ◌++◌, ◌%◌, length, drop, nat_lt, slice_get, All};
-ghost use Rattle.std.specs.Prelude.{IfOk, List, ℕ};
+ghost use Rattle.std.specs.Prelude.{IfOk, List, ℕ, false};
 ghost use Rattle.std.specs.Slots.{slots_len, slots_items, IsFull};
 ghost use Rattle.cargo_core.specs.Items.{kind_of};
 ghost use Rattle.wire_core.specs.Bells.{BellHolds};
@@ -126,7 +126,8 @@ fn take_left(
     Ok(left)
 }
 
-/// Gives up both ends, so that neither can be used again, and takes apart what they shared. After
+/// Gives up both ends, so that neither can be used again, and takes apart what they shared. The
+/// bells are what the two ends know, but on a wild ring, where they are as they were stored. After
 /// Memory, the answer for want of memory alone, all three are gone.
 pub fn finish(ring: Ring, producer: Producer, consumer: Consumer) -> Result<Ended, Memory>
     requires producer { producer.ring ≡ ring.id }
@@ -141,15 +142,18 @@ pub fn finish(ring: Ring, producer: Producer, consumer: Consumer) -> Result<Ende
     ensures kinds { IfOk result (λ e. (producer.knows.kind ≡ ring.kind)
         × (consumer.knows.kind ≡ ring.kind)
         × All (λ x. kind_of x.0 ≡ ring.kind) producer.knows.entries) }
-    ensures forward { IfOk result (λ e.
-        (e.forward ≡ forward_bell e.forward.flag e.forward.pending producer.knows consumer.knows)
-        × BellHolds e.forward (nat_lt 0 (length e.left)) (length producer.knows.entries)) }
-    ensures backward { IfOk result (λ e.
-        (e.backward
-        ≡ backward_bell e.backward.flag e.backward.pending producer.knows consumer.knows)
+    ensures sorts { IfOk result (λ e. (producer.knows.wild ≡ ring.wild)
+        × (consumer.knows.wild ≡ ring.wild)) }
+    ensures forward { IfOk result (λ e. e.forward
+        ≡ forward_bell e.forward.flag e.forward.pending producer.knows consumer.knows) }
+    ensures backward { IfOk result (λ e. e.backward
+        ≡ backward_bell e.backward.flag e.backward.pending producer.knows consumer.knows) }
+    ensures bells { IfOk result (λ e. ring.wild ≡ false
+        → BellHolds e.forward (nat_lt 0 (length e.left)) (length producer.knows.entries)
         × BellHolds e.backward (nat_lt (length e.left) ring.id.slots)
         (length consumer.knows.entries)) }
-    ensures words { IfOk result (λ e. (e.forward.flag ≡ flag_of consumer.knows producer.knows)
+    ensures words { IfOk result (λ e. ring.wild ≡ false
+        → (e.forward.flag ≡ flag_of consumer.knows producer.knows)
         × (e.forward.pending ≡ pending_of consumer.knows producer.knows)
         × (e.backward.flag ≡ flag_of producer.knows consumer.knows)
         × (e.backward.pending ≡ pending_of producer.knows consumer.knows)) }
@@ -165,6 +169,7 @@ pub fn finish(ring: Ring, producer: Producer, consumer: Consumer) -> Result<Ende
         ahead: _,
         waiter: waiter_back,
         ringer,
+        wild: _,
     } = producer;
     let Consumer {
         seat: mut other,
@@ -172,6 +177,7 @@ pub fn finish(ring: Ring, producer: Producer, consumer: Consumer) -> Result<Ende
         ahead: _,
         waiter,
         ringer: ringer_back,
+        wild: _,
     } = consumer;
     table.shared.load::<plays::ProducerHome>(&mut seat, TAIL);
     table.shared.load::<plays::ConsumerHome>(&mut other, HEAD);

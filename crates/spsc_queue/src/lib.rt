@@ -15,12 +15,13 @@ mod producer;
 mod ring;
 mod rule;
 mod view;
+mod waiting;
 
 pub use both::both_look;
 pub use clock::Clock;
 pub use consumer::Consumer;
 pub use ended::{Ended, finish};
-pub use laws::ring_law;
+pub use laws::{call_law, ring_law, wild_law};
 pub use producer::Producer;
-pub use ring::{Ring, open};
+pub use ring::{Ring, open, open_wild};
 pub use view::{Half, View};

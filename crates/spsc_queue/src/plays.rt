@@ -2,7 +2,9 @@
 //! and the last is joined. Each step of a call tells the word that it was on and what was read or
 //! stored there, as the step has them, and nothing else may stand in what was walked.
 ghost use Rattle.spsc_queue.specs.Steps.{room_done, room_again, put_done, see_done, see_again};
-ghost use Rattle.spsc_queue.specs.Steps.{take_done, producer_turned};
+ghost use Rattle.spsc_queue.specs.Steps.{take_done, producer_turned, tail_read, head_read};
+ghost use Rattle.spsc_queue.specs.Steps.{entry_guard_read, room_guard_read, producer_passed};
+ghost use Rattle.spsc_queue.specs.Steps.{consumer_passed};
 ghost use Rattle.spsc_queue.specs.Steps.{consumer_turned, producer_woken, consumer_woken};
 ghost use Rattle.spsc_queue.specs.Steps.{producer_settled, consumer_settled, asked, waived};
 ghost use Rattle.spsc_queue.specs.Steps.{after_wanted, after_ring, producer_home, consumer_home};
@@ -51,6 +53,42 @@ pub(crate) struct Take;
 
 impl Play<Slot, View> for Take {
     ghost then = { take_done };
+}
+
+pub(crate) struct TailRead;
+
+impl Play<Slot, View> for TailRead {
+    ghost then = { tail_read };
+}
+
+pub(crate) struct EntryGuard;
+
+impl Play<Slot, View> for EntryGuard {
+    ghost then = { entry_guard_read };
+}
+
+pub(crate) struct HeadRead;
+
+impl Play<Slot, View> for HeadRead {
+    ghost then = { head_read };
+}
+
+pub(crate) struct RoomGuard;
+
+impl Play<Slot, View> for RoomGuard {
+    ghost then = { room_guard_read };
+}
+
+pub(crate) struct ProducerPassed;
+
+impl Play<Slot, View> for ProducerPassed {
+    ghost then = { producer_passed };
+}
+
+pub(crate) struct ConsumerPassed;
+
+impl Play<Slot, View> for ConsumerPassed {
+    ghost then = { consumer_passed };
 }
 
 pub(crate) struct Ask;

@@ -28,6 +28,8 @@ pub struct Half {
     pub settled: u64,
     /// How many notifications it made.
     pub rings: u64,
+    /// Whether the ring is wild, so that either end may store what it likes in its words.
+    pub wild: bool,
     /// Each step on a word that its calls made, the newest first: the word, and what was read or
     /// stored there.
     pub walked: LinkedList<(u64, u64)>,

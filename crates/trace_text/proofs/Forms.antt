@@ -14,11 +14,11 @@ use Rattle.trace_text.specs.Reading.{after_line, is_refused, reader_with}
 use Rattle.trace_text.proofs.Judged.{Fails, judged_none, number_none, data_none, kept_none, kept_taken}
 
 pub rx_none : (r : Reader) (plan : Plan) (word : List ℕ)
-    → ((frame : List ℕ) → data_of word ≡ Some frame → Fails r (is_some plan.net && is_frame_of frame frame_most) (Event.Rx frame)) → after_line r (rx_line plan word) ≡ None
+    → ((frame : List ℕ) → data_of word ≡ Some frame → Fails r (is_some plan.net && is_frame_of frame (frame_most plan)) (Event.Rx frame)) → after_line r (rx_line plan word) ≡ None
 unfolding rx_line
 rx_none r plan word h = data_none r word _ (λ frame e. kept_none r _ (Event.Rx frame) (h frame e))
 
-pub rx_taken : (r : Reader) (plan : Plan) (word frame : List ℕ) → data_of word ≡ Some frame → (is_some plan.net && is_frame_of frame frame_most) ≡ true
+pub rx_taken : (r : Reader) (plan : Plan) (word frame : List ℕ) → data_of word ≡ Some frame → (is_some plan.net && is_frame_of frame (frame_most plan)) ≡ true
     → is_refused r (Event.Rx frame) ≡ false → after_line r (rx_line plan word) ≡ Some (reader_with r (Event.Rx frame))
 unfolding rx_line
 rx_taken r plan word frame e holds taken = rw e (kept_taken r _ (Event.Rx frame) holds taken)
@@ -34,13 +34,13 @@ unfolding in_line
 in_taken r plan word bytes e holds taken = rw e (kept_taken r _ (Event.In bytes) holds taken)
 
 pub send_none : (r : Reader) (plan : Plan) (client word : List ℕ)
-    → ((c : ℕ) (frame : List ℕ) → number_of client ≡ Some c → data_of word ≡ Some frame → Fails r (is_source plan c && is_frame_of frame frame_most) (Event.Send c frame))
+    → ((c : ℕ) (frame : List ℕ) → number_of client ≡ Some c → data_of word ≡ Some frame → Fails r (is_source plan c && is_frame_of frame (frame_most plan)) (Event.Send c frame))
     → after_line r (send_line plan client word) ≡ None
 unfolding send_line
 send_none r plan client word h = number_none r client _ (λ c n. data_none r word _ (λ frame e. kept_none r _ (Event.Send c frame) (h c frame n e)))
 
 pub send_taken : (r : Reader) (plan : Plan) (client word : List ℕ) (c : ℕ) (frame : List ℕ) → number_of client ≡ Some c → data_of word ≡ Some frame
-    → (is_source plan c && is_frame_of frame frame_most) ≡ true → is_refused r (Event.Send c frame) ≡ false → after_line r (send_line plan client word) ≡ Some (reader_with r (Event.Send c frame))
+    → (is_source plan c && is_frame_of frame (frame_most plan)) ≡ true → is_refused r (Event.Send c frame) ≡ false → after_line r (send_line plan client word) ≡ Some (reader_with r (Event.Send c frame))
 unfolding send_line
 send_taken r plan client word c frame n e holds taken = rw (n, e) (kept_taken r _ (Event.Send c frame) holds taken)
 
@@ -150,9 +150,9 @@ not_above a b h = elim (cases_Bool (ltb a b)) [
   | inr isnt ↦ isnt
 ]
 
-pub too_long_frame : (frame : List ℕ) → frame_most < length frame → is_frame_of frame frame_most ≡ false
-too_long_frame frame long = elim (cases_Bool (leb 14 (length frame))) [
-  | inl is ↦ rw (is, lt-leb (length frame) frame_most long) refl
+pub too_long_frame : (most : ℕ) (frame : List ℕ) → most < length frame → is_frame_of frame most ≡ false
+too_long_frame most frame long = elim (cases_Bool (leb 14 (length frame))) [
+  | inl is ↦ rw (is, lt-leb (length frame) most long) refl
   | inr isnt ↦ rw isnt refl
 ]
 

@@ -32,8 +32,8 @@ abbrev IsSectors : Plan → ℕ → Type 0
 IsSectors plan n = (is_some plan.blk ≡ true) × ((blocks : ℕ) × (1 ≤ blocks) × (n ≡ blocks * 8) × (blocks ≤ 8192))
 
 abbrev IsShaped : Plan → Event → Type 0
-IsShaped plan (Event.Rx frame) = IsFrame frame
-IsShaped plan (Event.Send c frame) = IsFrame frame
+IsShaped plan (Event.Rx frame) = IsFrame (frame_most plan) frame
+IsShaped plan (Event.Send c frame) = IsFrame (frame_most plan) frame
 IsShaped plan (Event.Disk n) = IsSectors plan n
 IsShaped plan (Event.Request c ask) = IsAsk ask
 IsShaped plan (Event.Rogue class c act) = IsActOn class act
@@ -51,15 +51,15 @@ then-says : {T : Type 0} (P : Event → Type 0) (f : T → Option Event) (o : Op
 then-says P f None h = tt
 then-says P f (Some x) h = h x refl
 
-frame-shape : (frame : List ℕ) → is_frame_of frame frame_most ≡ true → IsFrame frame
-frame-shape frame h =
-    let both = and_parts (leb 14 (length frame)) (leb (length frame) frame_most) h in
-    (leb-true 14 (length frame) both.0, leb-true (length frame) frame_most both.1)
+frame-shape : (most : ℕ) (frame : List ℕ) → is_frame_of frame most ≡ true → IsFrame most frame
+frame-shape most frame h =
+    let both = and_parts (leb 14 (length frame)) (leb (length frame) most) h in
+    (leb-true 14 (length frame) both.0, leb-true (length frame) most both.1)
 
 rx-shape : (plan : Plan) (word : List ℕ) → IfSome (rx_line plan word) (IsShaped plan)
 unfolding rx_line
 rx-shape plan word =
-    then-says (IsShaped plan) _ (data_of word) (λ frame _. kept-says (IsShaped plan) _ (Event.Rx frame) (λ h. frame-shape frame (and_parts (is_some plan.net) (is_frame_of frame frame_most) h).1))
+    then-says (IsShaped plan) _ (data_of word) (λ frame _. kept-says (IsShaped plan) _ (Event.Rx frame) (λ h. frame-shape (frame_most plan) frame (and_parts (is_some plan.net) (is_frame_of frame (frame_most plan)) h).1))
 
 in-shape : (plan : Plan) (word : List ℕ) → IfSome (in_line plan word) (IsShaped plan)
 unfolding in_line
@@ -69,7 +69,7 @@ send-shape : (plan : Plan) (client word : List ℕ) → IfSome (send_line plan c
 unfolding send_line
 send-shape plan client word =
     then-says (IsShaped plan) _ (number_of client) (λ c _. then-says (IsShaped plan) _ (data_of word) (λ frame _.
-    kept-says (IsShaped plan) _ (Event.Send c frame) (λ h. frame-shape frame (and_parts (is_source plan c) (is_frame_of frame frame_most) h).1)))
+    kept-says (IsShaped plan) _ (Event.Send c frame) (λ h. frame-shape (frame_most plan) frame (and_parts (is_source plan c) (is_frame_of frame (frame_most plan)) h).1)))
 
 say-shape : (plan : Plan) (client word : List ℕ) → IfSome (say_line plan client word) (IsShaped plan)
 unfolding say_line
@@ -306,27 +306,27 @@ if-all : {T : Type 0} (Q : T → Type 0) (b : Bool) (x : T) → Q x → All Q (c
 if-all Q true x h = one-all Q x h
 if-all Q false x h = All-nil Q
 
-frames-all : (plan : Plan) (e : Event) → IsShaped plan e → All IsFrame (frames_in e)
-frames-all plan Event.Skipped h = All-nil IsFrame
-frames-all plan (Event.Rx frame) h = one-all IsFrame frame h
-frames-all plan (Event.In bytes) h = All-nil IsFrame
-frames-all plan (Event.Send c frame) h = All-nil IsFrame
-frames-all plan (Event.Say c bytes) h = All-nil IsFrame
-frames-all plan (Event.Disk n) h = All-nil IsFrame
-frames-all plan (Event.Patch at bytes) h = All-nil IsFrame
-frames-all plan (Event.Request c ask) h = All-nil IsFrame
-frames-all plan (Event.Rogue class c act) h = All-nil IsFrame
+frames-all : (plan : Plan) (e : Event) → IsShaped plan e → All (IsFrame (frame_most plan)) (frames_in e)
+frames-all plan Event.Skipped h = All-nil (IsFrame (frame_most plan))
+frames-all plan (Event.Rx frame) h = one-all (IsFrame (frame_most plan)) frame h
+frames-all plan (Event.In bytes) h = All-nil (IsFrame (frame_most plan))
+frames-all plan (Event.Send c frame) h = All-nil (IsFrame (frame_most plan))
+frames-all plan (Event.Say c bytes) h = All-nil (IsFrame (frame_most plan))
+frames-all plan (Event.Disk n) h = All-nil (IsFrame (frame_most plan))
+frames-all plan (Event.Patch at bytes) h = All-nil (IsFrame (frame_most plan))
+frames-all plan (Event.Request c ask) h = All-nil (IsFrame (frame_most plan))
+frames-all plan (Event.Rogue class c act) h = All-nil (IsFrame (frame_most plan))
 
-sends-all : (plan : Plan) (k : ℕ) (e : Event) → IsShaped plan e → All IsFrame (sends_in k e)
-sends-all plan k Event.Skipped h = All-nil IsFrame
-sends-all plan k (Event.Rx frame) h = All-nil IsFrame
-sends-all plan k (Event.In bytes) h = All-nil IsFrame
-sends-all plan k (Event.Send c frame) h = if-all IsFrame (eqb c k) frame h
-sends-all plan k (Event.Say c bytes) h = All-nil IsFrame
-sends-all plan k (Event.Disk n) h = All-nil IsFrame
-sends-all plan k (Event.Patch at bytes) h = All-nil IsFrame
-sends-all plan k (Event.Request c ask) h = All-nil IsFrame
-sends-all plan k (Event.Rogue class c act) h = All-nil IsFrame
+sends-all : (plan : Plan) (k : ℕ) (e : Event) → IsShaped plan e → All (IsFrame (frame_most plan)) (sends_in k e)
+sends-all plan k Event.Skipped h = All-nil (IsFrame (frame_most plan))
+sends-all plan k (Event.Rx frame) h = All-nil (IsFrame (frame_most plan))
+sends-all plan k (Event.In bytes) h = All-nil (IsFrame (frame_most plan))
+sends-all plan k (Event.Send c frame) h = if-all (IsFrame (frame_most plan)) (eqb c k) frame h
+sends-all plan k (Event.Say c bytes) h = All-nil (IsFrame (frame_most plan))
+sends-all plan k (Event.Disk n) h = All-nil (IsFrame (frame_most plan))
+sends-all plan k (Event.Patch at bytes) h = All-nil (IsFrame (frame_most plan))
+sends-all plan k (Event.Request c ask) h = All-nil (IsFrame (frame_most plan))
+sends-all plan k (Event.Rogue class c act) h = All-nil (IsFrame (frame_most plan))
 
 asks-all : (plan : Plan) (k : ℕ) (e : Event) → IsShaped plan e → All IsAsk (asks_in k e)
 asks-all plan k Event.Skipped h = All-nil IsAsk
@@ -447,8 +447,8 @@ from-shapes : (plan : Plan) (events : List Event) → All (IsShaped plan) events
     → HasShapes plan (trace_from plan events)
 unfolding trace_from
 from-shapes plan events shaped disk = record {
-  frames = flat-all (IsShaped plan) IsFrame frames_in (frames-all plan) events shaped;
-  sends = client-all (All IsFrame) (length (net_clients plan)) _ (λ k. flat-all (IsShaped plan) IsFrame (sends_in k) (sends-all plan k) events shaped);
+  frames = flat-all (IsShaped plan) (IsFrame (frame_most plan)) frames_in (frames-all plan) events shaped;
+  sends = client-all (All (IsFrame (frame_most plan))) (length (net_clients plan)) _ (λ k. flat-all (IsShaped plan) (IsFrame (frame_most plan)) (sends_in k) (sends-all plan k) events shaped);
   asks = client-all (All IsAsk) (length (blk_clients plan)) _ (λ k. flat-all (IsShaped plan) IsAsk (asks_in k) (asks-all plan k) events shaped);
   net_acts = client-all (All (IsActOn Of.Net)) (length (net_clients plan)) _ (λ k. flat-all (IsShaped plan) (IsActOn Of.Net) (acts_in Of.Net k) (acts-all plan Of.Net k) events shaped);
   serial_acts = client-all (All (IsActOn Of.Serial)) (length (serial_clients plan)) _ (λ k. flat-all (IsShaped plan) (IsActOn Of.Serial) (acts_in Of.Serial k) (acts-all plan Of.Serial k) events shaped);

@@ -126,7 +126,7 @@ with_data word event = option_and_then event (data_of word)
 unfoldable pub rx_line : Plan → List ℕ → Option Event
 rx_line plan word =
     with_data word (λ frame.
-    kept_if (is_some plan.net && is_frame_of frame frame_most) (Some (Event.Rx frame)))
+    kept_if (is_some plan.net && is_frame_of frame (frame_most plan)) (Some (Event.Rx frame)))
 
 -- `in DATA`
 unfoldable pub in_line : Plan → List ℕ → Option Event
@@ -136,7 +136,7 @@ in_line plan word = with_data word (λ bytes. kept_if (is_some plan.serial) (Som
 unfoldable pub send_line : Plan → List ℕ → List ℕ → Option Event
 send_line plan client word =
     with_number client (λ c. with_data word (λ frame.
-    kept_if (is_source plan c && is_frame_of frame frame_most) (Some (Event.Send c frame))))
+    kept_if (is_source plan c && is_frame_of frame (frame_most plan)) (Some (Event.Send c frame))))
 
 -- `say C DATA`
 unfoldable pub say_line : Plan → List ℕ → List ℕ → Option Event

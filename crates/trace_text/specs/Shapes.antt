@@ -13,9 +13,9 @@ use Rattle.trace_text.specs.declared.trace.Trace.{Trace}
 use Rattle.trace_text.specs.Events.{inputs_of}
 use Rattle.trace_text.specs.Limits.{frame_least, frame_most}
 
--- the bytes of a frame: 14 to 1,514
-abbrev pub IsFrame : List ℕ → Type 0
-IsFrame frame = (frame_least ≤ length frame) × (length frame ≤ frame_most)
+-- the bytes of a frame, where one has at most so many: 14 to this
+abbrev pub IsFrame : ℕ → List ℕ → Type 0
+IsFrame most frame = (frame_least ≤ length frame) × (length frame ≤ most)
 
 -- the bytes of a disk: 1 to 8,192 blocks of 4,096 bytes
 abbrev pub IsDisk : List ℕ → Type 0
@@ -53,8 +53,8 @@ IsActOn class (Does.Store k word value) = k < 2 * inputs_of class
 -- the frames, requests, acts and disk of a trace are such, with a disk exactly where the plan has a
 -- block class
 pub record HasShapes (plan : Plan) (trace : Trace) : Type 0 where
-  pub frames : All IsFrame trace.frames
-  pub sends : All (All IsFrame) trace.sends
+  pub frames : All (IsFrame (frame_most plan)) trace.frames
+  pub sends : All (All (IsFrame (frame_most plan))) trace.sends
   pub asks : All (All IsAsk) trace.asks
   pub net_acts : All (All (IsActOn Of.Net)) trace.net_acts
   pub serial_acts : All (All (IsActOn Of.Serial)) trace.serial_acts

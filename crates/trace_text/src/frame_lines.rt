@@ -1,6 +1,8 @@
 //! The lines of frames: `rx` at the Ethernet device, `send` of a network client.
-ghost use Rattle.std.specs.Prelude.{IfOk};
+ghost use Rattle.std.specs.Prelude.{◌≡◌, IfOk};
+ghost use Rattle.frame_core.specs.Frames.{is_frame_of};
 ghost use Rattle.trace_text.specs.Events.{rx_line, send_line};
+ghost use Rattle.trace_text.specs.Limits.{frame_most};
 ghost use Rattle.trace_text.specs.Reading.{IsRead, HasLists};
 
 use crate::clients::{is_source, net_client_count};
@@ -9,13 +11,28 @@ use crate::lists::add_frame;
 use crate::number::read_below;
 use crate::reader::{LINES, Reader};
 use cargo_core::Memory;
-use frame_core::is_frame;
 use sdf_plan::Plan;
 use std::alloc::Global;
 
-/// How many bytes a frame has at most: a header of 14 and 1,500 after it (IEEE 802.3, without its
-/// checksum).
-pub const LONGEST_FRAME: u16 = 1514;
+/// How many bytes a frame has at most: what the network class of the plan says, and 0 where it has
+/// none. The 1,514 that stand for an absent key are a header of 14 and 1,500 after it (IEEE 802.3,
+/// without its checksum).
+#[tactic(auto, unfolding(crate::specs::Limits::frame_most))]
+pub fn frame_most(plan: &Plan) -> u64
+    ensures { result ≡ frame_most plan.now }
+{
+    match &plan.net {
+        Some(net) => net.max_frame,
+        None => 0,
+    }
+}
+
+// Whether these bytes can be a frame, where one has at most so many.
+fn is_frame(bytes: &[u8], most: u64) -> bool
+    ensures { result ≡ is_frame_of bytes.now most }
+{
+    14 <= bytes.len() && bytes.len() as u64 <= most
+}
 
 impl Reader {
     // `rx DATA`
@@ -28,11 +45,12 @@ impl Reader {
         if self.frame_lines >= LINES {
             return Ok(false);
         }
-        let frame = match read_data(alloc, word, LONGEST_FRAME as usize)? {
+        let most = frame_most(plan);
+        let frame = match read_data(alloc, word, most as usize)? {
             Some(frame) => frame,
             None => return Ok(false),
         };
-        if !is_frame(frame.as_slice(), LONGEST_FRAME) {
+        if !is_frame(frame.as_slice(), most) {
             return Ok(false);
         }
         self.trace.frames.push(frame.as_slice())?;
@@ -62,11 +80,12 @@ impl Reader {
         if self.frame_lines >= LINES {
             return Ok(false);
         }
-        let frame = match read_data(alloc, word, LONGEST_FRAME as usize)? {
+        let most = frame_most(plan);
+        let frame = match read_data(alloc, word, most as usize)? {
             Some(frame) => frame,
             None => return Ok(false),
         };
-        if !is_frame(frame.as_slice(), LONGEST_FRAME) {
+        if !is_frame(frame.as_slice(), most) {
             return Ok(false);
         }
         add_frame(

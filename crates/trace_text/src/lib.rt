@@ -1,7 +1,7 @@
 //! Traces: what the devices receive and the clients ask for, one line each, and how a text of such
 //! lines is read.
 //!
-//! An example of its calls: `crates/library_examples/src/trace.rt`.
+//! An example of its calls: `crates/plan_rows/src/examples/trace.rt`.
 #![tactic(auto)]
 
 mod acts;
@@ -24,7 +24,7 @@ mod trace;
 
 pub use cargo_core::{Act, Ask, Word};
 pub use clients::{is_blk_rogue, is_net_rogue, is_serial_rogue, is_source, runs};
-pub use frame_lines::LONGEST_FRAME;
+pub use frame_lines::frame_most;
 pub use laws::{limits_law, shapes_law};
 pub use read::{TraceFault, read_trace};
 pub use trace::Trace;

@@ -26,10 +26,11 @@ use Rattle.blk_virt.specs.Requests.{is_bad}
 use Rattle.blk_virt.specs.Virtualising.{BlkVirtRow, BlkVirtStandsFor, FitsBlkVirt}
 use Rattle.blk_virt.specs.declared.virtualiser.BlkVirt.{BlkVirt}
 use Rattle.blk_virt.proofs.Rows.{row_of as server_row}
-use Rattle.blk_law.specs.Sheets.Parts.{BlkClient as ClientPart}
+use Rattle.blk_law.specs.Sheets.Parts.{BlkPart, BlkClient as ClientPart}
 use Rattle.blk_law.specs.Sheets.Numbers.{BlkPlace, IsBlkClientOf, disk_at, blk_driver_at, virt_at, blk_client_at}
-use Rattle.blk_law.specs.Sheets.Playing.{disk_part, blk_driver_part, virt_part, blk_client_part, DiskInTurn, VirtInTurn, ClientInTurn}
-use Rattle.blk_quiet.specs.Cast.Casting.{holder_of, IsOfPool, IsWhole, IsRequest, AreRequests, IsAskingClient, IsBlkCast, AllAsk}
+use Rattle.blk_law.specs.Sheets.Playing.{disk_part, blk_driver_part, virt_part, blk_client_part, DiskInTurn, ClientInTurn}
+use Rattle.blk_law.specs.VirtScene.Playing.{BothInTurn}
+use Rattle.blk_quiet.specs.Cast.Casting.{holder_of, IsOfPool, IsWhole, IsRequest, AreRequests, IsAskingClient, IsBlkCast, CalmAsk, WildWhole}
 use Rattle.blk_quiet.proofs.CastLemmas.Judging.{bad_same}
 use Rattle.blk_quiet.proofs.CastLemmas.Numbers.{virt_queues, client_queues, client_pool}
 use Rattle.blk_quiet.proofs.CastLemmas.Turning.{responses_few, sector_is, virt_none, virt_in_turn, good_is, disk_none, disk_in_turn}
@@ -41,6 +42,10 @@ use Rattle.actor_set.specs.declared.actor.Actor.{Actor}
 use Rattle.actor_set.specs.declared.actor.Actor.TheVariants as Kinds
 use Rattle.actor_set.proofs.LawsLemmas.BlkRows.{disk_row_of}
 use Rattle.play_core.specs.Sheets.{Scene}
+use Rattle.play_core.specs.Manners.{is_hostile}
+use Rattle.play_core.specs.Names.{Wild, wild_in}
+use Rattle.actor_set.specs.Laws.Kinds.{hostiles}
+use Rattle.actor_set.proofs.LawsLemmas.Calm.{manner_at}
 use Rattle.wired_law.specs.Wiring.{IsOfBlock, HasBlkIn, HasNoBlock, HasPart, ClientsAsk, AreAtWork}
 use Rattle.wired_law.proofs.Acting.{disk_actor, blk_driver_actor, virt_actor, blk_client_actor}
 use Rattle.wired_law.proofs.Deeds.{puts_or_takes}
@@ -80,14 +85,18 @@ all_from P (x ∷ xs) has zero d lt = has 0 x refl
 all_from P (x ∷ xs) has (suc k) d lt = all_from P xs (λ j y at. has (suc j) y at) k d (omega (arith, lt))
 all_from P [] has k d lt = absurd (omega (arith, lt))
 
+-- an actor of the class isn't hostile
+pub calm_block : (cast : List Part) (k : ℕ) (p : BlkPart) → slice_get cast k ≡ Some (BlockPart p) → hostiles cast k ≡ false
+calm_block cast k p at = ap is_hostile (manner_at cast k (BlockPart p) at)
+
 -- what a part is where it is one of the block class's
-disk_is : (place : BlkPlace) (start : List ℕ) (d : DiskDevice) → IsOfBlock place (disk_part start d) → disk_part start d ≡ disk_at place
+pub disk_is : (place : BlkPlace) (start : List ℕ) (d : DiskDevice) → IsOfBlock place (disk_part start d) → disk_part start d ≡ disk_at place
 disk_is place start d (inl e) = e
 disk_is place start d (inr (inl e)) = absurd cc
 disk_is place start d (inr (inr (inl e))) = absurd cc
 disk_is place start d (inr (inr (inr k))) = let e = k.5 in absurd cc
 
-virt_is : (place : BlkPlace) (v : BlkVirt) → IsOfBlock place (virt_part v) → virt_part v ≡ virt_at place
+pub virt_is : (place : BlkPlace) (v : BlkVirt) → IsOfBlock place (virt_part v) → virt_part v ≡ virt_at place
 virt_is place v (inl e) = absurd cc
 virt_is place v (inr (inl e)) = absurd cc
 virt_is place v (inr (inr (inl e))) = e
@@ -102,6 +111,9 @@ client_is place req resp asks pool (inr (inr (inr k))) = k
 module _ (scene : Scene) (ends : Role → ℕ → End) (rows : List QueueRow) (actors : List Actor) (passed : Passed) (work : AreAtWork ends rows actors passed) where
   abbrev cast : List Part
   cast = map part_of actors
+
+  abbrev wild : Wild
+  wild = wild_in (hostiles cast) rows
 
   actor_of : (p : Part) → HasPart cast p → (x : Actor) × (part_of x ≡ p) × FitsActor ends x × ActorStandsFor x passed
   actor_of p has = let x = map_from part_of actors has.0 p has.1 in (x.0, x.2, work.fits has.0 x.0 x.1, work.stands has.0 x.0 x.1)
@@ -126,13 +138,13 @@ module _ (scene : Scene) (ends : Role → ℕ → End) (rows : List QueueRow) (a
         let fits : FitsActor ends (Kinds.BlkVirt v.0) = subst (FitsActor ends) v.1 x.2 in
         (v.0, v.2, fits.0, server_row v.0 passed (subst (λ a. ActorStandsFor a passed) v.1 x.3))
 
-    client_there : (k entry : ℕ) (asks : List Ask) (pool : PoolAt) → IsBlkClientOf place k entry asks pool → (c : BlkClient) × IsAskingClient place k asks pool c passed
-    client_there k entry asks pool of =
-        let x = actor_of (BlockPart (blk_client_at place.first k asks pool)) (has.client k entry asks pool of) in
+    client_there : (k : ℕ) (asks : List Ask) (pool : PoolAt) → HasPart cast (BlockPart (blk_client_at place.first k asks pool)) → (c : BlkClient) × IsAskingClient place k asks pool c passed
+    client_there k asks pool there =
+        let x = actor_of (BlockPart (blk_client_at place.first k asks pool)) there in
         let c = blk_client_actor place.first k asks pool x.0 x.1 in
         (c.0, record { part = c.2; row = asker_row c.0 passed (subst (λ a. ActorStandsFor a passed) c.1 x.3) })
 
-    start_is : (d : Disk) → disk_part d.start.value d.device ≡ disk_at place → d.start.value ≡ place.image
+    pub start_is : (d : Disk) → disk_part d.start.value d.device ≡ disk_at place → d.start.value ≡ place.image
     start_is d part = cc
 
     -- the class with this disk and this virtualiser
@@ -154,39 +166,38 @@ module _ (scene : Scene) (ends : Role → ℕ → End) (rows : List QueueRow) (a
       from_each = fits.from_each;
       to_each = fits.to_each;
       apart = fits.work.desk.apart;
-      clients = client_there;
       blocks = has.blocks;
       some_blocks = has.some_blocks;
       image_long = has.image_long;
       some = has.some;
     }
 
-    class_there : IsBlkCast place passed
+    pub class_there : IsBlkCast place passed
     class_there = let d = disk_there in let v = virt_there in cast_with d.0 d.1 d.2 v.0 v.1 v.2 v.3
 
     -- what the clients put, by their numbers
-    all_ask : ClientsAsk cast passed → AllAsk place passed
-    all_ask ask k pool at =
+    all_ask : ClientsAsk cast passed → CalmAsk wild place passed
+    all_ask ask k pool at calm =
         let below = there_below place.pools k pool at in
         let pools_many = has.pools_many in
         let asks_many = has.asks_many in
         let entry = there_is place.entries k (omega (arith, below, pools_many)) in
         let asks = there_is place.asks k (omega (arith, below, pools_many, asks_many)) in
         let of : IsBlkClientOf place k entry.0 asks.0 pool = record { has_entry = entry.1; has_asks = asks.1; has_pool = at } in
-        let there = has.client k entry.0 asks.0 pool of in
-        requests_own pool (passed.sent (place.first + 4 + 2 * k)) (ask there.0 (place.first + 4 + 2 * k) (place.first + 5 + 2 * k) asks.0 (own_pool pool) there.1)
+        let there = has.client k entry.0 asks.0 pool of calm in
+        requests_own pool (passed.sent (place.first + 4 + 2 * k)) (ask there.0 (place.first + 4 + 2 * k) (place.first + 5 + 2 * k) asks.0 (own_pool pool) (calm_block cast there.0 (blk_client_at place.first k asks.0 pool) there.1) there.1)
 
-    pub disk_turns : ClientsAsk cast passed → (k : ℕ) (d : Disk) → slice_get actors k ≡ Some (Kinds.DiskDevice d) → DiskStandsFor d.start.value d.device passed → DiskInTurn d.start.value d.device passed
+    pub disk_turns : ClientsAsk cast passed → WildWhole wild place passed → (k : ℕ) (d : Disk) → slice_get actors k ≡ Some (Kinds.DiskDevice d) → DiskStandsFor d.start.value d.device passed → DiskInTurn d.start.value d.device passed
     unfolding cast_with
-    disk_turns ask k d at stands =
+    disk_turns ask whole k d at stands =
         let part = disk_is place d.start.value d.device (has.only k (disk_part d.start.value d.device) (map_get part_of actors k (Kinds.DiskDevice d) at)) in
         let row = disk_row_of d.start.value d.device passed stands in
         let v = virt_there in
         let class = cast_with d part row v.0 v.1 v.2 v.3 in
-        let turn : (row : DiskRow d.start.value d.device passed) → row.stray ≡ [] = subst (λ s. (row : DiskRow s d.device passed) → row.stray ≡ []) (sym (start_is d part)) (disk_in_turn place passed class (all_ask ask)) in
-        record { free = none_of d.device.stray (disk_none place passed class (all_ask ask) stands.requests (option_to_list d.device.stray) stands.taken (all_of (λ (x : Cargo). is_stray place.image x ≡ true) d.device.stray (λ x e. ap (λ s. is_stray s x) (sym (start_is d part)) ∙ stands.out_of_turn x e))); in_turn = turn }
+        let turn : (row : DiskRow d.start.value d.device passed) → row.stray ≡ [] = subst (λ s. (row : DiskRow s d.device passed) → row.stray ≡ []) (sym (start_is d part)) (disk_in_turn place passed class wild (all_ask ask) whole) in
+        record { free = none_of d.device.stray (disk_none place passed class wild (all_ask ask) whole stands.requests (option_to_list d.device.stray) stands.taken (all_of (λ (x : Cargo). is_stray place.image x ≡ true) d.device.stray (λ x e. ap (λ s. is_stray s x) (sym (start_is d part)) ∙ stands.out_of_turn x e))); in_turn = turn }
 
-    pub virt_turns : ClientsAsk cast passed → (k : ℕ) (v : BlkVirt) → slice_get actors k ≡ Some (Kinds.BlkVirt v) → FitsActor ends (Kinds.BlkVirt v) → BlkVirtStandsFor v passed → VirtInTurn scene.image v passed
+    pub virt_turns : ClientsAsk cast passed → (k : ℕ) (v : BlkVirt) → slice_get actors k ≡ Some (Kinds.BlkVirt v) → FitsActor ends (Kinds.BlkVirt v) → BlkVirtStandsFor v passed → BothInTurn wild scene.image v passed
     unfolding cast_with
     virt_turns ask k v at fits stands =
         let part = virt_is place v (has.only k (virt_part v) (map_get part_of actors k (Kinds.BlkVirt v) at)) in
@@ -201,7 +212,7 @@ module _ (scene : Scene) (ends : Role → ℕ → End) (rows : List QueueRow) (a
           answered = responses_few place passed class;
           sector = λ y y_at. sector_is place passed class y y_at ∙ ap (take 512) (sym has.image_is);
           sectors = own.2 ∙ ap (λ (l : List ℕ). length l / 512) (sym has.image_is);
-          good = λ j h q h_at q_at. all_from (λ (x : Cargo). is_bad h x ≡ false) (passed.taken q.0) (good_is place passed class (all_ask ask) j h q h_at q_at);
+          good = λ j h q h_at q_at calm. all_from (λ (x : Cargo). is_bad h x ≡ false) (passed.taken q.0) (good_is place passed class wild (all_ask ask) j h q h_at q_at calm);
           apart = fits.0.work.desk.apart;
           from_each = fits.0.from_each;
           to_each = fits.0.to_each;
@@ -228,21 +239,21 @@ module _ (scene : Scene) (ends : Role → ℕ → End) (rows : List QueueRow) (a
         }
 
     -- what came back to a client is its own
-    pub back_asked : ClientsAsk cast passed → (k entry : ℕ) (asks : List Ask) (pool : PoolAt) → IsBlkClientOf place k entry asks pool → (j : ℕ) (y : Cargo) → slice_get (passed.taken (place.first + 5 + 2 * k)) j ≡ Some y → IsOfPool pool y.1 × IsWhole y.1
-    back_asked ask k entry asks pool of = back_own place passed class_there k entry asks pool of (all_ask ask)
+    pub back_asked : (k entry : ℕ) (asks : List Ask) (pool : PoolAt) → IsBlkClientOf place k entry asks pool → AreRequests pool (passed.sent (place.first + 4 + 2 * k)) → (j : ℕ) (y : Cargo) → slice_get (passed.taken (place.first + 5 + 2 * k)) j ≡ Some y → IsOfPool pool y.1 × IsWhole y.1
+    back_asked k entry asks pool of = back_own place passed class_there k entry asks pool of
 
     -- and then what it puts are requests in its own buffers
-    pub puts_asked : (k entry : ℕ) (asks : List Ask) (pool : PoolAt) → IsBlkClientOf place k entry asks pool → ((j : ℕ) (y : Cargo) → slice_get (passed.taken (place.first + 5 + 2 * k)) j ≡ Some y → IsOfPool pool y.1 × IsWhole y.1) → AreRequests pool (passed.sent (place.first + 4 + 2 * k))
-    puts_asked k entry asks pool of =
-        let c = client_there k entry asks pool of in
+    pub puts_asked : (k entry : ℕ) (asks : List Ask) (pool : PoolAt) → IsBlkClientOf place k entry asks pool → HasPart cast (BlockPart (blk_client_at place.first k asks pool)) → ((j : ℕ) (y : Cargo) → slice_get (passed.taken (place.first + 5 + 2 * k)) j ≡ Some y → IsOfPool pool y.1 × IsWhole y.1) → AreRequests pool (passed.sent (place.first + 4 + 2 * k))
+    puts_asked k entry asks pool of there =
+        let c = client_there k asks pool there in
         client_puts place passed class_there k entry asks pool of c.0 c.1
 
   -- where there is none of the class, or the whole class
-  pub disk_by : HasNoBlock cast ⊎ ((place : BlkPlace) × HasBlkIn scene rows place cast) → ClientsAsk cast passed → (k : ℕ) (d : Disk) → slice_get actors k ≡ Some (Kinds.DiskDevice d) → DiskInTurn d.start.value d.device passed
-  disk_by (inl none) ask k d at = absurd (none k (disk_part d.start.value d.device) (map_get part_of actors k (Kinds.DiskDevice d) at))
-  disk_by (inr p) ask k d at = disk_turns p.0 p.1 ask k d at (work.stands k (Kinds.DiskDevice d) at)
+  pub disk_by : HasNoBlock cast ⊎ ((place : BlkPlace) × HasBlkIn scene rows place cast) → ClientsAsk cast passed → ((place : BlkPlace) → WildWhole wild place passed) → (k : ℕ) (d : Disk) → slice_get actors k ≡ Some (Kinds.DiskDevice d) → DiskInTurn d.start.value d.device passed
+  disk_by (inl none) ask whole k d at = absurd (none k (disk_part d.start.value d.device) (map_get part_of actors k (Kinds.DiskDevice d) at))
+  disk_by (inr p) ask whole k d at = disk_turns p.0 p.1 ask (whole p.0) k d at (work.stands k (Kinds.DiskDevice d) at)
 
-  pub virt_by : HasNoBlock cast ⊎ ((place : BlkPlace) × HasBlkIn scene rows place cast) → ClientsAsk cast passed → (k : ℕ) (v : BlkVirt) → slice_get actors k ≡ Some (Kinds.BlkVirt v) → VirtInTurn scene.image v passed
+  pub virt_by : HasNoBlock cast ⊎ ((place : BlkPlace) × HasBlkIn scene rows place cast) → ClientsAsk cast passed → (k : ℕ) (v : BlkVirt) → slice_get actors k ≡ Some (Kinds.BlkVirt v) → BothInTurn wild scene.image v passed
   virt_by (inl none) ask k v at = absurd (none k (virt_part v) (map_get part_of actors k (Kinds.BlkVirt v) at))
   virt_by (inr p) ask k v at = virt_turns p.0 p.1 ask k v at (work.fits k (Kinds.BlkVirt v) at) (work.stands k (Kinds.BlkVirt v) at)
 
@@ -252,32 +263,33 @@ module _ (scene : Scene) (ends : Role → ℕ → End) (rows : List QueueRow) (a
 
 -- nothing was put at the start
 pub nothing_asked : (cast : List Part) → ClientsAsk cast nothing_passed
-nothing_asked cast k req resp asks pool at j c there = cc
+nothing_asked cast k req resp asks pool calm at j c there = cc
 
 -- a client's requests after one more call: where it puts one, nothing came back to it in this call
 module _ (scene : Scene) (ends ends' : Role → ℕ → End) (rows : List QueueRow) (actors actors' : List Actor) (passed : Passed) (deed : Deed) (same : map part_of actors' ≡ map part_of actors) (work : AreAtWork ends rows actors passed) (ask : ClientsAsk (map part_of actors) passed) (later : AreAtWork ends' rows actors' (with_deed passed deed)) where
   module _ (place : BlkPlace) (has : HasBlkIn scene rows place (map part_of actors)) where
-    client_asks_on : (k entry : ℕ) (asks : List Ask) (pool : PoolAt) → IsBlkClientOf place k entry asks pool → AreRequests pool (passed.sent (place.first + 4 + 2 * k)) → AreRequests pool ((with_deed passed deed).sent (place.first + 4 + 2 * k))
-    client_asks_on k entry asks pool of old = by (puts_or_takes passed deed)
+    client_asks_on : (k entry : ℕ) (asks : List Ask) (pool : PoolAt) → IsBlkClientOf place k entry asks pool → HasPart (map part_of actors) (BlockPart (blk_client_at place.first k asks pool)) → AreRequests pool (passed.sent (place.first + 4 + 2 * k)) → AreRequests pool ((with_deed passed deed).sent (place.first + 4 + 2 * k))
+    client_asks_on k entry asks pool of there old = by (puts_or_takes passed deed)
       where
         by : ((n : ℕ) → (with_deed passed deed).sent n ≡ passed.sent n) ⊎ ((n : ℕ) → (with_deed passed deed).taken n ≡ passed.taken n) → AreRequests pool ((with_deed passed deed).sent (place.first + 4 + 2 * k))
         by (inl still) = subst (AreRequests pool) (sym (still (place.first + 4 + 2 * k))) old
         by (inr still) =
-            let back = back_asked scene ends rows actors passed work place has ask k entry asks pool of in
-            puts_asked scene ends' rows actors' (with_deed passed deed) later place (subst (HasBlkIn scene rows place) (sym same) has) k entry asks pool of
+            let back = back_asked scene ends rows actors passed work place has k entry asks pool of old in
+            puts_asked scene ends' rows actors' (with_deed passed deed) later place (subst (HasBlkIn scene rows place) (sym same) has) k entry asks pool of (subst (λ c. HasPart c (BlockPart (blk_client_at place.first k asks pool))) (sym same) there)
             (λ j y at. back j y (ap (λ l. slice_get l j) (sym (still (place.first + 5 + 2 * k))) ∙ at))
 
     pub class_asks_on : ClientsAsk (map part_of actors) (with_deed passed deed)
-    class_asks_on k req resp asks pool at =
+    class_asks_on k req resp asks pool calm at =
         let is = client_is place req resp asks pool (has.only k (ClientPart req resp asks pool) at) in
         let e = is.5 in
+        let there : HasPart (map part_of actors) (BlockPart (blk_client_at place.first is.0 is.2 is.3)) = (k, at ∙ ap (λ p. Some (BlockPart p)) e) in
         let queue : req ≡ place.first + 4 + 2 * is.0 = cc in
         let own : pool ≡ own_pool is.3 = cc in
-        let now = ask k req resp asks pool at in
+        let now = ask k req resp asks pool calm at in
         let old = requests_own is.3 (passed.sent (place.first + 4 + 2 * is.0)) (subst (λ p. AreRequests p (passed.sent (place.first + 4 + 2 * is.0))) own (subst (λ n. AreRequests pool (passed.sent n)) queue now)) in
-        let new = own_requests is.3 ((with_deed passed deed).sent (place.first + 4 + 2 * is.0)) (client_asks_on is.0 is.1 is.2 is.3 is.4 old) in
+        let new = own_requests is.3 ((with_deed passed deed).sent (place.first + 4 + 2 * is.0)) (client_asks_on is.0 is.1 is.2 is.3 is.4 there old) in
         subst (λ n. AreRequests pool ((with_deed passed deed).sent n)) (sym queue) (subst (λ p. AreRequests p ((with_deed passed deed).sent (place.first + 4 + 2 * is.0))) (sym own) new)
 
   pub asks_by : HasNoBlock (map part_of actors) ⊎ ((place : BlkPlace) × HasBlkIn scene rows place (map part_of actors)) → ClientsAsk (map part_of actors) (with_deed passed deed)
-  asks_by (inl none) = λ k req resp asks pool at. absurd (none k (ClientPart req resp asks pool) at)
+  asks_by (inl none) = λ k req resp asks pool calm at. absurd (none k (ClientPart req resp asks pool) at)
   asks_by (inr p) = class_asks_on p.0 p.1

@@ -3,5 +3,6 @@ pub mod Acting
 pub mod Deeds
 pub mod Blocks
 pub mod Wiring
+pub mod TurningLemmas
 pub mod BlkReplies
 pub mod QuietLemmas

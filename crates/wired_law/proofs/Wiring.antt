@@ -1,13 +1,16 @@
 -- A wired cast has the whole network at the layout's queues, at which nothing comes out of turn.
-use Rattle.std.proofs.Common.{◌≡◌, ◌⊎◌, ◌+◌, ◌<◌, ◌≤◌, ℕ, Some, List, length, map, slice_get, inl, inr, sym, ap, ◌∙◌, subst, arith}
+use Rattle.std.proofs.Common.{◌≡◌, ◌⊎◌, ◌+◌, ◌*◌, ◌<◌, ◌≤◌, ℕ, false, Some, List, [], length, map, slice_get, inl, inr, sym, ap, ◌∙◌, subst, arith}
+use Rattle.std.proofs.lemmas.List.{append-nil}
 use Rattle.cargo_core.specs.Lists.{IsPrefix, PrefixMerge}
 use Rattle.frame_core.specs.declared.mac.Mac.{Mac}
 use Rattle.wire_core.specs.declared.names.QueueRow.{QueueRow}
-use Rattle.wire_core.specs.Deeds.{Deed}
+use Rattle.wire_core.specs.Deeds.{Cargo, Deed}
 use Rattle.wire_core.specs.Ends.{Role, End}
 use Rattle.wire_core.specs.Lists.{Passed, nothing_passed, with_deed}
 use Rattle.wire_core.specs.Queues.{items_of}
-use Rattle.play_core.proofs.Lists.{map_get, map_from, there_is, there_below}
+use Rattle.play_core.proofs.Lists.{map_get, map_from, prefix_trans, there_is, there_below}
+use Rattle.net_law.proofs.Beginnings.{begins_map}
+use Rattle.net_virt_tx.specs.Sending.{TxRow}
 use Rattle.device_model.specs.declared.ethernet.EthDevice.{EthDevice}
 use Rattle.device_model.specs.Ethernet.Devices.{DeviceRow}
 use Rattle.eth_driver.specs.Four.{four_pipes}
@@ -28,22 +31,27 @@ use Rattle.net_law.specs.Parts.Numbers.{device_at, driver_at, client_first, rece
 use Rattle.net_law.specs.Parts.Playing.{device_part, receiver_part, copier_part, client_part, stock_pool, AreLeases, ReceivesInTurn}
 use Rattle.net_law.specs.TxParts.Numbers.{NetPlace, own_pools, sender_at}
 use Rattle.net_law.specs.TxParts.Playing.{send_part}
+use Rattle.net_law.specs.TxScene.Playing.{CalmGood}
 use Rattle.net_quiet.specs.Cast.Casting.{IsCast, IsReceiverAt, IsCopierAt, IsClientAt}
 use Rattle.net_quiet.proofs.CastLemmas.Numbers.{copier_queues}
 use Rattle.net_quiet.proofs.CastLemmas.Casting.{cast_in_turn, cast_takes, cast_leases, cast_records}
-use Rattle.net_quiet.specs.TxCast.Casting.{AreSends, AllSend, IsClientOf, IsSenderAt, IsSendingClient, IsWholeCast, sends_at, wire_at}
-use Rattle.net_quiet.proofs.TxCast.Wholes.{none_out, good_taken, back_is, client_puts, wire_is, wire_by}
+use Rattle.net_quiet.specs.TxTurns.Turning.{StraysWild}
+use Rattle.net_quiet.specs.TxCast.Casting.{AreClients, AreSends, CalmSend, IsClientOf, IsSenderAt, IsSendingClient, IsWholeCast, NoneHostile, sends_at, sends_beside, wire_at, wire_beside}
+use Rattle.net_quiet.proofs.TxCast.Wholes.{none_out, good_taken, back_is, client_puts, sends_calm, wire_calm, wire_is, wire_by}
 use Rattle.blk_law.specs.Sheets.Numbers.{BlkPlace}
 use Rattle.actor_set.specs.Parts.{Part, NetworkPart, SendingPart}
 use Rattle.actor_set.specs.Actors.{FitsActor, ActorStandsFor, part_of}
 use Rattle.actor_set.specs.declared.actor.Actor.{Actor}
 use Rattle.actor_set.specs.declared.actor.Actor.TheVariants as Kinds
 use Rattle.actor_set.specs.Laws.Records.{frames_got}
-use Rattle.actor_set.specs.Laws.Turning.{InTurn, SendsInTurn}
+use Rattle.actor_set.specs.Laws.Turning.{InTurn}
+use Rattle.actor_set.specs.Laws.Scenes.{ToldInTurn}
 use Rattle.actor_set.proofs.LawsLemmas.NetRows.{device_row_of}
+use Rattle.play_core.specs.Names.{GrowsTo, Names, Wild, name_of, names_at, names_of, wild_in}
 use Rattle.play_core.specs.Sheets.{Scene}
-use Rattle.actor_set.specs.Laws.Kinds.{scene_of}
-use Rattle.wired_law.specs.Wiring.{IsOfNetwork, HasWholeIn, HasNoNetwork, HasBlkIn, HasNoBlock, HasPart, IsWired, IsWiredIn, NetClientsSendIn, ClientsAsk, ClientsSend, ClientsSendIn, AreAtWork}
+use Rattle.actor_set.specs.Laws.Kinds.{hostiles, scene_of}
+use Rattle.actor_set.proofs.LawsLemmas.Told.{none_wild}
+use Rattle.wired_law.specs.Wiring.{IsOfNetwork, HasWholeIn, HasNoNetwork, HasBlkIn, HasNoBlock, HasPart, IsWired, IsWiredIn, NetClientsSendIn, ClientsAsk, ClientsSend, ClientsSendIn, AreAtWork, AreInTurn}
 use Rattle.wired_law.proofs.Acting.{device_actor, driver_actor, receiver_actor, sender_actor, copier_actor, client_actor}
 use Rattle.wired_law.proofs.Deeds.{puts_or_takes}
 use Rattle.wired_law.proofs.Blocks.{disk_by, virt_by, client_by, nothing_asked, asks_by}
@@ -73,7 +81,7 @@ copier_is net frames c (inr (inr (inr (inl e)))) = absurd cc
 copier_is net frames c (inr (inr (inr (inr (inl k))))) = let e = k.2 in (k.0, k.1, cc)
 copier_is net frames c (inr (inr (inr (inr (inr k))))) = let e = k.5 in absurd cc
 
-sender_is : (net : NetPlace) (frames : List (List ℕ)) (v : NetVirtTx) → IsOfNetwork net frames (SendingPart (send_part v)) → send_part v ≡ sender_at net.first net.most net.pools
+pub sender_is : (net : NetPlace) (frames : List (List ℕ)) (v : NetVirtTx) → IsOfNetwork net frames (SendingPart (send_part v)) → send_part v ≡ sender_at net.first net.most net.pools
 sender_is net frames v (inl e) = absurd cc
 sender_is net frames v (inr (inl e)) = absurd cc
 sender_is net frames v (inr (inr (inl e))) = absurd cc
@@ -85,12 +93,19 @@ module _ (scene : Scene) (ends : Role → ℕ → End) (rows : List QueueRow) (a
   abbrev cast : List Part
   cast = map part_of actors
 
+  abbrev wild : Wild
+  wild = wild_in (hostiles cast) rows
+
   abbrev frames : List (List ℕ)
   frames = scene.frames
 
   -- the actor of a part
   actor_of : (p : Part) → HasPart cast p → (x : Actor) × (part_of x ≡ p) × FitsActor ends x × ActorStandsFor x passed
   actor_of p has = let x = map_from part_of actors has.0 p has.1 in (x.0, x.2, work.fits has.0 x.0 x.1, work.stands has.0 x.0 x.1)
+
+  -- the names of what was taken are told
+  told_at : (names : Names) → GrowsTo (names_at passed) names → (n : ℕ) → IsPrefix (names_of (passed.taken n)) (names n)
+  told_at names grown n = prefix_trans (names_of (passed.taken n)) (names_of (passed.sent n)) (names n) (begins_map (λ (c : Cargo). name_of c.1) (passed.taken n) (passed.sent n) (work.hands_over n)) (grown n)
 
   module _ (net : NetPlace) (whole : HasWholeIn scene rows net cast) where
     receiver_at_work : (v : NetVirtRx) → receiver_part v ≡ receiver_at net.first net.pool net.macs → FitsActor ends (Kinds.NetVirtRx v) → ActorStandsFor (Kinds.NetVirtRx v) passed → IsReceiverAt net.first net.pool net.macs v passed
@@ -154,9 +169,9 @@ module _ (scene : Scene) (ends : Role → ℕ → End) (rows : List QueueRow) (a
         let many : c.stock.buffers ≡ q.rx.buffers = ap (λ (p : PoolAt). p.buffers) own in
         record { part = part; some = omega (arith, many, some); row = client_row c passed stands }
 
-    client_there : (k : ℕ) (program : Program) (mac : Mac) (q : ClientPools) → IsClientOf net k program mac q → (c : NetClient) × IsSendingClient net k program mac q c passed
-    client_there k program mac q of =
-        let x = actor_of (NetworkPart (client_at net.first k program mac (own_pools q))) (whole.client k program mac q of) in
+    client_there : AreClients wild net passed
+    client_there k program mac q of calm =
+        let x = actor_of (NetworkPart (client_at net.first k program mac (own_pools q))) (whole.client k program mac q of calm) in
         let c = client_actor net.first k program mac (own_pools q) x.0 x.1 in
         (c.0, client_at_work k program mac q c.0 c.2 (whole.some k q of.pools) (subst (FitsActor ends) c.1 x.2) (subst (λ a. ActorStandsFor a passed) c.1 x.3))
 
@@ -170,7 +185,6 @@ module _ (scene : Scene) (ends : Role → ℕ → End) (rows : List QueueRow) (a
       device_at = part;
       sender = v;
       sender_at = at;
-      clients = client_there;
       addresses = whole.addresses;
       received = whole.frames;
       scripts = whole.scripts;
@@ -209,42 +223,58 @@ module _ (scene : Scene) (ends : Role → ℕ → End) (rows : List QueueRow) (a
     client_of : (k : ℕ) (c : NetClient) → slice_get actors k ≡ Some (Kinds.NetClient c) → (j : ℕ) × (p : Program) × (m : Mac) × (q : ClientPools) × IsClientOf net j p m q × (client_part c ≡ client_at net.first j p m (own_pools q))
     client_of k c at = client_is net frames _ _ _ _ _ _ _ _ (whole.only k (client_part c) (map_get part_of actors k (Kinds.NetClient c) at))
 
-    sender_turns : AllSend net passed → (v : NetVirtTx) → IsSenderAt net v passed → SendsInTurn v passed
+    -- nothing comes out of turn at the sending virtualiser but from a hostile client
+    sender_strays : CalmSend wild net passed → (v : NetVirtTx) → IsSenderAt net v passed → (row : TxRow v passed) → StraysWild wild v row.place row.stray
     unfolding whole_with
-    sender_turns sends v is =
-        let all = whole_with device_there.0 device_there.1 device_there.2 v is in
-        let send = sends in
-        record {
-          good = good_taken net frames passed all is.row send;
-          in_turn = λ row. none_out net frames passed all row send;
-        }
+    sender_strays sends v is row = none_out net frames passed (whole_with device_there.0 device_there.1 device_there.2 v is) row wild client_there sends
 
-    whole_turns : AllSend net passed → HasNoBlock cast ⊎ ((place : BlkPlace) × HasBlkIn scene rows place cast) → ClientsAsk cast passed → (k : ℕ) (x : Actor) → slice_get actors k ≡ Some x → FitsActor ends x → ActorStandsFor x passed → InTurn scene x passed
-    whole_turns sends block ask k (Kinds.UartDevice x) at fits stands = tt
-    whole_turns sends block ask k (Kinds.UartDriver x) at fits stands = tt
-    whole_turns sends block ask k (Kinds.SerialVirtRx x) at fits stands = tt
-    whole_turns sends block ask k (Kinds.SerialVirtTx x) at fits stands = tt
-    whole_turns sends block ask k (Kinds.SerialClient x) at fits stands = tt
-    whole_turns sends block ask k (Kinds.EthDevice x) at fits stands = tt
-    whole_turns sends block ask k (Kinds.EthDriver x) at fits stands = tt
-    whole_turns sends block ask k (Kinds.NetVirtRx v) at fits stands = receiver_turns v (receiver_at_work v (receiver_is net frames v (whole.only k (receiver_part v) (map_get part_of actors k (Kinds.NetVirtRx v) at))) fits stands)
-    whole_turns sends block ask k (Kinds.NetCopier c) at fits stands =
+    -- of the other clients it takes good descriptors alone
+    sender_good : CalmSend wild net passed → (v : NetVirtTx) → IsSenderAt net v passed → CalmGood wild v passed
+    unfolding whole_with
+    sender_good sends v is = good_taken net frames passed (whole_with device_there.0 device_there.1 device_there.2 v is) is.row wild client_there sends
+
+    -- the sending virtualiser of a cast is that of the place
+    sender_here : (k : ℕ) (v : NetVirtTx) → slice_get actors k ≡ Some (Kinds.NetVirtTx v) → IsSenderAt net v passed
+    sender_here k v at = record { part = sender_is net frames v (whole.only_sender k (send_part v) (map_get part_of actors k (Kinds.NetVirtTx v) at)); row = sender_row v passed (work.stands k (Kinds.NetVirtTx v) at) }
+
+    sends_in_turn : CalmSend wild net passed → ((n : ℕ) → wild n ≡ false) → (k : ℕ) (v : NetVirtTx) → slice_get actors k ≡ Some (Kinds.NetVirtTx v) → (row : TxRow v passed) → row.stray ≡ []
+    sends_in_turn sends none k v at row = by (sender_strays sends v (sender_here k v at) row)
+      where
+        by : StraysWild wild v row.place row.stray → row.stray ≡ []
+        by (inl e) = e
+        by (inr (j, q, q_at, e, is_wild)) = let calm = none q.0 in absurd cc
+
+    whole_turns : CalmSend wild net passed → HasNoBlock cast ⊎ ((place : BlkPlace) × HasBlkIn scene rows place cast) → ClientsAsk cast passed → (names : Names) → GrowsTo (names_at passed) names → AreInTurn wild actors passed → (k : ℕ) (x : Actor) → slice_get actors k ≡ Some x → FitsActor ends x → ActorStandsFor x passed → ToldInTurn scene wild names x passed
+    whole_turns sends block ask names grown turn k (Kinds.UartDevice x) at fits stands = tt
+    whole_turns sends block ask names grown turn k (Kinds.UartDriver x) at fits stands = tt
+    whole_turns sends block ask names grown turn k (Kinds.SerialVirtRx x) at fits stands = tt
+    whole_turns sends block ask names grown turn k (Kinds.SerialVirtTx x) at fits stands = tt
+    whole_turns sends block ask names grown turn k (Kinds.SerialClient x) at fits stands = tt
+    whole_turns sends block ask names grown turn k (Kinds.EthDevice x) at fits stands = tt
+    whole_turns sends block ask names grown turn k (Kinds.EthDriver x) at fits stands = tt
+    whole_turns sends block ask names grown turn k (Kinds.NetVirtRx v) at fits stands = receiver_turns v (receiver_at_work v (receiver_is net frames v (whole.only k (receiver_part v) (map_get part_of actors k (Kinds.NetVirtRx v) at))) fits stands)
+    whole_turns sends block ask names grown turn k (Kinds.NetCopier c) at fits stands =
         let is = copier_is net frames c (whole.only k (copier_part c) (map_get part_of actors k (Kinds.NetCopier c) at)) in
         let own = copier_queues net.first is.0 c is.2 in
         subst (λ n. AreLeases (passed.taken n)) (sym own.0) (cast_leases net.first frames net.pool net.macs passed half_there is.0 is.1)
-    whole_turns sends block ask k (Kinds.NetClient c) at fits stands =
+    whole_turns sends block ask names grown turn k (Kinds.NetClient c) at fits stands =
         let is = client_of k c at in
         let part = is.5 in
         let own : c.program.mac ≡ is.2 = cc in
         let records = client_records is.0 is.1 is.2 (own_pools is.3) c part (whole.some is.0 is.3 is.4.pools) (whole.fits_client is.0 is.3 is.4.pools).0 is.4.address fits stands in
         (fits.1, λ echo. subst (λ m. IsPrefix c.frames.tape.shown (frames_for m frames)) (sym own) records)
-    whole_turns sends block ask k (Kinds.NetVirtTx v) at fits stands =
-        let part = sender_is net frames v (whole.only_sender k (send_part v) (map_get part_of actors k (Kinds.NetVirtTx v) at)) in
-        sender_turns sends v (record { part = part; row = sender_row v passed stands })
-    whole_turns sends block ask k (Kinds.DiskDevice x) at fits stands = disk_by scene ends rows actors passed work block ask k x at
-    whole_turns sends block ask k (Kinds.BlkDriver x) at fits stands = tt
-    whole_turns sends block ask k (Kinds.BlkVirt x) at fits stands = virt_by scene ends rows actors passed work block ask k x at
-    whole_turns sends block ask k (Kinds.BlkClient x) at fits stands = client_by scene ends rows actors passed work block k x at
+    whole_turns sends block ask names grown turn k (Kinds.NetVirtTx v) at fits stands =
+        record {
+          tells = λ j c c_at is_wild. told_at names grown c.active;
+          backs = λ j c c_at is_wild. grown c.free;
+          good = sender_good sends v (sender_here k v at);
+          returns = turn.returns k v at;
+          in_turn = turn.sends k v at;
+        }
+    whole_turns sends block ask names grown turn k (Kinds.DiskDevice x) at fits stands = turn.disk k x at
+    whole_turns sends block ask names grown turn k (Kinds.BlkDriver x) at fits stands = tt
+    whole_turns sends block ask names grown turn k (Kinds.BlkVirt x) at fits stands = (virt_by scene ends rows actors passed work block ask k x at, λ j q q_at is_wild. told_at names grown q.0)
+    whole_turns sends block ask names grown turn k (Kinds.BlkClient x) at fits stands = client_by scene ends rows actors passed work block k x at
 
     pub recorded_here : (k c : ℕ) (x : Actor) (program : Program) (mac : Mac) (pools : ClientPools) → slice_get actors k ≡ Some x → part_of x ≡ NetworkPart (client_at net.first c program mac pools) → 1 ≤ pools.rx.buffers → net.most ≤ pools.rx.size → slice_get net.macs c ≡ Some mac → IsPrefix (frames_got x) (frames_for mac frames)
     recorded_here k c x program mac pools at part some enough address =
@@ -253,94 +283,156 @@ module _ (scene : Scene) (ends : Role → ℕ → End) (rows : List QueueRow) (a
         let stands : ActorStandsFor (Kinds.NetClient y.0) passed = subst (λ a. ActorStandsFor a passed) y.1 (work.stands k x at) in
         subst (λ a. IsPrefix (frames_got a) (frames_for mac frames)) (sym y.1) (client_records c program mac pools y.0 y.2 some enough address fits stands)
 
-    pub sent_here : AllSend net passed → (k : ℕ) (x : Actor) → slice_get actors k ≡ Some x → part_of x ≡ NetworkPart (device_at net.first frames) → PrefixMerge (sends_at net.programs net.macs frames) (frames_got x)
+    pub sent_here : CalmSend wild net passed → (k : ℕ) (x : Actor) → slice_get actors k ≡ Some x → part_of x ≡ NetworkPart (device_at net.first frames) → PrefixMerge (sends_beside wild net frames passed) (frames_got x)
     unfolding whole_with half_with
     sent_here sends k x at part =
         let d = device_actor net.first frames x part in
         let row = device_row_of d.0 passed (subst (λ a. ActorStandsFor a passed) d.1 (work.stands k x at)) in
         let all = whole_with d.0 d.2 row sender_there.0 sender_there.1 in
-        subst (λ a. PrefixMerge (sends_at net.programs net.macs frames) (frames_got a)) (sym d.1) (wire_is net frames passed all sender_there.1.row sends)
+        subst (λ a. PrefixMerge (sends_beside wild net frames passed) (frames_got a)) (sym d.1) (wire_is net frames passed all sender_there.1.row wild client_there sends)
 
-    pub told_here : AllSend net passed → (k : ℕ) (x : Actor) → slice_get actors k ≡ Some x → part_of x ≡ NetworkPart (device_at net.first frames) → frames_got x ≡ wire_at net frames (items_of (passed.taken (net.first + 2)))
+    pub told_here : CalmSend wild net passed → (k : ℕ) (x : Actor) → slice_get actors k ≡ Some x → part_of x ≡ NetworkPart (device_at net.first frames) → frames_got x ≡ wire_beside wild net frames passed
     unfolding whole_with half_with
     told_here sends k x at part =
         let d = device_actor net.first frames x part in
         let row = device_row_of d.0 passed (subst (λ a. ActorStandsFor a passed) d.1 (work.stands k x at)) in
         let all = whole_with d.0 d.2 row sender_there.0 sender_there.1 in
-        subst (λ a. frames_got a ≡ wire_at net frames (items_of (passed.taken (net.first + 2)))) (sym d.1) (wire_by net frames passed all sender_there.1.row sends)
+        subst (λ a. frames_got a ≡ wire_beside wild net frames passed) (sym d.1) (wire_by net frames passed all sender_there.1.row wild client_there sends)
 
-    -- what came back to a client is in its own buffers
-    pub back_here : AllSend net passed → (k : ℕ) (program : Program) (mac : Mac) (q : ClientPools) → IsClientOf net k program mac q → AreSends net.most q.tx (passed.taken (client_first net.first k + 5))
+    -- what came back to a client that put entries in its own buffers is in them
+    pub back_here : (k : ℕ) (program : Program) (mac : Mac) (q : ClientPools) → IsClientOf net k program mac q → AreSends net.most q.tx (passed.sent (client_first net.first k + 4)) → AreSends net.most q.tx (passed.taken (client_first net.first k + 5))
     unfolding whole_with
-    back_here sends = back_is net frames passed (whole_with device_there.0 device_there.1 device_there.2 sender_there.0 sender_there.1) sender_there.1.row sends
+    back_here = back_is net frames passed (whole_with device_there.0 device_there.1 device_there.2 sender_there.0 sender_there.1) sender_there.1.row
 
     -- and then what it puts sends frames in them
-    pub puts_here : (k : ℕ) (program : Program) (mac : Mac) (q : ClientPools) → IsClientOf net k program mac q → AreSends net.most q.tx (passed.taken (client_first net.first k + 5)) → AreSends net.most q.tx (passed.sent (client_first net.first k + 4))
-    puts_here = client_puts net frames passed whole_there
+    pub puts_here : (k : ℕ) (program : Program) (mac : Mac) (q : ClientPools) → IsClientOf net k program mac q → wild (client_first net.first k + 4) ≡ false → AreSends net.most q.tx (passed.taken (client_first net.first k + 5)) → AreSends net.most q.tx (passed.sent (client_first net.first k + 4))
+    puts_here k program mac q of calm =
+        let c = client_there k program mac q of calm in
+        client_puts net frames passed whole_there k program mac q of c.0 c.1
 
-  none_turns : HasNoNetwork cast → HasNoBlock cast ⊎ ((place : BlkPlace) × HasBlkIn scene rows place cast) → ClientsAsk cast passed → (k : ℕ) (x : Actor) → slice_get actors k ≡ Some x → InTurn scene x passed
-  none_turns empty block ask k (Kinds.UartDevice x) at = tt
-  none_turns empty block ask k (Kinds.UartDriver x) at = tt
-  none_turns empty block ask k (Kinds.SerialVirtRx x) at = tt
-  none_turns empty block ask k (Kinds.SerialVirtTx x) at = tt
-  none_turns empty block ask k (Kinds.SerialClient x) at = tt
-  none_turns empty block ask k (Kinds.EthDevice x) at = tt
-  none_turns empty block ask k (Kinds.EthDriver x) at = tt
-  none_turns empty block ask k (Kinds.NetVirtRx v) at = absurd (empty.none k (receiver_part v) (map_get part_of actors k (Kinds.NetVirtRx v) at))
-  none_turns empty block ask k (Kinds.NetCopier c) at = absurd (empty.none k (copier_part c) (map_get part_of actors k (Kinds.NetCopier c) at))
-  none_turns empty block ask k (Kinds.NetClient c) at = absurd (empty.none k (client_part c) (map_get part_of actors k (Kinds.NetClient c) at))
-  none_turns empty block ask k (Kinds.NetVirtTx v) at = absurd (empty.no_sender k (send_part v) (map_get part_of actors k (Kinds.NetVirtTx v) at))
-  none_turns empty block ask k (Kinds.DiskDevice x) at = disk_by scene ends rows actors passed work block ask k x at
-  none_turns empty block ask k (Kinds.BlkDriver x) at = tt
-  none_turns empty block ask k (Kinds.BlkVirt x) at = virt_by scene ends rows actors passed work block ask k x at
-  none_turns empty block ask k (Kinds.BlkClient x) at = client_by scene ends rows actors passed work block k x at
+    -- where no client is hostile each sends by its program
+    pub sends_calm_here : NoneHostile wild net → sends_beside wild net frames passed ≡ sends_at net.programs net.macs frames
+    sends_calm_here = sends_calm wild net frames passed whole_there
 
-  turns_by : HasNoNetwork cast ⊎ ((net : NetPlace) × HasWholeIn scene rows net cast) → HasNoBlock cast ⊎ ((place : BlkPlace) × HasBlkIn scene rows place cast) → ClientsSendIn scene rows cast passed → (k : ℕ) (x : Actor) → slice_get actors k ≡ Some x → InTurn scene x passed
-  turns_by (inl empty) block sends k x at = none_turns empty block sends.requests k x at
-  turns_by (inr net) block sends k x at = whole_turns net.0 net.1 (sends.frames net.0 net.1) block sends.requests k x at (work.fits k x at) (work.stands k x at)
+    pub wire_calm_here : NoneHostile wild net → wire_beside wild net frames passed ≡ wire_at net frames (items_of (passed.taken (net.first + 2)))
+    wire_calm_here = wire_calm wild net frames passed whole_there
+
+  none_turns : HasNoNetwork cast → HasNoBlock cast ⊎ ((place : BlkPlace) × HasBlkIn scene rows place cast) → ClientsAsk cast passed → (names : Names) → GrowsTo (names_at passed) names → AreInTurn wild actors passed → (k : ℕ) (x : Actor) → slice_get actors k ≡ Some x → ToldInTurn scene wild names x passed
+  none_turns empty block ask names grown turn k (Kinds.UartDevice x) at = tt
+  none_turns empty block ask names grown turn k (Kinds.UartDriver x) at = tt
+  none_turns empty block ask names grown turn k (Kinds.SerialVirtRx x) at = tt
+  none_turns empty block ask names grown turn k (Kinds.SerialVirtTx x) at = tt
+  none_turns empty block ask names grown turn k (Kinds.SerialClient x) at = tt
+  none_turns empty block ask names grown turn k (Kinds.EthDevice x) at = tt
+  none_turns empty block ask names grown turn k (Kinds.EthDriver x) at = tt
+  none_turns empty block ask names grown turn k (Kinds.NetVirtRx v) at = absurd (empty.none k (receiver_part v) (map_get part_of actors k (Kinds.NetVirtRx v) at))
+  none_turns empty block ask names grown turn k (Kinds.NetCopier c) at = absurd (empty.none k (copier_part c) (map_get part_of actors k (Kinds.NetCopier c) at))
+  none_turns empty block ask names grown turn k (Kinds.NetClient c) at = absurd (empty.none k (client_part c) (map_get part_of actors k (Kinds.NetClient c) at))
+  none_turns empty block ask names grown turn k (Kinds.NetVirtTx v) at = absurd (empty.no_sender k (send_part v) (map_get part_of actors k (Kinds.NetVirtTx v) at))
+  none_turns empty block ask names grown turn k (Kinds.DiskDevice x) at = turn.disk k x at
+  none_turns empty block ask names grown turn k (Kinds.BlkDriver x) at = tt
+  none_turns empty block ask names grown turn k (Kinds.BlkVirt x) at = (virt_by scene ends rows actors passed work block ask k x at, λ j q q_at is_wild. told_at names grown q.0)
+  none_turns empty block ask names grown turn k (Kinds.BlkClient x) at = client_by scene ends rows actors passed work block k x at
+
+  turns_by : HasNoNetwork cast ⊎ ((net : NetPlace) × HasWholeIn scene rows net cast) → HasNoBlock cast ⊎ ((place : BlkPlace) × HasBlkIn scene rows place cast) → ClientsSendIn scene rows cast passed → (names : Names) → GrowsTo (names_at passed) names → AreInTurn wild actors passed → (k : ℕ) (x : Actor) → slice_get actors k ≡ Some x → ToldInTurn scene wild names x passed
+  turns_by (inl empty) block sends names grown turn k x at = none_turns empty block sends.requests names grown turn k x at
+  turns_by (inr net) block sends names grown turn k x at = whole_turns net.0 net.1 (sends.frames net.0 net.1) block sends.requests names grown turn k x at (work.fits k x at) (work.stands k x at)
+
+  -- where nobody is hostile nothing comes out of turn from a hostile client
+  calm_turns : HasNoNetwork cast ⊎ ((net : NetPlace) × HasWholeIn scene rows net cast) → HasNoBlock cast ⊎ ((place : BlkPlace) × HasBlkIn scene rows place cast) → ClientsSendIn scene rows cast passed → ((n : ℕ) → wild n ≡ false) → AreInTurn wild actors passed
+  calm_turns network block sends none = record {
+    sends = by network;
+    returns = λ k v at j s q s_at q_at is_wild. let calm = none q.0 in absurd cc;
+    disk = disk_by scene ends rows actors passed work block sends.requests (λ place k pool at is_wild. let calm = none (place.first + 4 + 2 * k) in absurd cc);
+  }
+    where
+      by : HasNoNetwork cast ⊎ ((net : NetPlace) × HasWholeIn scene rows net cast) → (k : ℕ) (v : NetVirtTx) → slice_get actors k ≡ Some (Kinds.NetVirtTx v) → (row : TxRow v passed) → row.stray ≡ []
+      by (inl empty) k v at row = absurd (empty.no_sender k (send_part v) (map_get part_of actors k (Kinds.NetVirtTx v) at))
+      by (inr net) k v at row = sends_in_turn net.0 net.1 (sends.frames net.0 net.1) none k v at row
+
+-- beside hostile clients
+pub turns_beside : (scene : Scene) (ends : Role → ℕ → End) (rows : List QueueRow) (actors : List Actor) (passed : Passed) (names : Names) → IsWiredIn scene rows (map part_of actors) → AreAtWork ends rows actors passed → ClientsSendIn scene rows (map part_of actors) passed → GrowsTo (names_at passed) names → AreInTurn (wild_in (hostiles (map part_of actors)) rows) actors passed → (k : ℕ) (x : Actor) → slice_get actors k ≡ Some x → ToldInTurn scene (wild_in (hostiles (map part_of actors)) rows) names x passed
+turns_beside scene ends rows actors passed names wired work sends grown turn = turns_by scene ends rows actors passed work wired.network wired.block sends names grown turn
+
+-- where nobody is hostile no name is asked
+turns_calm : (scene : Scene) (wild : Wild) (names : Names) (x : Actor) (passed : Passed) → ((n : ℕ) → wild n ≡ false) → ToldInTurn scene wild names x passed → InTurn scene x passed
+turns_calm scene wild names (Kinds.UartDevice x) passed none is = is
+turns_calm scene wild names (Kinds.UartDriver x) passed none is = is
+turns_calm scene wild names (Kinds.SerialVirtRx x) passed none is = is
+turns_calm scene wild names (Kinds.SerialVirtTx x) passed none is = is
+turns_calm scene wild names (Kinds.SerialClient x) passed none is = is
+turns_calm scene wild names (Kinds.EthDevice x) passed none is = is
+turns_calm scene wild names (Kinds.EthDriver x) passed none is = is
+turns_calm scene wild names (Kinds.NetVirtRx x) passed none is = is
+turns_calm scene wild names (Kinds.NetCopier x) passed none is = is
+turns_calm scene wild names (Kinds.NetClient x) passed none is = is
+turns_calm scene wild names (Kinds.NetVirtTx x) passed none is = record { good = λ k s q s_at q_at. is.good k s q s_at q_at (none q.0); in_turn = is.in_turn }
+turns_calm scene wild names (Kinds.DiskDevice x) passed none is = is
+turns_calm scene wild names (Kinds.BlkDriver x) passed none is = is
+turns_calm scene wild names (Kinds.BlkVirt x) passed none is =
+    let both = is.0 in
+    record { free = both.free; in_turn = both.in_turn; answered = both.answered; sector = both.sector; sectors = both.sectors; good = λ k h q h_at q_at. both.good k h q h_at q_at (none q.0); apart = both.apart; from_each = both.from_each; to_each = both.to_each }
+turns_calm scene wild names (Kinds.BlkClient x) passed none is = is
 
 pub in_turn : {scene : Scene} (ends : Role → ℕ → End) (rows : List QueueRow) (actors : List Actor) (passed : Passed) → IsWiredIn scene rows (map part_of actors) → AreAtWork ends rows actors passed → ClientsSendIn scene rows (map part_of actors) passed → (k : ℕ) (x : Actor) → slice_get actors k ≡ Some x → InTurn scene x passed
-in_turn {scene} ends rows actors passed wired work = turns_by scene ends rows actors passed work wired.network wired.block
+in_turn {scene} ends rows actors passed wired work sends k x at =
+    let cast = map part_of actors in
+    let none = none_wild cast rows in
+    let turn = calm_turns scene ends rows actors passed work wired.network wired.block sends none in
+    turns_calm scene (wild_in (hostiles cast) rows) (names_at passed) x passed none (turns_beside scene ends rows actors passed (names_at passed) wired work sends (λ n. ([], append-nil (names_at passed n))) turn k x at)
 
 pub recorded : {scene : Scene} (ends : Role → ℕ → End) (rows : List QueueRow) (actors : List Actor) (passed : Passed) (net : NetPlace) → HasWholeIn scene rows net (map part_of actors) → AreAtWork ends rows actors passed → (k c : ℕ) (x : Actor) (program : Program) (mac : Mac) (pools : ClientPools) → slice_get actors k ≡ Some x → part_of x ≡ NetworkPart (client_at net.first c program mac pools) → 1 ≤ pools.rx.buffers → net.most ≤ pools.rx.size → slice_get net.macs c ≡ Some mac
     → IsPrefix (frames_got x) (frames_for mac scene.frames)
 recorded {scene} ends rows actors passed net whole work = recorded_here scene ends rows actors passed work net whole
 
+pub sent_beside : {scene : Scene} (ends : Role → ℕ → End) (rows : List QueueRow) (actors : List Actor) (passed : Passed) (net : NetPlace) → HasWholeIn scene rows net (map part_of actors) → AreAtWork ends rows actors passed → ClientsSendIn scene rows (map part_of actors) passed → (k : ℕ) (x : Actor) → slice_get actors k ≡ Some x → part_of x ≡ NetworkPart (device_at net.first scene.frames)
+    → PrefixMerge (sends_beside (wild_in (hostiles (map part_of actors)) rows) net scene.frames passed) (frames_got x)
+sent_beside {scene} ends rows actors passed net whole work sends = sent_here scene ends rows actors passed work net whole (sends.frames net whole)
+
+pub told_beside : {scene : Scene} (ends : Role → ℕ → End) (rows : List QueueRow) (actors : List Actor) (passed : Passed) (net : NetPlace) → HasWholeIn scene rows net (map part_of actors) → AreAtWork ends rows actors passed → ClientsSendIn scene rows (map part_of actors) passed → (k : ℕ) (x : Actor) → slice_get actors k ≡ Some x → part_of x ≡ NetworkPart (device_at net.first scene.frames)
+    → frames_got x ≡ wire_beside (wild_in (hostiles (map part_of actors)) rows) net scene.frames passed
+told_beside {scene} ends rows actors passed net whole work sends = told_here scene ends rows actors passed work net whole (sends.frames net whole)
+
+-- nobody is hostile: so each client of the network sends by its program
+none_hostile : (cast : List Part) (rows : List QueueRow) (net : NetPlace) → NoneHostile (wild_in (hostiles cast) rows) net
+none_hostile cast rows net k below = none_wild cast rows (client_first net.first k + 4)
+
 pub sent_on : {scene : Scene} (ends : Role → ℕ → End) (rows : List QueueRow) (actors : List Actor) (passed : Passed) (net : NetPlace) → HasWholeIn scene rows net (map part_of actors) → AreAtWork ends rows actors passed → ClientsSendIn scene rows (map part_of actors) passed → (k : ℕ) (x : Actor) → slice_get actors k ≡ Some x → part_of x ≡ NetworkPart (device_at net.first scene.frames)
     → PrefixMerge (sends_at net.programs net.macs scene.frames) (frames_got x)
-sent_on {scene} ends rows actors passed net whole work sends = sent_here scene ends rows actors passed work net whole (sends.frames net whole)
+sent_on {scene} ends rows actors passed net whole work sends k x at part = subst (λ l. PrefixMerge l (frames_got x)) (sends_calm_here scene ends rows actors passed work net whole (none_hostile (map part_of actors) rows net)) (sent_beside ends rows actors passed net whole work sends k x at part)
 
 pub sent_told : {scene : Scene} (ends : Role → ℕ → End) (rows : List QueueRow) (actors : List Actor) (passed : Passed) (net : NetPlace) → HasWholeIn scene rows net (map part_of actors) → AreAtWork ends rows actors passed → ClientsSendIn scene rows (map part_of actors) passed → (k : ℕ) (x : Actor) → slice_get actors k ≡ Some x → part_of x ≡ NetworkPart (device_at net.first scene.frames)
     → frames_got x ≡ wire_at net scene.frames (items_of (passed.taken (net.first + 2)))
-sent_told {scene} ends rows actors passed net whole work sends = told_here scene ends rows actors passed work net whole (sends.frames net whole)
+sent_told {scene} ends rows actors passed net whole work sends k x at part = told_beside ends rows actors passed net whole work sends k x at part ∙ wire_calm_here scene ends rows actors passed work net whole (none_hostile (map part_of actors) rows net)
 
 -- nothing was put at the start
 pub nothing_sent : {scene : Scene} (rows : List QueueRow) (cast : List Part) → ClientsSendIn scene rows cast nothing_passed
 nothing_sent rows cast = record {
-  frames = λ net whole k q at j c there. cc;
+  frames = λ net whole k q at calm j c there. cc;
   requests = nothing_asked cast;
 }
 
 -- a client's entries after one more call: where it puts one, nothing came back to it in this call
 module _ (scene : Scene) (ends ends' : Role → ℕ → End) (rows : List QueueRow) (actors actors' : List Actor) (passed : Passed) (deed : Deed) (same : map part_of actors' ≡ map part_of actors) (work : AreAtWork ends rows actors passed) (sends : NetClientsSendIn scene rows (map part_of actors) passed) (later : AreAtWork ends' rows actors' (with_deed passed deed)) where
   module _ (net : NetPlace) (whole : HasWholeIn scene rows net (map part_of actors)) where
-    client_sends_on : (k : ℕ) (program : Program) (mac : Mac) (q : ClientPools) → IsClientOf net k program mac q → AreSends net.most q.tx (passed.sent (client_first net.first k + 4)) → AreSends net.most q.tx ((with_deed passed deed).sent (client_first net.first k + 4))
-    client_sends_on k program mac q of old = by (puts_or_takes passed deed)
+    client_sends_on : (k : ℕ) (program : Program) (mac : Mac) (q : ClientPools) → IsClientOf net k program mac q → wild_in (hostiles (map part_of actors)) rows (client_first net.first k + 4) ≡ false → AreSends net.most q.tx (passed.sent (client_first net.first k + 4)) → AreSends net.most q.tx ((with_deed passed deed).sent (client_first net.first k + 4))
+    client_sends_on k program mac q of calm old = by (puts_or_takes passed deed)
       where
         by : ((n : ℕ) → (with_deed passed deed).sent n ≡ passed.sent n) ⊎ ((n : ℕ) → (with_deed passed deed).taken n ≡ passed.taken n) → AreSends net.most q.tx ((with_deed passed deed).sent (client_first net.first k + 4))
         by (inl still) = subst (AreSends net.most q.tx) (sym (still (client_first net.first k + 4))) old
         by (inr still) =
-            let back = back_here scene ends rows actors passed work net whole (sends net whole) k program mac q of in
-            puts_here scene ends' rows actors' (with_deed passed deed) later net (subst (HasWholeIn scene rows net) (sym same) whole) k program mac q of (subst (AreSends net.most q.tx) (sym (still (client_first net.first k + 5))) back)
+            let back = back_here scene ends rows actors passed work net whole k program mac q of old in
+            let calm_on = subst (λ c. wild_in (hostiles c) rows (client_first net.first k + 4) ≡ false) (sym same) calm in
+            puts_here scene ends' rows actors' (with_deed passed deed) later net (subst (HasWholeIn scene rows net) (sym same) whole) k program mac q of calm_on (subst (AreSends net.most q.tx) (sym (still (client_first net.first k + 5))) back)
 
-    whole_sends_on : AllSend net (with_deed passed deed)
-    whole_sends_on k q at =
+    whole_sends_on : CalmSend (wild_in (hostiles (map part_of actors)) rows) net (with_deed passed deed)
+    whole_sends_on k q at calm =
         let below = there_below net.pools k q at in
         let pools_many = whole.pools_many in
         let programs_many = whole.programs_many in
         let mac = there_is net.macs k (omega (arith, below, pools_many)) in
         let program = there_is net.programs k (omega (arith, below, pools_many, programs_many)) in
-        client_sends_on k program.0 mac.0 q (record { address = mac.1; pools = at; plays = program.1 }) (sends net whole k q at)
+        client_sends_on k program.0 mac.0 q (record { address = mac.1; pools = at; plays = program.1 }) calm (sends net whole k q at calm)
 
 pub sends_in : {scene : Scene} (ends ends' : Role → ℕ → End) (rows : List QueueRow) (actors actors' : List Actor) (passed : Passed) (deed : Deed) → IsWiredIn scene rows (map part_of actors) → map part_of actors' ≡ map part_of actors → AreAtWork ends rows actors passed → ClientsSendIn scene rows (map part_of actors) passed → AreAtWork ends' rows actors' (with_deed passed deed) → ClientsSendIn scene rows (map part_of actors') (with_deed passed deed)
 sends_in {scene} ends ends' rows actors actors' passed deed wired same work sends later = subst (λ c. ClientsSendIn scene rows c (with_deed passed deed)) (sym same) (record {

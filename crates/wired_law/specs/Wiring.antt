@@ -1,6 +1,7 @@
 -- The actors of the network and of the block class in a cast: of either there are none, or they are
 -- the whole class at the layout's queues.
-use Rattle.std.specs.Prelude.{◌≡◌, ◌⊎◌, ◌+◌, ◌*◌, ◌<◌, ◌≤◌, ℕ, Some, List, length, slice_get}
+use Rattle.std.specs.Prelude.{◌≡◌, ◌⊎◌, ◌+◌, ◌*◌, ◌<◌, ◌≤◌, ℕ, false, Some, List, [], length}
+use Rattle.std.specs.Prelude.{slice_get}
 use Rattle.cargo_core.specs.Blocks.{block_bytes}
 use Rattle.cargo_core.specs.Items.{kind_of}
 use Rattle.cargo_core.specs.declared.item.Ask.{Ask}
@@ -10,25 +11,33 @@ use Rattle.wire_core.specs.declared.names.QueueRow.{QueueRow}
 use Rattle.wire_core.specs.Deeds.{Cargo}
 use Rattle.wire_core.specs.Ends.{Role, End}
 use Rattle.wire_core.specs.Lists.{Passed}
+use Rattle.play_core.specs.Names.{Wild, wild_in}
 use Rattle.play_core.specs.Sheets.{Scene}
 use Rattle.net_law.specs.Receiving.{HandsOver}
 use Rattle.net_expect.specs.Expecting.{Program, Source}
 use Rattle.net_law.specs.Owners.Names.{ClientPools}
 use Rattle.owner_law.specs.Pools.Places.{PoolAt}
 use Rattle.net_law.specs.Parts.Parts.{NetPart, NetClient}
-use Rattle.net_law.specs.Parts.Numbers.{device_at, driver_at, receiver_at, copier_at, client_at}
+use Rattle.net_law.specs.Parts.Numbers.{client_first, device_at, driver_at, receiver_at}
+use Rattle.net_law.specs.Parts.Numbers.{copier_at, client_at}
 use Rattle.net_law.specs.TxParts.Parts.{SendPart}
+use Rattle.net_law.specs.TxScene.Playing.{ReturnsGood}
+use Rattle.net_virt_tx.specs.Sending.{TxRow}
+use Rattle.net_virt_tx.specs.declared.NetVirtTx.{NetVirtTx}
 use Rattle.net_law.specs.TxParts.Numbers.{NetPlace, own_pools, sender_at}
-use Rattle.net_quiet.specs.TxCast.Casting.{AllSend, AreFrames, IsClientOf}
+use Rattle.net_quiet.specs.TxCast.Casting.{AreFrames, CalmSend, IsClientOf}
 use Rattle.blk_law.specs.Sheets.Parts.{BlkPart, BlkClient}
 use Rattle.blk_law.specs.Sheets.Numbers.{BlkPlace, IsBlkClientOf, disk_at, blk_driver_at, virt_at}
 use Rattle.blk_law.specs.Sheets.Numbers.{blk_client_at}
 use Rattle.blk_quiet.specs.Cast.Casting.{AreRequests}
 use Rattle.blk_law.specs.Replying.{AreSized}
+use Rattle.blk_law.specs.Sheets.Playing.{DiskInTurn}
 use Rattle.actor_set.specs.Parts.{Part, NetworkPart, SendingPart, BlockPart}
 use Rattle.actor_set.specs.Actors.{FitsActor, ActorStandsFor}
 use Rattle.actor_set.specs.declared.actor.Actor.{Actor}
-use Rattle.actor_set.specs.Laws.Kinds.{scene_of}
+use Rattle.actor_set.specs.declared.actor.Actor.TheVariants as Kinds
+use Rattle.actor_set.specs.declared.disk.Disk.{Disk}
+use Rattle.actor_set.specs.Laws.Kinds.{hostiles, scene_of}
 
 -- some actor of a cast plays this part
 abbrev pub HasPart : List Part → Part → Type 0
@@ -46,10 +55,10 @@ IsOfNetwork net frames p =
     × IsClientOf net k program mac q
     × (p ≡ NetworkPart (client_at net.first k program mac (own_pools q))))
 
--- a cast has the whole network, in a scene, and no other actor of it; each client has buffers to
--- receive in, and an address of six bytes; the class's queues carry entries of the network; each
--- frame, received or of a script, has 14 bytes to the most; and no frame is longer than a buffer of
--- any pool, or than an entry can say
+-- a cast has the whole network, in a scene, and no other actor of it, each client where no hostile
+-- actor has an end of its queue; each client has buffers to receive in, and an address of six
+-- bytes; the class's queues carry entries of the network; each frame, received or of a script, has
+-- 14 bytes to the most; and no frame is longer than a buffer of any pool, or than an entry can say
 pub record HasWholeIn (scene : Scene) (rows : List QueueRow) (net : NetPlace) (cast : List Part) :
     Type 0 where
   pub pools_many : length net.pools ≡ length net.macs
@@ -61,6 +70,7 @@ pub record HasWholeIn (scene : Scene) (rows : List QueueRow) (net : NetPlace) (c
   pub copier : (k : ℕ) → k < length net.macs → HasPart cast (NetworkPart (copier_at net.first k))
   pub client : (k : ℕ) (program : Program) (mac : Mac) (q : ClientPools)
       → IsClientOf net k program mac q
+      → wild_in (hostiles cast) rows (client_first net.first k + 4) ≡ false
       → HasPart cast (NetworkPart (client_at net.first k program mac (own_pools q)))
   pub only : (k : ℕ) (p : NetPart) → slice_get cast k ≡ Some (NetworkPart p)
       → IsOfNetwork net scene.frames (NetworkPart p)
@@ -94,9 +104,10 @@ IsOfBlock place p = (p ≡ disk_at place) ⊎ (p ≡ blk_driver_at place.first) 
     ⊎ ((k entry : ℕ) × (asks : List Ask) × (pool : PoolAt) × IsBlkClientOf place k entry asks pool
     × (p ≡ blk_client_at place.first k asks pool))
 
--- a cast has the whole block class and no other actor of it; each client has a buffer; requests go
--- to the driver; the disk has some blocks, which the scene tells; what a client writes has
--- the size that it says; and no two clients have the same entry of the table of partitions
+-- a cast has the whole block class and no other actor of it, each client where no hostile actor has
+-- an end of its queue; each client has a buffer; requests go to the driver; the disk has some
+-- blocks, which the scene tells; what a client writes has the size that it says; and no two clients
+-- have the same entry of the table of partitions
 pub record HasBlkIn (scene : Scene) (rows : List QueueRow) (place : BlkPlace) (cast : List Part) :
     Type 0 where
   pub asks_many : length place.asks ≡ length place.entries
@@ -106,6 +117,7 @@ pub record HasBlkIn (scene : Scene) (rows : List QueueRow) (place : BlkPlace) (c
   pub virt : HasPart cast (BlockPart (virt_at place))
   pub client : (k entry : ℕ) (asks : List Ask) (pool : PoolAt)
       → IsBlkClientOf place k entry asks pool
+      → wild_in (hostiles cast) rows (place.first + 4 + 2 * k) ≡ false
       → HasPart cast (BlockPart (blk_client_at place.first k asks pool))
   pub only : (k : ℕ) (p : BlkPart) → slice_get cast k ≡ Some (BlockPart p) → IsOfBlock place p
   pub requests : (row : QueueRow) × (slice_get rows (place.first + 2) ≡ Some row)
@@ -137,19 +149,20 @@ pub record IsWiredIn (scene : Scene) (rows : List QueueRow) (cast : List Part) :
 abbrev pub IsWired : List QueueRow → List Part → Type 0
 IsWired rows cast = IsWiredIn (scene_of cast) rows cast
 
--- each block client put requests in its own buffers alone
+-- each block client that isn't hostile put requests in its own buffers alone
 abbrev pub ClientsAsk : List Part → Passed → Type 0
 ClientsAsk cast passed = (k req resp : ℕ) (asks : List Ask) (pool : PoolAt)
-    → slice_get cast k ≡ Some (BlockPart (BlkClient req resp asks pool))
+    → hostiles cast k ≡ false → slice_get cast k ≡ Some (BlockPart (BlkClient req resp asks pool))
     → AreRequests pool (passed.sent req)
 
 -- wherever the network stands in a cast, each of its clients put entries alone that send frames in
--- buffers of its pool for sending
+-- buffers of its pool for sending, where no hostile actor has an end of the queue
 abbrev pub NetClientsSendIn : Scene → List QueueRow → List Part → Passed → Type 0
 NetClientsSendIn scene rows cast passed =
-    (net : NetPlace) → HasWholeIn scene rows net cast → AllSend net passed
+    (net : NetPlace) → HasWholeIn scene rows net cast
+    → CalmSend (wild_in (hostiles cast) rows) net passed
 
--- so they did, and each block client put requests in its own buffers alone
+-- so they did, and each block client that isn't hostile put requests in its own buffers alone
 pub record ClientsSendIn (scene : Scene) (rows : List QueueRow) (cast : List Part)
     (passed : Passed) : Type 0 where
   pub frames : NetClientsSendIn scene rows cast passed
@@ -172,3 +185,13 @@ pub record AreAtWork (ends : Role → ℕ → End) (rows : List QueueRow) (actor
   pub stands : (k : ℕ) (x : Actor) → slice_get actors k ≡ Some x → ActorStandsFor x passed
   pub hands_over : HandsOver passed
   pub kinds : AreOfKind rows passed
+
+-- nothing comes out of turn, whatever hostile clients put, where what they put may do so: at the
+-- network's sending virtualiser, to which good descriptors alone come back, and at the disk
+pub record AreInTurn (wild : Wild) (actors : List Actor) (passed : Passed) : Type 0 where
+  pub sends : (k : ℕ) (v : NetVirtTx) → slice_get actors k ≡ Some (Kinds.NetVirtTx v)
+      → (row : TxRow v passed) → row.stray ≡ []
+  pub returns : (k : ℕ) (v : NetVirtTx) → slice_get actors k ≡ Some (Kinds.NetVirtTx v)
+      → ReturnsGood wild v passed
+  pub disk : (k : ℕ) (d : Disk) → slice_get actors k ≡ Some (Kinds.DiskDevice d)
+      → DiskInTurn d.start.value d.device passed

@@ -13,32 +13,48 @@ ghost use Rattle.wire_core.specs.Ends.{Role, End};
 ghost use Rattle.wire_core.specs.Lists.{Passed, nothing_passed, with_deed};
 ghost use Rattle.wire_core.specs.Queues.{items_of};
 ghost use Rattle.net_expect.specs.Expecting.{Program, frames_for};
+ghost use Rattle.play_core.specs.Names.{GrowsTo, Names, names_at, wild_in};
 ghost use Rattle.play_core.specs.Sheets.{Scene};
 ghost use Rattle.net_law.specs.Owners.Names.{ClientPools};
 ghost use Rattle.net_law.specs.Parts.Numbers.{device_at, client_at};
 ghost use Rattle.net_law.specs.TxParts.Numbers.{NetPlace};
-ghost use Rattle.net_quiet.specs.TxCast.Casting.{sends_at, wire_at};
+ghost use Rattle.net_quiet.specs.TxCast.Casting.{sends_at, sends_beside, wire_at, wire_beside};
 ghost use Rattle.actor_set.specs.Parts.{Part, NetworkPart};
 ghost use Rattle.actor_set.specs.Actors.{part_of};
 ghost use Rattle.actor_set.specs.declared.actor.Actor.{Actor};
+ghost use Rattle.actor_set.specs.Laws.Kinds.{hostiles};
 ghost use Rattle.actor_set.specs.Laws.Records.{frames_got};
+ghost use Rattle.actor_set.specs.Laws.Scenes.{ToldInTurn};
 ghost use Rattle.actor_set.specs.Laws.Turning.{InTurn};
 ghost use Rattle.wired_law.specs.Wiring.{HasWholeIn, IsWiredIn, ClientsSendIn, AreAtWork};
+ghost use Rattle.wired_law.specs.Wiring.{AreInTurn};
 
 pub mod blk_replies;
 pub mod quiet;
+pub mod turning;
 
-/// Nothing comes out of turn at any actor of a cast that is wired in a scene, where its clients put
-/// good descriptors and requests alone; so they did when nothing had passed yet, and after one more
-/// call they still have. A network client with buffers of its own recorded a beginning of the
-/// frames that are for its address; and the device a merge of beginnings of what the clients send
-/// by their programs, which is what the items tell that it took.
+/// Nothing comes out of turn at any actor of a cast that is wired in a scene, where those of its
+/// clients that aren't hostile put good descriptors and requests alone (nobody is hostile yet): so
+/// they did when nothing had passed yet, and whatever hostile ones put, after one more call they
+/// still have. Beside hostile clients nothing does by the names that are told, where what those put
+/// isn't out of turn. A network client with buffers of its own recorded a beginning of the frames
+/// that are for its address; and the device a merge of beginnings of what the clients send, each by
+/// its program, a hostile one the frames of its good descriptors: which is what the items tell that
+/// it took.
 pub fn wired_law()
     ensures turns { (scene : Scene) (ends : Role → ℕ → End) (rows : List QueueRow)
         (actors : List Actor) (passed : Passed) → IsWiredIn scene rows (map part_of actors)
         → AreAtWork ends rows actors passed
         → ClientsSendIn scene rows (map part_of actors) passed → (k : ℕ) (x : Actor)
         → slice_get actors k ≡ Some x → InTurn scene x passed }
+    ensures turns_beside { (scene : Scene) (ends : Role → ℕ → End) (rows : List QueueRow)
+        (actors : List Actor) (passed : Passed) (names : Names)
+        → IsWiredIn scene rows (map part_of actors) → AreAtWork ends rows actors passed
+        → ClientsSendIn scene rows (map part_of actors) passed
+        → GrowsTo (names_at passed) names
+        → AreInTurn (wild_in (hostiles (map part_of actors)) rows) actors passed
+        → (k : ℕ) (x : Actor) → slice_get actors k ≡ Some x
+        → ToldInTurn scene (wild_in (hostiles (map part_of actors)) rows) names x passed }
     ensures starts { (scene : Scene) (rows : List QueueRow) (cast : List Part)
         → ClientsSendIn scene rows cast nothing_passed }
     ensures goes_on { (scene : Scene) (ends later : Role → ℕ → End) (rows : List QueueRow)
@@ -64,6 +80,22 @@ pub fn wired_law()
         → (k : ℕ) (x : Actor) → slice_get actors k ≡ Some x
         → part_of x ≡ NetworkPart (device_at net.first scene.frames)
         → PrefixMerge (sends_at net.programs net.macs scene.frames) (frames_got x) }
+    ensures wire_beside { (scene : Scene) (ends : Role → ℕ → End) (rows : List QueueRow)
+        (actors : List Actor) (passed : Passed) (net : NetPlace)
+        → HasWholeIn scene rows net (map part_of actors)
+        → AreAtWork ends rows actors passed → ClientsSendIn scene rows (map part_of actors) passed
+        → (k : ℕ) (x : Actor) → slice_get actors k ≡ Some x
+        → part_of x ≡ NetworkPart (device_at net.first scene.frames)
+        → PrefixMerge (sends_beside (wild_in (hostiles (map part_of actors)) rows) net scene.frames
+        passed) (frames_got x) }
+    ensures told_beside { (scene : Scene) (ends : Role → ℕ → End) (rows : List QueueRow)
+        (actors : List Actor) (passed : Passed) (net : NetPlace)
+        → HasWholeIn scene rows net (map part_of actors)
+        → AreAtWork ends rows actors passed → ClientsSendIn scene rows (map part_of actors) passed
+        → (k : ℕ) (x : Actor) → slice_get actors k ≡ Some x
+        → part_of x ≡ NetworkPart (device_at net.first scene.frames)
+        → frames_got x ≡ wire_beside (wild_in (hostiles (map part_of actors)) rows) net
+        scene.frames passed }
     ensures told { (scene : Scene) (ends : Role → ℕ → End) (rows : List QueueRow)
         (actors : List Actor) (passed : Passed) (net : NetPlace)
         → HasWholeIn scene rows net (map part_of actors)

@@ -119,6 +119,14 @@ kept_30 : Kept 30
 unfolding whole_example table_of is_mac_text mac_bytes mac_of
 kept_30 = taken (all_keep (broken (plan_of root) 30) (no_rule (plan_of root) 30) (walk (outline_of (plan_of root)))) refl
 
+kept_31 : Kept 31
+unfolding whole_example table_of is_mac_text mac_bytes mac_of
+kept_31 = taken (all_keep (broken (plan_of root) 31) (no_rule (plan_of root) 31) (walk (outline_of (plan_of root)))) refl
+
+kept_32 : Kept 32
+unfolding whole_example table_of is_mac_text mac_bytes mac_of
+kept_32 = taken (all_keep (broken (plan_of root) 32) (no_rule (plan_of root) 32) (walk (outline_of (plan_of root)))) refl
+
 -- this number or a later one
 from : (P : ℕ → Type 0) (m n : ℕ) → m ≤ n → P m → (m + 1 ≤ n → P n) → P n
 from P m n least here later = elim (cases_lt m n) [
@@ -154,4 +162,6 @@ full_valid n h5 most =
     from Kept 28 n h28 kept_28 (λ h29.
     from Kept 29 n h29 kept_29 (λ h30.
     from Kept 30 n h30 kept_30 (λ h31.
-    absurd (omega (arith, h31, most))))))))))))))))))))))))))))
+    from Kept 31 n h31 kept_31 (λ h32.
+    from Kept 32 n h32 kept_32 (λ h33.
+    absurd (omega (arith, h33, most))))))))))))))))))))))))))))))

@@ -11,6 +11,7 @@ use Rattle.toml.proofs.OnLiterals.{toml_on_literals}
 use Rattle.sdf_model.specs.Counts.{text_most}
 use Rattle.sdf_model.specs.Spelled.{plan_of}
 use Rattle.trace_text.specs.Events.{is_source, is_speaker, is_script}
+use Rattle.trace_text.specs.Limits.{frame_most}
 use Rattle.workload.specs.declared.description.TheConstants.{FULL_EXAMPLE}
 use Rattle.workload_law.specs.Clients.{HasClients}
 
@@ -289,6 +290,10 @@ second_disk_there : is_script (plan_of root) 1 ≡ true
 unfolding is_script root blk_table domains domain_0 domain_1 domain_2 domain_3 domain_4 domain_5 domain_6 domain_7 domain_8 domain_9 domain_10 domain_11 domain_12 domain_13 domain_14 domain_15
 second_disk_there = refl
 
+longest_there : frame_most (plan_of root) ≡ 1514
+unfolding root net_table frame_most
+longest_there = refl
+
 -- the plan has the clients that the generated traces are for
 pub full_clients : HasClients (plan_of root)
 unfolding root
@@ -296,6 +301,7 @@ full_clients = record {
   net = refl;
   serial = refl;
   blk = refl;
+  longest = omega (arith, longest_there);
   source = source_there;
   speaker = speaker_there;
   first_disk = first_disk_there;

@@ -50,7 +50,7 @@ not_skipped c rest h = rw (not_equal (length (c ∷ rest)) 0 (λ none. omega (ar
 
 -- ---- what the lines say
 
-rx_says : (plan : Plan) (bytes : List ℕ) → is_some plan.net ≡ true → IsBytes bytes → 0 < length bytes → is_frame_of bytes frame_most ≡ true
+rx_says : (plan : Plan) (bytes : List ℕ) → is_some plan.net ≡ true → IsBytes bytes → 0 < length bytes → is_frame_of bytes (frame_most plan) ≡ true
     → meaning plan (codes "rx " ++ encode_lower bytes) ≡ Some (Event.Rx bytes)
 unfolding rx_meaning
 rx_says plan bytes net is some whole =
@@ -59,7 +59,7 @@ rx_says plan bytes net is some whole =
     ∙ two_rx plan (codes "rx") (encode_lower bytes) refl
     ∙ rw (data_hex bytes is some, net, whole) refl
 
-send_says : (plan : Plan) (bytes : List ℕ) → is_source plan 0 ≡ true → IsBytes bytes → 0 < length bytes → is_frame_of bytes frame_most ≡ true
+send_says : (plan : Plan) (bytes : List ℕ) → is_source plan 0 ≡ true → IsBytes bytes → 0 < length bytes → is_frame_of bytes (frame_most plan) ≡ true
     → meaning plan (codes "send 0 " ++ encode_lower bytes) ≡ Some (Event.Send 0 bytes)
 unfolding send_meaning
 send_says plan bytes source is some whole =
@@ -168,11 +168,11 @@ frame_long to from many value t f =
     let rest = replicate many value in
     omega (arith, t, f, length-append (to ++ from) (8 ∷ 0 ∷ rest), length-append to from, length-replicate {A = ℕ} many value)
 
-frame_is : (bytes : List ℕ) (many : ℕ) → length bytes ≡ 14 + many → many < 64 → is_frame_of bytes frame_most ≡ true
-frame_is bytes many long few =
+frame_is : (plan : Plan) (bytes : List ℕ) (many : ℕ) → 1514 ≤ frame_most plan → length bytes ≡ 14 + many → many < 64 → is_frame_of bytes (frame_most plan) ≡ true
+frame_is plan bytes many longest long few =
     let least : 14 ≤ length bytes = omega (arith, long) in
-    let most : length bytes ≤ frame_most = omega (arith, long, few) in
-    rw (le-leb 14 (length bytes) least, le-leb (length bytes) frame_most most) refl
+    let most : length bytes ≤ frame_most plan = omega (arith, long, few, longest) in
+    rw (le-leb 14 (length bytes) least, le-leb (length bytes) (frame_most plan) most) refl
 
 destination_bytes : (i : ℕ) → IsBytes (destination i)
 destination_bytes i =
@@ -184,30 +184,30 @@ destination_long : (i : ℕ) → length (destination i) ≡ 6
 destination_long i =
     length_if (eqb (i % 4) 0) (station 1) _ 6 refl (length_if (eqb (i % 4) 1) (station 2) _ 6 refl (length_if (eqb (i % 4) 2) broadcast (station 0x63) 6 refl refl))
 
-rx_next : (plan : Plan) (text : List ℕ) → is_some plan.net ≡ true → (b a d l i draw : ℕ) (rest : List ℕ) (f : ℕ) → i < 256 → f < 1024
+rx_next : (plan : Plan) (text : List ℕ) → is_some plan.net ≡ true → 1514 ≤ frame_most plan → (b a d l i draw : ℕ) (rest : List ℕ) (f : ℕ) → i < 256 → f < 1024
     → IsAt plan text (rx_line i draw ++ rest) f b a d l → IsAt plan text rest (f + 1) b a d l
 unfolding rx_line
-rx_next plan text net b a d l i draw rest f byte room at =
+rx_next plan text net longest b a d l i draw rest f byte room at =
     let bytes = frame (destination i) (station 0x99) (draw % 64) i in
     let is : IsBytes bytes = frame_bytes (destination i) (station 0x99) (draw % 64) i (destination_bytes i) (bytes_all (station 0x99) refl) byte in
     let long : length bytes ≡ 14 + draw % 64 = frame_long (destination i) (station 0x99) (draw % 64) i (destination_long i) refl in
     let whole = ap (λ rest'. codes "rx " ++ rest') (append_assoc (encode_lower bytes) (codes "\n") rest) in
     rx_read plan text (codes "rx " ++ encode_lower bytes) rest bytes f b a d l
     (lacks_both 10 (codes "rx ") (encode_lower bytes) (lacks 10 (codes "rx ") refl) (hex_lacks 10 refl bytes is))
-    (rx_says plan bytes net is (omega (arith, long)) (frame_is bytes (draw % 64) long (omega arith))) room
+    (rx_says plan bytes net is (omega (arith, long)) (frame_is plan bytes (draw % 64) longest long (omega arith))) room
     (subst (λ rest'. IsAt plan text rest' f b a d l) whole at)
 
-send_next : (plan : Plan) (text : List ℕ) → is_source plan 0 ≡ true → (b a d l i draw : ℕ) (rest : List ℕ) (f : ℕ) → i < 256 → f < 1024
+send_next : (plan : Plan) (text : List ℕ) → is_source plan 0 ≡ true → 1514 ≤ frame_most plan → (b a d l i draw : ℕ) (rest : List ℕ) (f : ℕ) → i < 256 → f < 1024
     → IsAt plan text (send_line i draw ++ rest) f b a d l → IsAt plan text rest (f + 1) b a d l
 unfolding send_line
-send_next plan text source b a d l i draw rest f byte room at =
+send_next plan text source longest b a d l i draw rest f byte room at =
     let bytes = frame (station 0x99) (station 1) (draw % 64) i in
     let is : IsBytes bytes = frame_bytes (station 0x99) (station 1) (draw % 64) i (bytes_all (station 0x99) refl) (bytes_all (station 1) refl) byte in
     let long : length bytes ≡ 14 + draw % 64 = frame_long (station 0x99) (station 1) (draw % 64) i refl refl in
     let whole = ap (λ rest'. codes "send 0 " ++ rest') (append_assoc (encode_lower bytes) (codes "\n") rest) in
     send_read plan text (codes "send 0 " ++ encode_lower bytes) rest bytes 0 f b a d l
     (lacks_both 10 (codes "send 0 ") (encode_lower bytes) (lacks 10 (codes "send 0 ") refl) (hex_lacks 10 refl bytes is))
-    (send_says plan bytes source is (omega (arith, long)) (frame_is bytes (draw % 64) long (omega arith))) room
+    (send_says plan bytes source is (omega (arith, long)) (frame_is plan bytes (draw % 64) longest long (omega arith))) room
     (subst (λ rest'. IsAt plan text rest' f b a d l) whole at)
 
 -- a line of frames after another
@@ -379,8 +379,8 @@ generated_good plan n has =
     let many_0 : length frames ≡ 256 = drawn_long _ 256 in
     let many_1 : length sends ≡ 32 = drawn_long _ 32 in
     let many_2 : length asks ≡ 32 = drawn_long _ 32 in
-    let at_1 = frames_all plan text rx_line 0 0 0 0 (rx_next plan text has.net 0 0 0 0) frames 0 (numbered send_line 0 sends ++ (in_line input more ++ (say_line said ++ (disk_lines ++ last)))) 0 (omega (arith, many_0)) (omega (arith, many_0)) at_0 in
-    let at_2 = frames_all plan text send_line 0 0 0 0 (send_next plan text has.source 0 0 0 0) sends 0 (in_line input more ++ (say_line said ++ (disk_lines ++ last))) (0 + length frames) (omega (arith, many_1)) (omega (arith, many_0, many_1)) at_1 in
+    let at_1 = frames_all plan text rx_line 0 0 0 0 (rx_next plan text has.net has.longest 0 0 0 0) frames 0 (numbered send_line 0 sends ++ (in_line input more ++ (say_line said ++ (disk_lines ++ last)))) 0 (omega (arith, many_0)) (omega (arith, many_0)) at_0 in
+    let at_2 = frames_all plan text send_line 0 0 0 0 (send_next plan text has.source has.longest 0 0 0 0) sends 0 (in_line input more ++ (say_line said ++ (disk_lines ++ last))) (0 + length frames) (omega (arith, many_1)) (omega (arith, many_0, many_1)) at_1 in
     let f = 0 + length frames + length sends in
     let at_3 = in_next plan text has.serial input more (say_line said ++ (disk_lines ++ last)) f 0 0 0 0 (drawn_long _ 1024) (drawn_long _ 1024) (omega arith) at_2 in
     let at_4 = say_next plan text has.speaker said (disk_lines ++ last) f (0 + 2051) 0 0 0 (drawn_long _ 512) (omega arith) at_3 in

@@ -56,6 +56,12 @@ yes_both (Some p) (Some q) = Some (p, q)
 yes_both None q = None
 yes_both (Some p) None = None
 
+abbrev pub yes_three : {P Q R : Type 0} → Yes P → Yes Q → Yes R → Yes (P × Q × R)
+yes_three (Some p) (Some q) (Some r) = Some (p, q, r)
+yes_three None q r = None
+yes_three (Some p) None r = None
+yes_three (Some p) (Some q) None = None
+
 abbrev pub no_not : {P : Type 0} → Yes P → No (¬ P)
 no_not (Some p) = Some (λ h. h p)
 no_not None = None

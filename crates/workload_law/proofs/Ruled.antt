@@ -36,9 +36,9 @@ use Rattle.class_table.specs.Sizes.{queue_end, pool_bytes}
 use Rattle.class_table.specs.Table.{Element, OfElement, net_element, net_client_element, serial_element, serial_client_element, blk_element, blk_client_element}
 use Rattle.sdf_check.specs.Names.{region_names, domain_names, region_named, domain_named}
 use Rattle.sdf_check.specs.Rules.{TakesName, IsPastLastDomain, HasPriorityTooHigh, HasPeriodTooShort, IsPageSize, IsMultiple, HasBadSize, HasBadPageSize, HasBadPhysAddr, Range, Meets, MeetsEarlier, given_range, MeetsGivenRange, NamesNoRegion, the_region, HasBadVaddr, map_range, MeetsMap, count_of, ArePermissions, HasBadPerms, NamesNoDomain, HasIdTooHigh, InterruptHas, IsEarlierEnd, EarlierEndHas, TakesId, JoinsOneDomain}
-use Rattle.sdf_check.specs.ClassRules.{SomeOf, OfLink, RepeatsName, the_domain, class_domains, LacksRole, Joins, AreJoined, IsGranted, HasStranger, allowed, IsSmaller, HasBadMac, HasBadPartition, IsClientCount, IsBufferCount, IsPastLimit}
+use Rattle.sdf_check.specs.ClassRules.{SomeOf, OfLink, RepeatsName, the_domain, class_domains, LacksRole, Joins, AreJoined, IsGranted, HasStranger, allowed, IsSmaller, HasBadMac, HasBadPartition, IsClientCount, IsBufferCount, IsPastLimit, HasBadMaxFrame, IsBufferSize, IsBadBuffer, HasBadBufferSize}
 use Rattle.sdf_check.specs.Valid.{BreaksPlanRule, BreaksClassRule, BreaksByRows, broken}
-use Rattle.workload_law.proofs.Refuting.{found, found_both, yes_either, Yes, No, never, no_sum, yes_sum, no_both, yes_both, no_not, no_match, yes_match, yes_true, no_and, yes_and, no_none, no_keyed, no_some, yes_some, no_before, no_less, yes_less, no_least, yes_least, no_equal, yes_equal, no_text, yes_text, yes_power, found_if}
+use Rattle.workload_law.proofs.Refuting.{found, found_both, yes_either, Yes, No, never, no_sum, yes_sum, no_both, yes_both, yes_three, no_not, no_match, yes_match, yes_true, no_and, yes_and, no_none, no_keyed, no_some, yes_some, no_before, no_less, yes_less, no_least, yes_least, no_equal, yes_equal, no_text, yes_text, yes_power, found_if}
 
 abbrev no_not_page : (size : ℕ) → No (¬ IsPageSize size)
 no_not_page size = no_not (yes_sum (yes_equal size 4096) (yes_equal size 2097152))
@@ -355,12 +355,29 @@ no_30 plan At.Blk = no_and plan.blk (λ blk. no_not_clients (length blk.client))
 no_30 plan (At.BlkClient c) = no_and plan.blk (λ blk. no_and (slice_get blk.client c) (λ (client : BlkClient). no_not_buffers client.buffers))
 no_30 plan _ = never
 
+abbrev no_31 : (plan : Plan) (place : Place) → No (HasBadMaxFrame plan place)
+no_31 plan At.Net = no_and plan.net (λ net. no_sum (no_less net.max_frame 1514) (no_less 9014 net.max_frame))
+no_31 plan _ = never
+
+abbrev yes_buffer : (size : ℕ) → Yes (IsBufferSize size)
+yes_buffer size = yes_three (yes_power size 15) (yes_least 2048 size) (yes_least size 16384)
+
+abbrev no_bad_buffer : (longest size : ℕ) → No (IsBadBuffer longest size)
+no_bad_buffer longest size = no_sum (no_not (yes_buffer size)) (no_less size longest)
+
+abbrev no_32 : (plan : Plan) (place : Place) → No (HasBadBufferSize plan place)
+no_32 plan At.Net = no_and plan.net (λ net. no_bad_buffer net.max_frame net.rx_buffer_size)
+no_32 plan (At.NetClient c) = no_and plan.net (λ net. no_and (slice_get net.client c) (λ (client : NetClient). no_sum (no_bad_buffer net.max_frame client.rx_buffer_size) (no_bad_buffer net.max_frame client.tx_buffer_size)))
+no_32 plan _ = never
+
 abbrev no_class : (plan : Plan) (rule : ℕ) (place : Place) → No (BreaksClassRule plan rule place)
 no_class plan rule place =
     no_match (rule == 21) (λ _. no_21 plan place) (λ _.
     no_match (rule == 28) (λ _. no_28 plan place) (λ _.
     no_match (rule == 29) (λ _. no_29 plan place) (λ _.
-    no_match (rule == 30) (λ _. no_30 plan place) (λ _. never))))
+    no_match (rule == 30) (λ _. no_30 plan place) (λ _.
+    no_match (rule == 31) (λ _. no_31 plan place) (λ _.
+    no_match (rule == 32) (λ _. no_32 plan place) (λ _. never))))))
 
 -- ---- rules on the rows of an element
 

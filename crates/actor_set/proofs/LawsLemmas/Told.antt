@@ -142,7 +142,7 @@ none_here : (cast : List Part) (o : Option QueueRow) → option_map_or (is_wild 
 none_here cast None = refl
 none_here cast (Some row) = ap (λ b. not b && carries_pages row.kind) (calm_here cast row)
 
-none_wild : (cast : List Part) (rows : List QueueRow) (n : ℕ) → wild_in (hostiles cast) rows n ≡ false
+pub none_wild : (cast : List Part) (rows : List QueueRow) (n : ℕ) → wild_in (hostiles cast) rows n ≡ false
 none_wild cast rows n = none_here cast (slice_get rows n)
 
 none_block : (cast : List Part) (rows : List QueueRow) (p : BlkPart) → block.NoneWild (wild_in (hostiles cast) rows) p

@@ -33,7 +33,7 @@ use Rattle.blk_virt.specs.declared.requests.PageName.{PageName}
 use Rattle.net_law.proofs.PartsLemmas.Turning.{replaced_long}
 use Rattle.blk_law.proofs.SheetsLemmas.Items.{number_kept}
 use Rattle.blk_law.specs.Sheets.Numbers.{BlkPlace, IsBlkClientOf}
-use Rattle.blk_quiet.specs.Cast.Casting.{AllAsk, AreRequests, IsBlkCast, IsAskingClient, IsOfPool, IsRequest, IsWhole, holder_of}
+use Rattle.blk_quiet.specs.Cast.Casting.{AreRequests, IsBlkCast, IsAskingClient, IsOfPool, IsRequest, IsWhole, holder_of}
 use Rattle.blk_quiet.proofs.CastLemmas.Numbers.{client_queues, client_pool}
 use Rattle.blk_quiet.proofs.CastLemmas.Answers.{answer_named, answer_whole}
 use Rattle.blk_quiet.proofs.CastLemmas.Turning.{drop_get, parts, response_at, served, shares_at, shared}
@@ -259,12 +259,12 @@ module _ (place : BlkPlace) (passed : Passed) (h : IsBlkCast place passed) where
     client_in_turn c is row = client_none c is row.came row.stray row.taken row.out_of_turn
 
     -- and its own buffers, as long as they were
-    pub back_own : AllAsk place passed → (j : ℕ) (y : Cargo) → slice_get (passed.taken resp_at) j ≡ Some y → IsOfPool pool y.1 × IsWhole y.1
+    pub back_own : AreRequests pool (passed.sent req_at) → (j : ℕ) (y : Cargo) → slice_get (passed.taken resp_at) j ≡ Some y → IsOfPool pool y.1 × IsWhole y.1
     back_own ask j y at =
         let below = there_below (passed.taken resp_at) j y at in
         let few = client_few in
         let x = there_is (passed.sent req_at) j (omega (arith, below, few)) in
-        let is = ask k pool of.has_pool j x.0 x.1 in
+        let is = ask j x.0 x.1 in
         let like = client_like j x.0 y x.1 at in
         (of_pool pool x.0.1 y.1 like.0 is.own, like.1 is.whole)
 

@@ -1,10 +1,11 @@
 -- Nothing comes out of turn in the block class, where each client put requests in its own buffers.
-use Rattle.std.proofs.Common.{◌≡◌, ◌+◌, ◌*◌, ◌/◌, ◌++◌, ◌&&◌, ◌≤◌, ℕ, zero, suc, true, false, not, Option, Some, List, [], ◌∷◌, All, length, map, take, drop, slice_get, refl, sym, ap, ap₂, ◌∙◌, subst, arith, le-leb}
+use Rattle.std.proofs.Common.{◌≡◌, ◌+◌, ◌*◌, ◌/◌, ◌++◌, ◌&&◌, ◌≤◌, ℕ, zero, suc, Bool, true, false, not, Option, Some, List, [], ◌∷◌, All, length, map, take, drop, slice_get, refl, sym, ap, ap₂, ◌∙◌, subst, arith, le-leb}
 use Rattle.std.specs.List.{filter}
 use Rattle.cargo_core.specs.Lists.{IsPrefix}
 use Rattle.wire_core.specs.declared.names.QueueId.{QueueId}
 use Rattle.wire_core.specs.Deeds.{Cargo}
 use Rattle.wire_core.specs.Lists.{Passed}
+use Rattle.play_core.specs.Names.{Wild}
 use Rattle.play_core.proofs.Lists.{some_is, map_get, map_from, prefix_trans, there_is, there_below}
 use Rattle.play_core.proofs.Walks.{begins_few}
 use Rattle.owner_law.proofs.PoolsLemmas.Merging.{kept_at, kept_is}
@@ -19,7 +20,7 @@ use Rattle.device_model.specs.Disk.Disks as disk
 use Rattle.device_model.specs.Disk.Serving.{answer_to, answers_to, done, is_stray}
 use Rattle.blk_virt.specs.Desks.{holders}
 use Rattle.blk_virt.specs.Openings.{IsLate, IsOutOfTurn, KnowsParts, first_read, has_sector, sector_of}
-use Rattle.blk_virt.specs.Requests.{brings, for_disk, goes_on, is_at, is_bad, numbered, page_named}
+use Rattle.blk_virt.specs.Requests.{brings, for_disk, goes_on, is_at, is_bad, is_own, numbered, page_named}
 use Rattle.blk_virt.specs.Serving.{IsServed, own_of, unnumbered}
 use Rattle.blk_virt.specs.Virtualising.{BlkVirtRow}
 use Rattle.blk_virt.specs.declared.client.Client.{Client}
@@ -27,16 +28,16 @@ use Rattle.blk_virt.specs.declared.requests.Holder.{Holder}
 use Rattle.blk_virt.specs.declared.virtualiser.BlkVirt.{BlkVirt}
 use Rattle.blk_law.specs.Sheets.Numbers.{BlkPlace, sharers_from}
 use Rattle.blk_law.specs.Sheets.Playing.{sharers}
-use Rattle.blk_quiet.specs.Cast.Casting.{AllAsk, IsBlkCast, IsWhole, holder_of}
+use Rattle.blk_quiet.specs.Cast.Casting.{AreRequests, CalmAsk, IsBlkCast, IsWhole, WildWhole, holder_of}
 use Rattle.blk_quiet.proofs.CastLemmas.Numbers.{Shares, disk_queues, driver_queues, virt_queues, sharers_are}
 use Rattle.blk_quiet.proofs.CastLemmas.Answers.{answers_at, answer_named, brings_named, sector_read, has_read}
-use Rattle.blk_quiet.proofs.CastLemmas.Judging.{goes_fits, stray_same, bad_same}
+use Rattle.blk_quiet.proofs.CastLemmas.Judging.{goes_fits, own_in_pool, stray_same, bad_same}
 
 answers_long : (image : List ℕ) (xs : List Cargo) → length (answers_to image xs) ≡ length xs
 answers_long image [] = refl
 answers_long image (x ∷ xs) = ap suc (answers_long (done image x) xs)
 
-get_next : (xs : List Cargo) (x : Cargo) (ys : List Cargo) → slice_get (xs ++ x ∷ ys) (length xs) ≡ Some x
+pub get_next : (xs : List Cargo) (x : Cargo) (ys : List Cargo) → slice_get (xs ++ x ∷ ys) (length xs) ≡ Some x
 get_next [] x ys = refl
 get_next (z ∷ xs) x ys = get_next xs x ys
 
@@ -90,11 +91,11 @@ module _ (place : BlkPlace) (passed : Passed) (h : IsBlkCast place passed) where
   driven : (h.driver.first.input.queue.0 ≡ place.first + 2) × (h.driver.first.output.queue.0 ≡ place.first) × (h.driver.rest.input.queue.0 ≡ place.first + 1) × (h.driver.rest.output.queue.0 ≡ place.first + 3)
   driven = driver_queues place.first h.driver h.driver_is
 
-  virtualised : (o ≡ place.first + 2) × (i ≡ place.first + 3) × (v.work.opening.disk_sectors ≡ length place.image / 512) × (sharers hs (from_queues v.ends) (to_queues v.ends) ≡ sharers_from place.first 0 place.entries place.pools)
+  pub virtualised : (o ≡ place.first + 2) × (i ≡ place.first + 3) × (v.work.opening.disk_sectors ≡ length place.image / 512) × (sharers hs (from_queues v.ends) (to_queues v.ends) ≡ sharers_from place.first 0 place.entries place.pools)
   virtualised = virt_queues place v h.virt_is
 
   -- the requests that come to the disk are those that the virtualiser put
-  asked : IsPrefix (passed.taken (disk.req h.disk)) S
+  pub asked : IsPrefix (passed.taken (disk.req h.disk)) S
   asked =
       let a = passed.taken (disk.req h.disk) in
       let b = passed.sent h.driver.first.output.queue.0 in
@@ -137,11 +138,11 @@ module _ (place : BlkPlace) (passed : Passed) (h : IsBlkCast place passed) where
       let c = begins_few R S done_sent in
       omega (arith, a, b, c)
 
-  block_there : 4096 ≤ length image
+  pub block_there : 4096 ≤ length image
   block_there = let long = h.image_long in let some = h.some_blocks in omega (arith, long, some)
 
   -- the first request is the virtualiser's own
-  first_is : (row : BlkVirtRow v passed) (x : Cargo) → slice_get S 0 ≡ Some x → x ≡ first_read v.work.opening.base row.start
+  pub first_is : (row : BlkVirtRow v passed) (x : Cargo) → slice_get S 0 ≡ Some x → x ≡ first_read v.work.opening.base row.start
   first_is row x at = sym (some_is (prefix_get S (first_read v.work.opening.base row.start ∷ drop 1 S) row.reads 0 x at))
 
   first_answer : (row : BlkVirtRow v passed) (y : Cargo) → slice_get T 0 ≡ Some y → y ≡ answer_to image (first_read v.work.opening.base row.start)
@@ -192,21 +193,43 @@ module _ (place : BlkPlace) (passed : Passed) (h : IsBlkCast place passed) where
       let c = map_from (λ (x : Client). x.holder) v.work.desk.clients.items k g at in
       subst (λ (x : Holder). IsServed x (parts x.partition) (passed.taken q.0) (drop 1 S) (drop 1 h.virt_row.back) (passed.sent r.0)) c.2 (h.virt_row.serves k c.0 q r parts c.1 fat tat known)
 
-  module _ (ask : AllAsk place passed) where
-    -- what the virtualiser took from a client are requests in its own buffers
-    taken_is : (k : ℕ) (g : Holder) (q r : QueueId) → slice_get hs k ≡ Some g → slice_get (from_queues v.ends) k ≡ Some q → slice_get (to_queues v.ends) k ≡ Some r → (j : ℕ) (z : Cargo) → slice_get (passed.taken q.0) j ≡ Some z → (is_bad g z ≡ false) × IsWhole z.1
-    taken_is k g q r at fat tat j z z_at =
+  -- what the virtualiser took from a client that put requests in its own buffers alone
+  taken_is : (k : ℕ) (g : Holder) (q r : QueueId) → slice_get hs k ≡ Some g → slice_get (from_queues v.ends) k ≡ Some q → slice_get (to_queues v.ends) k ≡ Some r → ((pool : PoolAt) → slice_get place.pools k ≡ Some pool → AreRequests pool (passed.sent (place.first + 4 + 2 * k))) → (j : ℕ) (z : Cargo) → slice_get (passed.taken q.0) j ≡ Some z → (is_bad g z ≡ false) × IsWhole z.1
+  taken_is k g q r at fat tat ask j z z_at =
+      let s = shares_at k g q r at fat tat in
+      let put = prefix_get (passed.taken q.0) (passed.sent q.0) (h.hands_over q.0) j z z_at in
+      let is = ask s.1 s.3 j z (ap (λ n. slice_get (passed.sent n) j) (sym s.4.2) ∙ put) in
+      (bad_same g (holder_of s.1) z (ap (λ (p : PoolAt). p.number) s.4.0) (ap (λ (p : PoolAt). p.buffers) s.4.0) ∙ is.good, is.whole)
+
+  -- so it is where it has a queue each way
+  pub good_from : (k : ℕ) (g : Holder) (q : QueueId) → slice_get hs k ≡ Some g → slice_get (from_queues v.ends) k ≡ Some q → ((pool : PoolAt) → slice_get place.pools k ≡ Some pool → AreRequests pool (passed.sent (place.first + 4 + 2 * k))) → (j : ℕ) (z : Cargo) → slice_get (passed.taken q.0) j ≡ Some z → is_bad g z ≡ false
+  good_from k g q at fat ask j z z_at =
+      let below = there_below hs k g at in
+      let to_each = h.to_each in
+      let r = there_is (to_queues v.ends) k (omega (arith, below, to_each)) in
+      (taken_is k g q r.0 at fat r.1 ask j z z_at).0
+
+  -- its queue
+  queue_is : (k : ℕ) (g : Holder) (q : QueueId) → slice_get hs k ≡ Some g → slice_get (from_queues v.ends) k ≡ Some q → q.0 ≡ place.first + 4 + 2 * k
+  queue_is k g q at fat =
+      let below = there_below hs k g at in
+      let to_each = h.to_each in
+      let r = there_is (to_queues v.ends) k (omega (arith, below, to_each)) in
+      (shares_at k g q r.0 at fat r.1).4.2
+
+  module _ (wild : Wild) (ask : CalmAsk wild place passed) where
+    pub good_is : (k : ℕ) (g : Holder) (q : QueueId) → slice_get hs k ≡ Some g → slice_get (from_queues v.ends) k ≡ Some q → wild q.0 ≡ false → (j : ℕ) (z : Cargo) → slice_get (passed.taken q.0) j ≡ Some z → is_bad g z ≡ false
+    good_is k g q at fat calm = good_from k g q at fat (λ pool there. ask k pool there (ap wild (sym (queue_is k g q at fat)) ∙ calm))
+
+  module _ (wild : Wild) (ask : CalmAsk wild place passed) (wholes : WildWhole wild place passed) where
+    -- a buffer of its own that came from a client takes eight blocks
+    own_whole : (k : ℕ) (g : Holder) (q r : QueueId) → slice_get hs k ≡ Some g → slice_get (from_queues v.ends) k ≡ Some q → slice_get (to_queues v.ends) k ≡ Some r → (b : Bool) → wild (place.first + 4 + 2 * k) ≡ b → (j : ℕ) (z : Cargo) → slice_get (passed.taken q.0) j ≡ Some z → is_own g z ≡ true → IsWhole z.1
+    own_whole k g q r at fat tat true is_wild j z z_at own =
         let s = shares_at k g q r at fat tat in
         let put = prefix_get (passed.taken q.0) (passed.sent q.0) (h.hands_over q.0) j z z_at in
-        let is = ask k s.1 s.3 j z (ap (λ n. slice_get (passed.sent n) j) (sym s.4.2) ∙ put) in
-        (bad_same g (holder_of s.1) z (ap (λ (p : PoolAt). p.number) s.4.0) (ap (λ (p : PoolAt). p.buffers) s.4.0) ∙ is.good, is.whole)
-
-    pub good_is : (k : ℕ) (g : Holder) (q : QueueId) → slice_get hs k ≡ Some g → slice_get (from_queues v.ends) k ≡ Some q → (j : ℕ) (z : Cargo) → slice_get (passed.taken q.0) j ≡ Some z → is_bad g z ≡ false
-    good_is k g q at fat j z z_at =
-        let below = there_below hs k g at in
-        let to_each = h.to_each in
-        let r = there_is (to_queues v.ends) k (omega (arith, below, to_each)) in
-        (taken_is k g q r.0 at fat r.1 j z z_at).0
+        let of = own_in_pool g s.1 z (ap (λ (p : PoolAt). p.number) s.4.0) (ap (λ (p : PoolAt). p.buffers) s.4.0) own in
+        wholes k s.1 s.3 is_wild j z (ap (λ n. slice_get (passed.sent n) j) (sym s.4.2) ∙ put) of
+    own_whole k g q r at fat tat false calm j z z_at own = (taken_is k g q r at fat tat (λ pool there. ask k pool there calm) j z z_at).1
 
     -- each request to the disk is in turn there
     request_good : (j : ℕ) (x : Cargo) → slice_get S j ≡ Some x → is_stray image x ≡ false
@@ -228,7 +251,7 @@ module _ (place : BlkPlace) (passed : Passed) (h : IsBlkCast place passed) where
         let goes = prefix_get (unnumbered (own_of g (drop 1 S))) (map (for_disk g (parts g.partition)) (filter (goes_on g (parts g.partition)) (passed.taken q.0.0))) serves.sends own.0 (numbered 0 x) bare in
         let f = map_from (for_disk g (parts g.partition)) (filter (goes_on g (parts g.partition)) (passed.taken q.0.0)) own.0 (numbered 0 x) goes in
         let kept = kept_is (goes_on g (parts g.partition)) (passed.taken q.0.0) own.0 f.0 f.1 in
-        let whole = (taken_is k g q.0 r.0 w.2 q.1 r.1 kept.1.0 f.0 kept.1.1).1 in
+        let whole = own_whole k g q.0 r.0 w.2 q.1 r.1 (wild (place.first + 4 + 2 * k)) refl kept.1.0 f.0 kept.1.1 in
         let kind = h.requests (suc n) x (ap (λ m. slice_get (passed.sent m) (suc n)) (sym virtualised.0) ∙ at) in
         sym (stray_same image 0 x kind) ∙ (ap (is_stray image) (sym f.2) ∙ goes_fits image g g.partition f.0 kept.0 whole)
 

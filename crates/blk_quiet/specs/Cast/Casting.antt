@@ -1,6 +1,7 @@
 -- The block class in a system: which actors stand at the layout's queues, told by the number of the
 -- class's first queue, what is asked of them, and what clients may put.
-use Rattle.std.specs.Prelude.{◌≡◌, ◌+◌, ◌*◌, ◌<◌, ◌≤◌, ℕ, false, Some, List, length, map, slice_get}
+use Rattle.std.specs.Prelude.{◌≡◌, ◌+◌, ◌*◌, ◌<◌, ◌≤◌, ℕ, true, false, Some, List, length, map}
+use Rattle.std.specs.Prelude.{slice_get}
 use Rattle.cargo_core.specs.Blocks.{block_bytes}
 use Rattle.cargo_core.specs.Items.{kind_of}
 use Rattle.cargo_core.specs.Ranges.{AreRanges}
@@ -10,6 +11,7 @@ use Rattle.cargo_core.specs.declared.item.Body.TheVariants as Carried
 use Rattle.cargo_core.specs.declared.item.QueueKind.TheVariants as Kind
 use Rattle.wire_core.specs.Deeds.{Cargo}
 use Rattle.wire_core.specs.Lists.{Passed}
+use Rattle.play_core.specs.Names.{Wild}
 use Rattle.turn_kit.specs.declared.pipe.Pipe.{Pipe}
 use Rattle.pipe_driver.specs.Drivers.{PipesRow}
 use Rattle.pipe_driver.specs.Lengths.{two_pipes}
@@ -67,9 +69,8 @@ pub record IsAskingClient (place : BlkPlace) (k : ℕ) (asks : List Ask) (pool :
   pub part : blk_client_part c ≡ blk_client_at place.first k asks pool
   pub row : BlkClientRow c passed
 
--- a disk, its driver, the virtualiser and the clients stand at their queues; queues hand over what
--- was put, which at the driver are requests; the disk has some blocks; and no two clients' ranges
--- meet
+-- a disk, its driver and the virtualiser stand at their queues; queues hand over what was put, which
+-- at the driver are requests; the disk has some blocks; and no two clients' ranges meet
 pub record IsBlkCast (place : BlkPlace) (passed : Passed) : Type 0 where
   pub asks_many : length place.asks ≡ length place.entries
   pub pools_many : length place.pools ≡ length place.entries
@@ -88,15 +89,21 @@ pub record IsBlkCast (place : BlkPlace) (passed : Passed) : Type 0 where
   pub from_each : length (from_queues virt.ends) ≡ length (holders virt.work.desk)
   pub to_each : length (to_queues virt.ends) ≡ length (holders virt.work.desk)
   pub apart : AreRanges (map range_of (holders virt.work.desk))
-  pub clients : (k entry : ℕ) (asks : List Ask) (pool : PoolAt)
-      → IsBlkClientOf place k entry asks pool
-      → (c : BlkClient) × IsAskingClient place k asks pool c passed
   pub blocks : ℕ
   pub some_blocks : 1 ≤ blocks
   pub image_long : length place.image ≡ blocks * block_bytes
   pub some : (k : ℕ) (pool : PoolAt) → slice_get place.pools k ≡ Some pool → 1 ≤ pool.buffers
 
--- each client put requests in its own buffers alone
-abbrev pub AllAsk : BlkPlace → Passed → Type 0
-AllAsk place passed = (k : ℕ) (pool : PoolAt) → slice_get place.pools k ≡ Some pool
+-- each client put requests in its own buffers alone, where no hostile actor has an end of its
+-- queue
+abbrev pub CalmAsk : Wild → BlkPlace → Passed → Type 0
+CalmAsk wild place passed = (k : ℕ) (pool : PoolAt) → slice_get place.pools k ≡ Some pool
+    → wild (place.first + 4 + 2 * k) ≡ false
     → AreRequests pool (passed.sent (place.first + 4 + 2 * k))
+
+-- where one has, each buffer of the client that was put there takes eight blocks
+abbrev pub WildWhole : Wild → BlkPlace → Passed → Type 0
+WildWhole wild place passed = (k : ℕ) (pool : PoolAt) → slice_get place.pools k ≡ Some pool
+    → wild (place.first + 4 + 2 * k) ≡ true → (j : ℕ) (x : Cargo)
+    → slice_get (passed.sent (place.first + 4 + 2 * k)) j ≡ Some x → IsOfPool pool x.1
+    → IsWhole x.1

@@ -106,7 +106,7 @@ module _ (rows : List QueueRow) (pools : List PoolRow) (place : PoolPlace) (cast
   owns = owner rows cast seated place.net place.blk placed.net placed.blk has.numbered
 
   -- at most once, whatever the number
-  few : (pool number : ℕ) → pools_weigh (the_page (record { 0 = pool }) number) cast ≤ 1
+  pub few : (pool number : ℕ) → pools_weigh (the_page (record { 0 = pool }) number) cast ≤ 1
   few pool number =
       let dealt = spread_dealt (place_sizes place) owns (keepers_at cast) (are_spread rows cast seated place.net place.blk placed.net placed.blk has.numbered) (record { pool = pool; no = number }) in
       omega (arith, parts_count pool number (scene_of cast) cast, dealt)

@@ -1,5 +1,5 @@
 -- Where the buffers of a cast at play are: all that is counted of them is in queues and with actors.
-use Rattle.std.proofs.Common.{◌≡◌, ◌<◌, ◌≤◌, ℕ, zero, suc, Some, List, [], ◌∷◌, ◌++◌, drop, length, map, flat_map, slice_get, refl, sym, ap, ◌∙◌, subst, arith}
+use Rattle.std.proofs.Common.{◌≡◌, ◌+◌, ◌<◌, ◌≤◌, ℕ, zero, suc, Some, List, [], ◌∷◌, ◌++◌, drop, length, map, flat_map, slice_get, refl, sym, ap, ◌∙◌, subst, arith}
 use Rattle.std.specs.List.{sum_by}
 use Rattle.std.proofs.lemmas.List.Sums.{sum_by-cons}
 use Rattle.cargo_core.specs.declared.item.Body.{Body}
@@ -7,11 +7,13 @@ use Rattle.wire_core.specs.declared.names.PoolRow.{PoolRow}
 use Rattle.wire_core.specs.declared.names.QueueRow.{QueueRow}
 use Rattle.wire_core.specs.declared.names.Entry.{Entry}
 use Rattle.wire_core.specs.Deeds.{Cargo}
+use Rattle.wire_core.specs.Ends.{Role, End}
 use Rattle.wire_core.specs.Journal.{History}
 use Rattle.wire_core.specs.Lists.{Passed}
 use Rattle.wire_core.specs.Marks.{sum_below}
 use Rattle.wire_core.specs.Queues.{Queue, queue_at, end_at}
-use Rattle.play_core.specs.Sheets.{Scene, Sheet, AreApart}
+use Rattle.play_core.specs.Sheets.{Scene, Sheet, AreApart, AreFilled, AreSeated}
+use Rattle.play_core.specs.Still.{IsPeopled}
 use Rattle.play_core.specs.Moved.{moved}
 use Rattle.play_core.proofs.Lists.{map_from, map_get, some_is}
 use Rattle.owner_law.specs.Keeping.{Keeper, AreKeepers, keeper_of}
@@ -31,6 +33,7 @@ use Rattle.actor_set.specs.Actors.{IsWhole, actor_hand, part_of}
 use Rattle.actor_set.specs.declared.actor.Actor.{Actor}
 use Rattle.actor_set.specs.Laws.Kinds.{sheet, scene_of}
 use Rattle.actor_set.proofs.LawsLemmas.Starts.{fits_whole}
+use Rattle.wired_law.specs.Wiring.{AreAtWork}
 use Rattle.cast_law.specs.Pools.Places.{PoolPlace, IsPlaced, HasPools, cast_naming, place_sizes}
 use Rattle.cast_law.specs.Pools.Pooling.{AreAtPlay}
 use Rattle.cast_law.specs.Pages.Paging.{AllStand, actor_lends, shown_bodies, page_holder, page_holders, actor_weighs, cast_weighs, part_pools, pool_weighs, pools_weigh}
@@ -98,10 +101,39 @@ get_right : {Y : Type 0} (xs ys : List Y) (n : ℕ) (y : Y) → slice_get ys n �
 get_right [] ys n y at = (n, at)
 get_right (x ∷ xs) ys n y at = let r = get_right xs ys n y at in (suc r.0, r.1)
 
-in_flat : {X Y : Type 0} (g : X → List Y) (xs : List X) (i : ℕ) (x : X) → slice_get xs i ≡ Some x → (j : ℕ) (y : Y) → slice_get (g x) j ≡ Some y → (n : ℕ) × (slice_get (flat_map g xs) n ≡ Some y)
+pub in_flat : {X Y : Type 0} (g : X → List Y) (xs : List X) (i : ℕ) (x : X) → slice_get xs i ≡ Some x → (j : ℕ) (y : Y) → slice_get (g x) j ≡ Some y → (n : ℕ) × (slice_get (flat_map g xs) n ≡ Some y)
 in_flat g [] i x at j y at' = cc
 in_flat g (z ∷ xs) zero x at j y at' = (j, get_left (g z) (flat_map g xs) j y (subst (λ w. slice_get (g w) j ≡ Some y) (sym (some_is at)) at'))
 in_flat g (z ∷ xs) (suc i) x at j y at' = let r = in_flat g xs i x at j y at' in get_right (g z) (flat_map g xs) r.0 y r.1
+
+-- at work, each with just the ends that the rows give it
+module _ (ends : Role → ℕ → End) (rows : List QueueRow) (actors : List Actor) (passed : Passed) (peopled : IsPeopled rows (length (map part_of actors))) (seated : AreSeated (sheet (scene_of (map part_of actors))) rows (map part_of actors)) (filled : AreFilled (sheet (scene_of (map part_of actors))) rows (map part_of actors)) (work : AreAtWork ends rows actors passed) where
+  abbrev parts : List Part
+  parts = map part_of actors
+
+  abbrev kept : List PageHolder
+  kept = page_holders (scene_of parts) actors passed work.stands
+
+  all_whole : (k : ℕ) (x : Actor) → slice_get actors k ≡ Some x → IsWhole x
+  all_whole k x at = fits_whole ends x (work.fits k x at)
+
+  pub work_held : AreHeld rows kept passed
+  work_held = record {
+    ends = subst (AreKeepers rows) (holders_same (scene_of parts) actors passed work.stands)
+        (cast_keepers (bare (scene_of parts)) parts
+        (λ k p at. let x = map_from part_of actors k p at in subst (λ q. AreApart (sheet (scene_of parts) q).ends) x.2 (ends_apart ends (scene_of parts) x.0 (work.fits k x.0 x.1)))
+        rows seated filled peopled);
+    flows = λ n lt. work.hands_over n;
+    conserve = holders_conserve (scene_of parts) actors passed work.stands all_whole;
+  }
+
+  -- what the queues and the actors have is what all pools weigh
+  pub work_weighs : (f : Count) → sum_below (queue_has f passed) (length rows) + sum_by (actor_weighs f passed) actors ≡ pools_weigh f parts
+  work_weighs f =
+      let all = whole f passed rows kept work_held in
+      let start = starts_weigh f (scene_of parts) actors passed work.stands all_whole in
+      let hands = has_weighs f (scene_of parts) actors passed work.stands in
+      omega (arith, all, start, hands)
 
 module _ (history : History) (rows : List QueueRow) (actors : List Actor) (journal : List Entry) (passed : Passed) (world : List Queue) (play : AreAtPlay history rows actors journal passed world) where
   abbrev cast : List Part
@@ -113,28 +145,19 @@ module _ (history : History) (rows : List QueueRow) (actors : List Actor) (journ
   abbrev held : List PageHolder
   held = page_holders scene actors passed play.stands
 
-  all_whole : (k : ℕ) (x : Actor) → slice_get actors k ≡ Some x → IsWhole x
-  all_whole k x at = fits_whole (end_at world) x (play.fits k x at)
+  abbrev work : AreAtWork (end_at world) rows actors passed
+  work = record { fits = play.fits; stands = play.stands; hands_over = λ n. ((queue_at world n).entries, sym (play.stands_there n)); kinds = play.kinds }
 
   pub cast_held : AreHeld rows held passed
-  cast_held = record {
-    ends = subst (AreKeepers rows) (holders_same scene actors passed play.stands)
-        (cast_keepers (bare scene) cast
-        (λ k p at. let x = map_from part_of actors k p at in subst (λ q. AreApart (sheet scene q).ends) x.2 (ends_apart (end_at world) scene x.0 (play.fits k x.0 x.1)))
-        rows play.seated play.filled play.peopled);
-    flows = λ n lt. ((queue_at world n).entries, sym (play.stands_there n));
-    conserve = holders_conserve scene actors passed play.stands all_whole;
-  }
+  cast_held = work_held (end_at world) rows actors passed play.peopled play.seated play.filled work
 
   pub cast_whole : (f : Count) → cast_weighs f passed world actors ≡ pools_weigh f cast
   cast_whole f =
-      let all = whole f passed rows held cast_held in
-      let start = starts_weigh f scene actors passed play.stands all_whole in
-      let hands = has_weighs f scene actors passed play.stands in
+      let all = work_weighs (end_at world) rows actors passed play.peopled play.seated play.filled work f in
       let each = same_sum (queue_has f passed) (λ n. weighed f (queue_at world n).entries) (length rows) (λ n lt. ap (weighed f) (ap (drop (length (passed.taken n))) (play.stands_there n) ∙ rest_is (passed.taken n) (queue_at world n).entries)) in
       let many = ap (sum_below (λ n. weighed f (queue_at world n).entries)) (sym play.size) in
       let queues = queues_weigh f world in
-      omega (arith, all, start, hands, each, many, queues)
+      omega (arith, all, each, many, queues)
 
   -- so each buffer is there once, and none of a pool has another length
   module _ (pools : List PoolRow) (place : PoolPlace) (placed : IsPlaced rows place cast) (has : HasPools pools place) where

@@ -26,13 +26,13 @@ use Rattle.play_core.proofs.Lists.{map_get, prefix_trans, some_is, there_is, the
 use Rattle.net_law.proofs.Beginnings.{begins_filter}
 use Rattle.net_law.proofs.PartsLemmas.Items.{all_at, items_long}
 use Rattle.net_law.proofs.PartsLemmas.Leasing.{prefix_get}
-use Rattle.net_law.proofs.TxParts.Items.{all_same, home_items}
+use Rattle.net_law.proofs.TxParts.Items.{home_items}
 use Rattle.net_law.proofs.WireLemmas.Wires.{len_same, reached}
 use Rattle.owner_law.specs.Pools.Places.{PoolAt}
 use Rattle.net_law.specs.Parts.Rows.{frame_at}
 use Rattle.net_law.specs.TxParts.Rows.{in_range}
 use Rattle.net_law.specs.TxParts.Playing.{sender_pool}
-use Rattle.net_law.specs.Wire.Sending.{IsSending, AllSendGood}
+use Rattle.net_law.specs.Wire.Sending.{IsSending, AllBegin}
 use Rattle.net_law.specs.Wire.Telling.{told_frame, told_after, told_frames}
 
 -- where each entry's frame is told by those before it, all are
@@ -88,23 +88,19 @@ behind_there : (ys zs : List Cargo) (x : Cargo) → slice_get (ys ++ x ∷ zs) (
 behind_there [] zs x = refl
 behind_there (y ∷ ys) zs x = behind_there ys zs x
 
-module _ (d : EthDevice) (p : Pipes (Pipes (Pipes Pipe))) (v : NetVirtTx) (passed : Passed) (h : IsSending d p v passed) (sends : List (List (List ℕ))) (all : AllSendGood v passed sends) where
+module _ (d : EthDevice) (p : Pipes (Pipes (Pipes Pipe))) (v : NetVirtTx) (passed : Passed) (h : IsSending d p v passed) (sends : List (List (List ℕ))) (all : AllBegin v passed sends) where
   abbrev went : List Cargo
   went = passed.sent v.ends.output.queue.0
 
   abbrev got : List Cargo
   got = passed.taken (tx_active d)
 
-  -- the good descriptors that came in turn from a client are a beginning of what it put
-  came_from : (k : ℕ) (s : Sender) (q : QueueId) (l : List (List ℕ)) → slice_get (senders v.work) k ≡ Some s → slice_get (from_queues v.ends) k ≡ Some q → slice_get sends k ≡ Some l → IsPrefix (filter (is_good_of s) (h.virtualiser.turn q.0)) (passed.sent q.0)
-  came_from k s q l at fat lat =
+  -- the good descriptors that came in turn from a client are a beginning of those that came
+  came_from : (s : Sender) (q : QueueId) → IsPrefix (filter (is_good_of s) (h.virtualiser.turn q.0)) (filter (is_good_of s) (passed.taken q.0))
+  came_from s q =
       let row = h.virtualiser in
-      let turn = row.turn q.0 in
-      let taken = passed.taken q.0 in
-      let sent = passed.sent q.0 in
-      let begins : IsPrefix turn taken = (if_there (row.place == q.0) row.stray, sym (row.taken q.0)) in
-      let good = begins_filter (is_good_of s) turn sent (prefix_trans turn taken sent begins (h.hands_over q.0)) in
-      subst (IsPrefix (filter (is_good_of s) turn)) (all_same s sent (all.each k s q l at fat lat).good) good
+      let begins : IsPrefix (row.turn q.0) (passed.taken q.0) = (if_there (row.place == q.0) row.stray, sym (row.taken q.0)) in
+      begins_filter (is_good_of s) (row.turn q.0) (passed.taken q.0) begins
 
   module _ (ys zs : List Cargo) (x : Cargo) (split : got ≡ ys ++ x ∷ zs) where
     reach : IsPrefix got went
@@ -121,8 +117,9 @@ module _ (d : EthDevice) (p : Pipes (Pipes (Pipes Pipe))) (v : NetVirtTx) (passe
         let r = there_is (to_queues v.ends) k (omega (arith, below, to_each)) in
         let served = row.serves k s q r.0 at fat r.1 in
         let shown = subst (λ w. IsPrefix (own_of s w) (filter (is_good_of s) (row.turn q.0))) went_is served.sends in
-        let put = prefix_trans (own_of s (ys ++ x ∷ (zs ++ reach.0))) (filter (is_good_of s) (row.turn q.0)) (passed.sent q.0) shown (came_from k s q l at fat lat) in
-        frame_there s ys (zs ++ reach.0) x (passed.sent q.0) l own put (all.each k s q l at fat lat).begun
+        let good = filter (is_good_of s) (passed.taken q.0) in
+        let came = prefix_trans (own_of s (ys ++ x ∷ (zs ++ reach.0))) (filter (is_good_of s) (row.turn q.0)) good shown (came_from s q) in
+        frame_there s ys (zs ++ reach.0) x good l own came (all.each k s q l at fat lat)
 
     entry_told : told_frame (map sender_pool (senders v.work)) sends (items_of ys) x.0 ≡ frame_of x
     entry_told =

@@ -1,5 +1,5 @@
 -- The wire is a merge of beginnings of what the clients send.
-use Rattle.std.proofs.Common.{◌≡◌, ◌==◌, ◌+◌, ℕ, zero, suc, true, cond, Some, List, [], ◌∷◌, All, length, map, slice_get, refl, sym, ap, ◌∙◌, subst, arith}
+use Rattle.std.proofs.Common.{◌≡◌, ◌==◌, ◌+◌, ℕ, zero, suc, Some, List, [], ◌∷◌, length, map, slice_get, refl, sym, ap, ◌∙◌, subst, arith}
 use Rattle.std.specs.List.{filter}
 use Rattle.std.proofs.lemmas.List.{length-map}
 use Rattle.cargo_core.specs.declared.item.Item.{Item}
@@ -23,7 +23,7 @@ use Rattle.net_virt_tx.specs.Sending.{all_good}
 use Rattle.play_core.proofs.Lists.{map_from, prefix_trans, some_is}
 use Rattle.play_core.proofs.Merges.{merge_map, prefix_merge, prefix_merge_wider}
 use Rattle.net_law.proofs.Beginnings.{begins_map, begins_filter}
-use Rattle.net_law.specs.Wire.Sending.{IsSending, AllSendGood, frames_from}
+use Rattle.net_law.specs.Wire.Sending.{IsSending, AllBegin, frames_from}
 
 -- a beginning of a merge of beginnings, and what its elements are mapped to
 begins_merge : {T : Type 0} (lists : List (List T)) (all xs : List T) → PrefixMerge lists all → IsPrefix xs all → PrefixMerge lists xs
@@ -67,10 +67,6 @@ good_long [] qs lists long = refl
 good_long (s ∷ ss) [] lists long = absurd (omega (arith, long))
 good_long (s ∷ ss) (q ∷ qs) lists long = let r = good_long ss qs lists (omega (arith, long)) in omega (arith, r)
 
-all_same : (s : Sender) (xs : List Cargo) → All (λ (c : Cargo). is_good_of s c ≡ true) xs → filter (is_good_of s) xs ≡ xs
-all_same s [] h = refl
-all_same s (x ∷ xs) h = ap (λ b. cond b (x ∷ filter (is_good_of s) xs) (filter (is_good_of s) xs)) (h zero x (omega arith)) ∙ ap (λ l. x ∷ l) (all_same s xs (λ k d l. h (suc k) d (omega (arith, l))))
-
 module _ (d : EthDevice) (p : Pipes (Pipes (Pipes Pipe))) (v : NetVirtTx) (passed : Passed) (h : IsSending d p v passed) where
   abbrev went : List Cargo
   went = passed.sent v.ends.output.queue.0
@@ -111,7 +107,7 @@ module _ (d : EthDevice) (p : Pipes (Pipes (Pipes Pipe))) (v : NetVirtTx) (passe
       subst (λ w. PrefixMerge (frames_from v passed) w) (sym h.device.wire)
       (maps_merge frame_of (good passed.taken) (passed.taken (tx_active d)) (begins_merge (good passed.taken) went (passed.taken (tx_active d)) came reached))
 
-  pub wire_sends : (sends : List (List (List ℕ))) → AllSendGood v passed sends → PrefixMerge sends d.wire.tape.shown
+  pub wire_sends : (sends : List (List (List ℕ))) → AllBegin v passed sends → PrefixMerge sends d.wire.tape.shown
   wire_sends sends all =
       let a = good_long (senders v.work) (from_queues v.ends) passed.taken h.virtualiser.from_each in
       let b = length-map (good passed.taken) (map frame_of) in
@@ -119,10 +115,7 @@ module _ (d : EthDevice) (p : Pipes (Pipes (Pipes Pipe))) (v : NetVirtTx) (passe
       prefix_merge_wider (frames_from v passed) sends d.wire.tape.shown (omega (arith, a, b, m)) (λ k l w at at'.
       let f = map_from (map frame_of) (good passed.taken) k l at in
       let g = good_at (senders v.work) (from_queues v.ends) passed.taken k f.0 f.1 in
-      let e = all.each k g.0 g.1 w g.2 g.3 at' in
+      let begun = all.each k g.0 g.1 w g.2 g.3 at' in
       let taken = passed.taken g.1.0 in
-      let sent = passed.sent g.1.0 in
-      let begun = begins_map frame_of (filter (is_good_of g.0) taken) (filter (is_good_of g.0) sent) (begins_filter (is_good_of g.0) taken sent (h.hands_over g.1.0)) in
-      let whole = subst (λ x. IsPrefix (map frame_of (filter (is_good_of g.0) taken)) (map frame_of x)) (all_same g.0 sent e.good) begun in
       let same : map frame_of (filter (is_good_of g.0) taken) ≡ l = sym (frames_same g.0.base (filter (is_good_of g.0) taken)) ∙ (ap (map frame_of) (sym g.4) ∙ f.2) in
-      subst (λ x. IsPrefix x w) same (prefix_trans (map frame_of (filter (is_good_of g.0) taken)) (map frame_of sent) w whole e.begun)) wire_good
+      subst (λ x. IsPrefix x w) same begun) wire_good

@@ -1,6 +1,7 @@
 -- The network class on its way from the clients to the wire, apart from any system: the rows of the
 -- actors on that way, and the queues between.
-use Rattle.std.specs.Prelude.{◌≡◌, ℕ, true, Some, List, All, length, map, slice_get}
+use Rattle.std.specs.Prelude.{◌≡◌, ℕ, Some, List, length, map, slice_get}
+use Rattle.std.specs.List.{filter}
 use Rattle.cargo_core.specs.Lists.{IsPrefix}
 use Rattle.wire_core.specs.declared.names.QueueId.{QueueId}
 use Rattle.wire_core.specs.Deeds.{Cargo}
@@ -35,15 +36,12 @@ abbrev pub frames_from : NetVirtTx → Passed → List (List (List ℕ))
 frames_from v passed =
     map (map frame_of) (all_good (senders v.work) (from_queues v.ends) passed.taken)
 
--- each descriptor that the client put is good, and their frames are a beginning of what it sends
-pub record SendsGood (s : Sender) (put : List Cargo) (sends : List (List ℕ)) : Type 0 where
-  pub good : All (λ (c : Cargo). is_good_of s c ≡ true) put
-  pub begun : IsPrefix (map frame_of put) sends
-
--- each client does
-pub record AllSendGood (v : NetVirtTx) (passed : Passed) (sends : List (List (List ℕ))) :
+-- of each client, the frames of the good descriptors that came from it are a beginning of what it
+-- sends
+pub record AllBegin (v : NetVirtTx) (passed : Passed) (sends : List (List (List ℕ))) :
     Type 0 where
   pub as_many : length (senders v.work) ≡ length sends
   pub each : (k : ℕ) (s : Sender) (q : QueueId) (l : List (List ℕ))
       → slice_get (senders v.work) k ≡ Some s → slice_get (from_queues v.ends) k ≡ Some q
-      → slice_get sends k ≡ Some l → SendsGood s (passed.sent q.0) l
+      → slice_get sends k ≡ Some l
+      → IsPrefix (map frame_of (filter (is_good_of s) (passed.taken q.0))) l

@@ -1,6 +1,6 @@
 -- The actors of a whole cast are a sending half, so nothing comes out of turn at the sending
 -- virtualiser.
-use Rattle.std.proofs.Common.{◌≡◌, ◌==◌, ◌+◌, ◌*◌, ◌++◌, ◌≤◌, ℕ, zero, suc, Bool, true, false, Some, List, [], ◌∷◌, All, length, map, slice_get, refl, sym, ap, ap₂, ◌∙◌, subst, arith}
+use Rattle.std.proofs.Common.{◌≡◌, ◌==◌, ◌+◌, ◌*◌, ◌++◌, ◌<◌, ◌≤◌, ℕ, zero, suc, Bool, true, false, Some, List, [], ◌∷◌, All, length, map, slice_get, refl, sym, ap, ap₂, ◌∙◌, subst, arith}
 use Rattle.std.specs.List.{filter}
 use Rattle.std.proofs.lemmas.List.{append-nil}
 use Rattle.std.proofs.lemmas.List.Elements.{All-cons}
@@ -10,20 +10,22 @@ use Rattle.wire_core.specs.declared.names.QueueId.{QueueId}
 use Rattle.wire_core.specs.Deeds.{Cargo}
 use Rattle.wire_core.specs.Lists.{Passed, if_there}
 use Rattle.wire_core.specs.Queues.{items_of}
-use Rattle.play_core.proofs.Lists.{some_is, there_is, there_below}
+use Rattle.play_core.proofs.Lists.{prefix_trans, some_is, there_is, there_below}
+use Rattle.play_core.specs.Names.{Wild, by_sort}
+use Rattle.client_programs.specs.Net.Clients as client
 use Rattle.net_expect.specs.Expecting.{Program, Source, frames_for, sends_of}
 use Rattle.buffer_kit.specs.Entries.{frame_of}
 use Rattle.buffer_kit.specs.Virtualising.{from_queues, to_queues}
 use Rattle.client_programs.specs.declared.net.NetClient.{NetClient}
 use Rattle.net_virt_tx.specs.declared.NetVirtTx.{NetVirtTx}
 use Rattle.net_virt_tx.specs.declared.descriptors.Sender.{Sender}
-use Rattle.net_virt_tx.specs.Descriptors.{to_client}
+use Rattle.net_virt_tx.specs.Descriptors.{is_good, to_client}
 use Rattle.net_virt_tx.specs.Clients.{at_address}
 use Rattle.net_virt_tx.specs.Serving.{IsServed, bad_ones, is_good_of, is_own, own_of}
 use Rattle.net_virt_tx.specs.Sending.{TxRow}
 use Rattle.net_virt_tx.specs.Traffics.{senders}
 use Rattle.net_law.proofs.Beginnings.{begins_map, begins_filter}
-use Rattle.net_law.specs.Wire.Sending.{AllSendGood}
+use Rattle.net_law.specs.Wire.Sending.{AllBegin}
 use Rattle.net_law.specs.Wire.Telling.{told_frames}
 use Rattle.net_law.proofs.WireLemmas.Wires.{wire_sends}
 use Rattle.net_law.proofs.WireLemmas.Telling.{wire_told}
@@ -33,13 +35,14 @@ use Rattle.net_law.specs.Parts.Numbers.{client_first}
 use Rattle.net_law.proofs.PartsLemmas.Leasing.{prefix_get}
 use Rattle.owner_law.proofs.PoolsLemmas.Merging.{Each, each_begun, kept_is}
 use Rattle.net_law.specs.TxParts.Numbers.{NetPlace, shippers_from}
-use Rattle.net_law.specs.TxParts.Playing.{TakesGood, sender_pool, shippers}
-use Rattle.net_law.proofs.TxParts.Items.{none_bad}
+use Rattle.net_law.specs.TxParts.Playing.{sender_pool, shippers}
+use Rattle.net_law.specs.TxScene.Playing.{CalmGood}
+use Rattle.net_law.proofs.TxParts.Items.{all_same, none_bad}
 use Rattle.net_quiet.specs.Cast.Casting.{IsClientAt}
 use Rattle.net_quiet.proofs.CastLemmas.Casting.{cast_records}
-use Rattle.net_quiet.specs.TxTurns.Turning.{IsSendHalf, SendsFromHand}
-use Rattle.net_quiet.proofs.TxTurns.Turning.{comes_back, none_stray, takes_good}
-use Rattle.net_quiet.specs.TxCast.Casting.{AreSends, AreFrames, AllSend, IsSend, IsClientOf, IsSendingClient, IsWholeCast, sends_at, wire_at}
+use Rattle.net_quiet.specs.TxTurns.Turning.{IsSendHalf, SendsFromHand, StraysWild}
+use Rattle.net_quiet.proofs.TxTurns.Turning.{comes_back, front, none_stray, takes_good}
+use Rattle.net_quiet.specs.TxCast.Casting.{AreClients, AreSends, AreFrames, CalmSend, IsSend, IsClientOf, IsSendingClient, IsWholeCast, NoneHostile, good_frames, sends_at, sends_beside, sends_from, wire_at, wire_beside}
 use Rattle.net_quiet.proofs.TxCast.Numbers.{Ships, device_sends, driver_sends, client_queues, sender_queues, shippers_are, client_rx}
 use Rattle.net_quiet.proofs.TxCast.Entries.{send_good}
 use Rattle.net_quiet.proofs.TxCast.Sends as one
@@ -55,18 +58,48 @@ same_maps f g [] (y ∷ ys) n same = absurd (omega (arith, n))
 same_maps f g (x ∷ xs) [] n same = absurd (omega (arith, n))
 same_maps f g (x ∷ xs) (y ∷ ys) n same = ap₂ (λ z zs. z ∷ zs) (same 0 x y refl refl) (same_maps f g xs ys (omega (arith, n)) (λ k a b at there. same (suc k) a b at there))
 
--- what the client of a number sends
-sends_there : (programs : List Program) (macs : List Mac) (frames : List (List ℕ)) (k : ℕ) (l : List (List ℕ)) → slice_get (sends_at programs macs frames) k ≡ Some l → (program : Program) × (mac : Mac) × (slice_get programs k ≡ Some program) × (slice_get macs k ≡ Some mac) × (sends_of program mac frames ≡ l)
-sends_there [] macs frames k l at = cc
-sends_there (p ∷ ps) [] frames k l at = cc
-sends_there (p ∷ ps) (m ∷ ms) frames zero l at = (p, m, refl, refl, some_is at)
-sends_there (p ∷ ps) (m ∷ ms) frames (suc k) l at = sends_there ps ms frames k l at
+-- what the client of a number sends, where clients may be hostile
+module _ (wild : Wild) (first most : ℕ) (frames : List (List ℕ)) (passed : Passed) where
+  record Sends (n : ℕ) (k : ℕ) (programs : List Program) (macs : List Mac) (pools : List ClientPools) (l : List (List ℕ)) : Type 0 where
+    program : Program
+    mac : Mac
+    q : ClientPools
+    plays : slice_get programs k ≡ Some program
+    address : slice_get macs k ≡ Some mac
+    pooled : slice_get pools k ≡ Some q
+    is : by_sort (wild (client_first first n + 4)) (good_frames first most passed n q.tx) (sends_of program mac frames) ≡ l
 
-sends_many : (programs : List Program) (macs : List Mac) (frames : List (List ℕ)) → length programs ≡ length macs → length (sends_at programs macs frames) ≡ length macs
-sends_many [] [] frames e = refl
-sends_many [] (m ∷ ms) frames e = absurd (omega (arith, e))
-sends_many (p ∷ ps) [] frames e = absurd (omega (arith, e))
-sends_many (p ∷ ps) (m ∷ ms) frames e = let rest = sends_many ps ms frames (omega (arith, e)) in omega (arith, rest)
+  next_sends : (j k : ℕ) (p : Program) (m : Mac) (q : ClientPools) (ps : List Program) (ms : List Mac) (qs : List ClientPools) (l : List (List ℕ)) → Sends (j + 1 + k) k ps ms qs l → Sends (j + suc k) (suc k) (p ∷ ps) (m ∷ ms) (q ∷ qs) l
+  next_sends j k p m q ps ms qs l h =
+      let shift : j + 1 + k ≡ j + suc k = omega arith in
+      record { program = h.program; mac = h.mac; q = h.q; plays = h.plays; address = h.address; pooled = h.pooled; is = subst (λ n. by_sort (wild (client_first first n + 4)) (good_frames first most passed n h.q.tx) (sends_of h.program h.mac frames) ≡ l) shift h.is }
+
+  sends_there : (j : ℕ) (programs : List Program) (macs : List Mac) (pools : List ClientPools) (k : ℕ) (l : List (List ℕ)) → slice_get (sends_from wild first most frames passed j programs macs pools) k ≡ Some l → Sends (j + k) k programs macs pools l
+  sends_there j [] macs pools k l at = absurd cc
+  sends_there j (p ∷ ps) [] pools k l at = absurd cc
+  sends_there j (p ∷ ps) (m ∷ ms) [] k l at = absurd cc
+  sends_there j (p ∷ ps) (m ∷ ms) (q ∷ qs) zero l at =
+      let plus : j ≡ j + 0 = omega arith in
+      record { program = p; mac = m; q = q; plays = refl; address = refl; pooled = refl; is = subst (λ n. by_sort (wild (client_first first n + 4)) (good_frames first most passed n q.tx) (sends_of p m frames) ≡ l) plus (some_is at) }
+  sends_there j (p ∷ ps) (m ∷ ms) (q ∷ qs) (suc k) l at = next_sends j k p m q ps ms qs l (sends_there (j + 1) ps ms qs k l at)
+
+  sends_many : (j : ℕ) (programs : List Program) (macs : List Mac) (pools : List ClientPools) → length programs ≡ length macs → length pools ≡ length macs → length (sends_from wild first most frames passed j programs macs pools) ≡ length macs
+  sends_many j [] [] pools e f = refl
+  sends_many j [] (m ∷ ms) pools e f = absurd (omega (arith, e))
+  sends_many j (p ∷ ps) [] pools e f = absurd (omega (arith, e))
+  sends_many j (p ∷ ps) (m ∷ ms) [] e f = absurd (omega (arith, f))
+  sends_many j (p ∷ ps) (m ∷ ms) (q ∷ qs) e f = let rest = sends_many (j + 1) ps ms qs (omega (arith, e)) (omega (arith, f)) in omega (arith, rest)
+
+  -- where no client is hostile each sends by its program
+  all_calm : (j : ℕ) (programs : List Program) (macs : List Mac) (pools : List ClientPools) → length programs ≡ length macs → length pools ≡ length macs → ((k : ℕ) → k < length pools → wild (client_first first (j + k) + 4) ≡ false) → sends_from wild first most frames passed j programs macs pools ≡ sends_at programs macs frames
+  all_calm j [] macs pools e f none = refl
+  all_calm j (p ∷ ps) [] pools e f none = refl
+  all_calm j (p ∷ ps) (m ∷ ms) [] e f none = absurd (omega (arith, f))
+  all_calm j (p ∷ ps) (m ∷ ms) (q ∷ qs) e f none =
+      let plus : j + 0 ≡ j = omega arith in
+      let here : wild (client_first first j + 4) ≡ false = subst (λ n. wild (client_first first n + 4) ≡ false) plus (none 0 (omega arith)) in
+      let rest = all_calm (j + 1) ps ms qs (omega (arith, e)) (omega (arith, f)) (λ k lt. let shift : j + suc k ≡ j + 1 + k = omega arith in subst (λ n. wild (client_first first n + 4) ≡ false) shift (none (suc k) (omega (arith, lt)))) in
+      ap₂ (λ (b : Bool) (ls : List (List (List ℕ))). by_sort b (good_frames first most passed j q.tx) (sends_of p m frames) ∷ ls) here rest
 
 module _ (net : NetPlace) (frames : List (List ℕ)) (passed : Passed) (h : IsWholeCast net frames passed) where
   -- no frame is longer than a buffer of a client's
@@ -83,28 +116,26 @@ module _ (net : NetPlace) (frames : List (List ℕ)) (passed : Passed) (h : IsWh
   scripts_of : (k : ℕ) (program : Program) (mac : Mac) (q : ClientPools) → IsClientOf net k program mac q → (script : List (List ℕ)) → program ≡ Source script → AreFrames net.most script
   scripts_of k program mac q of script is = h.scripts k script (of.plays ∙ ap (λ (p : Program). Some p) is)
 
-  pub client_puts : (k : ℕ) (program : Program) (mac : Mac) (q : ClientPools) → IsClientOf net k program mac q → AreSends net.most q.tx (passed.taken (client_first net.first k + 5)) → AreSends net.most q.tx (passed.sent (client_first net.first k + 4))
-  client_puts k program mac q of back =
-      let c = h.clients k program mac q of in
-      let own = client_queues net.first k program mac q c.0 c.1.part in
-      subst (λ n. AreSends net.most q.tx (passed.sent n)) own.2
-      (one.puts net k program mac q frames c.0 passed c.1 (h.addresses k mac of.address) h.received (scripts_of k program mac q of) (recorded k program mac q of c.0 c.1) (h.fits_client k q of.pools).1 (subst (λ n. AreSends net.most q.tx (passed.taken n)) (sym own.3) back))
+  module _ (k : ℕ) (program : Program) (mac : Mac) (q : ClientPools) (of : IsClientOf net k program mac q) (c : NetClient) (is : IsSendingClient net k program mac q c passed) where
+    own : (client.rx_active c ≡ client_first net.first k + 2) × (client.rx_free c ≡ client_first net.first k + 3) × (client.tx_active c ≡ client_first net.first k + 4) × (client.tx_free c ≡ client_first net.first k + 5)
+    own = client_queues net.first k program mac q c is.part
 
-  client_hand : (k : ℕ) (program : Program) (mac : Mac) (q : ClientPools) → IsClientOf net k program mac q → (b : ℕ) → at_address (b * q.tx.size) (passed.sent (client_first net.first k + 4)) ≤ at_address (b * q.tx.size) (passed.taken (client_first net.first k + 5)) + 1
-  client_hand k program mac q of b =
-      let c = h.clients k program mac q of in
-      let own = client_queues net.first k program mac q c.0 c.1.part in
-      let hand = one.in_hand net k program mac q frames c.0 passed c.1 (h.addresses k mac of.address) h.received (scripts_of k program mac q of) (recorded k program mac q of c.0 c.1) (h.fits_client k q of.pools).1 b in
-      let put = ap (λ n. at_address (b * q.tx.size) (passed.sent n)) own.2 in
-      let back = ap (λ n. at_address (b * q.tx.size) (passed.taken n)) own.3 in
-      omega (arith, hand, put, back)
+    pub client_puts : AreSends net.most q.tx (passed.taken (client_first net.first k + 5)) → AreSends net.most q.tx (passed.sent (client_first net.first k + 4))
+    client_puts back =
+        subst (λ n. AreSends net.most q.tx (passed.sent n)) own.2
+        (one.puts net k program mac q frames c passed is (h.addresses k mac of.address) h.received (scripts_of k program mac q of) (recorded k program mac q of c is) (h.fits_client k q of.pools).1 (subst (λ n. AreSends net.most q.tx (passed.taken n)) (sym own.3) back))
 
-  client_begins : (k : ℕ) (program : Program) (mac : Mac) (q : ClientPools) → IsClientOf net k program mac q → AreSends net.most q.tx (passed.taken (client_first net.first k + 5)) → IsPrefix (map frame_of (passed.sent (client_first net.first k + 4))) (sends_of program mac frames)
-  client_begins k program mac q of back =
-      let c = h.clients k program mac q of in
-      let own = client_queues net.first k program mac q c.0 c.1.part in
-      subst (λ n. IsPrefix (map frame_of (passed.sent n)) (sends_of program mac frames)) own.2
-      (one.begins net k program mac q frames c.0 passed c.1 (h.addresses k mac of.address) h.received (scripts_of k program mac q of) (recorded k program mac q of c.0 c.1) (h.fits_client k q of.pools).1 (subst (λ n. AreSends net.most q.tx (passed.taken n)) (sym own.3) back))
+    client_hand : (b : ℕ) → at_address (b * q.tx.size) (passed.sent (client_first net.first k + 4)) ≤ at_address (b * q.tx.size) (passed.taken (client_first net.first k + 5)) + 1
+    client_hand b =
+        let hand = one.in_hand net k program mac q frames c passed is (h.addresses k mac of.address) h.received (scripts_of k program mac q of) (recorded k program mac q of c is) (h.fits_client k q of.pools).1 b in
+        let put = ap (λ n. at_address (b * q.tx.size) (passed.sent n)) own.2 in
+        let back = ap (λ n. at_address (b * q.tx.size) (passed.taken n)) own.3 in
+        omega (arith, hand, put, back)
+
+    pub client_begins : AreSends net.most q.tx (passed.taken (client_first net.first k + 5)) → IsPrefix (map frame_of (passed.sent (client_first net.first k + 4))) (sends_of program mac frames)
+    client_begins back =
+        subst (λ n. IsPrefix (map frame_of (passed.sent n)) (sends_of program mac frames)) own.2
+        (one.begins net k program mac q frames c passed is (h.addresses k mac of.address) h.received (scripts_of k program mac q of) (recorded k program mac q of c is) (h.fits_client k q of.pools).1 (subst (λ n. AreSends net.most q.tx (passed.taken n)) (sym own.3) back))
 
   -- the client of a number is there
   client_there : (k : ℕ) (q : ClientPools) → slice_get net.pools k ≡ Some q → (program : Program) × (mac : Mac) × IsClientOf net k program mac q
@@ -120,6 +151,10 @@ module _ (net : NetPlace) (frames : List (List ℕ)) (passed : Passed) (h : IsWh
   module _ (row : TxRow h.sender passed) where
     abbrev v : NetVirtTx
     v = h.sender
+
+    -- what came in turn is a beginning of what came
+    in_turn : (n : ℕ) → IsPrefix (row.turn n) (passed.taken n)
+    in_turn n = (if_there (row.place == n) row.stray, sym (row.taken n))
 
     virtualised : (v.ends.output.queue.0 ≡ net.first + 6) × (v.ends.input.queue.0 ≡ net.first + 7) × (shippers (senders v.work) (from_queues v.ends) (to_queues v.ends) ≡ shippers_from net.first net.most 0 net.pools)
     virtualised = sender_queues net.first net.most net.pools v h.sender_at.part
@@ -148,59 +183,40 @@ module _ (net : NetPlace) (frames : List (List ℕ)) (passed : Passed) (h : IsWh
         let same : x.0 ≡ p = some_is (sym x.1 ∙ at) in
         (s.0, q.0, r.0, s.1, q.1, r.1, subst (Ships net.first net.most k s.0 q.0 r.0) same x.2)
 
-    module _ (send : AllSend net passed) where
-      goods : (k : ℕ) (p : ClientPools) → slice_get net.pools k ≡ Some p → (s : Sender) (q r : QueueId) → Ships net.first net.most k s q r p → All (λ (c : Cargo). is_good_of s c ≡ true) (passed.sent q.0)
-      goods k p at s q r ships = all_from (λ (c : Cargo). is_good_of s c ≡ true) (passed.sent q.0) (λ j c c_at. send_good s p.tx c ships.0 (subst (λ m. IsSend m p.tx c) (sym ships.3) (send k p at j c (ap (λ n. slice_get (passed.sent n) j) (sym ships.1) ∙ c_at))))
+    -- the virtualiser's way round, whoever is hostile
+    half_by : (wild : Wild) → ((k : ℕ) (s : Sender) (q r : QueueId) → slice_get (senders v.work) k ≡ Some s → slice_get (from_queues v.ends) k ≡ Some q → slice_get (to_queues v.ends) k ≡ Some r → wild q.0 ≡ false → SendsFromHand s (passed.sent q.0) (passed.taken r.0)) → IsSendHalf wild h.half.device h.half.driver v passed
+    half_by wild clients =
+        let wire = device_sends net.first frames h.half.device h.device_at in
+        let driven = driver_sends net.first h.half.driver h.half.driver_at.part in
+        record {
+          sending = record {
+            hands_over = h.half.hands_over;
+            virtualiser = row;
+            driver = h.half.driver_at.row;
+            device = h.half.device_at.row;
+            to_driver = driven.0 ∙ sym virtualised.0;
+            to_device = wire.0 ∙ sym driven.1;
+          };
+          from_device = driven.2 ∙ sym wire.1;
+          from_driver = virtualised.1 ∙ sym driven.3;
+          clients = clients;
+        }
 
-      from_hand : (k : ℕ) (s : Sender) (q r : QueueId) → slice_get (senders v.work) k ≡ Some s → slice_get (from_queues v.ends) k ≡ Some q → slice_get (to_queues v.ends) k ≡ Some r → SendsFromHand s (passed.sent q.0) (passed.taken r.0)
-      from_hand k s q r at fat tat =
-          let x = ships_at k s q r at fat tat in
-          let of = client_there k x.0 x.1 in
-          record {
-            good = goods k x.0 x.1 s q r x.2;
-            in_hand = λ b lt.
-                let hand = client_hand k of.0 of.1 x.0 of.2 b in
-                let long : x.0.tx.size ≡ s.size = sym (ap (λ (p : PoolAt). p.size) x.2.0) in
-                let put = ap₂ (λ z n. at_address (b * z) (passed.sent n)) (sym long) x.2.1 in
-                let back = ap₂ (λ z n. at_address (b * z) (passed.taken n)) (sym long) x.2.2 in
-                omega (arith, hand, put, back);
-          }
+    -- what came back is a beginning of what went to the driver
+    returned : IsPrefix (row.turn v.ends.input.queue.0) (passed.sent v.ends.output.queue.0)
+    returned =
+        let input = v.ends.input.queue.0 in
+        let all = half_by (λ n. true) (λ k s q r at fat tat calm. absurd cc) in
+        prefix_trans (row.turn input) (passed.taken input) (passed.sent v.ends.output.queue.0) (in_turn input) (comes_back (λ n. true) h.half.device h.half.driver v passed all)
 
-      half_with : IsSendHalf h.half.device h.half.driver v passed
-      half_with =
-          let wire = device_sends net.first frames h.half.device h.device_at in
-          let driven = driver_sends net.first h.half.driver h.half.driver_at.part in
-          record {
-            sending = record {
-              hands_over = h.half.hands_over;
-              virtualiser = row;
-              driver = h.half.driver_at.row;
-              device = h.half.device_at.row;
-              to_driver = driven.0 ∙ sym virtualised.0;
-              to_device = wire.0 ∙ sym driven.1;
-            };
-            from_device = driven.2 ∙ sym wire.1;
-            from_driver = virtualised.1 ∙ sym driven.3;
-            clients = from_hand;
-          }
+    -- a client that put good descriptors alone
+    module _ (k : ℕ) (p : ClientPools) (sends : AreSends net.most p.tx (passed.sent (client_first net.first k + 4))) (s : Sender) (q r : QueueId) (ships : Ships net.first net.most k s q r p) where
+      goods : All (λ (c : Cargo). is_good_of s c ≡ true) (passed.sent q.0)
+      goods = all_from (λ (c : Cargo). is_good_of s c ≡ true) (passed.sent q.0) (λ j c c_at. send_good s p.tx c ships.0 (subst (λ m. IsSend m p.tx c) (sym ships.3) (sends j c (ap (λ n. slice_get (passed.sent n) j) (sym ships.1) ∙ c_at))))
 
-      pub none_out : row.stray ≡ []
-      unfolding half_with
-      none_out = none_stray h.half.device h.half.driver v passed half_with
-
-      pub good_taken : TakesGood v passed
-      good_taken = takes_good h.half.device h.half.driver v passed half_with
-
-      turn_is : (n : ℕ) → row.turn n ≡ passed.taken n
-      turn_is n = sym (row.taken n ∙ (ap (λ l. row.turn n ++ if_there (row.place == n) l) none_out ∙ nothing (row.place == n)))
-        where
-          nothing : (b : Bool) → row.turn n ++ if_there b [] ≡ row.turn n
-          nothing true = append-nil (row.turn n)
-          nothing false = append-nil (row.turn n)
-
-      -- what went back to a client it had put before
-      went_back : (k : ℕ) (p : ClientPools) → slice_get net.pools k ≡ Some p → (s : Sender) (q r : QueueId) → slice_get (senders v.work) k ≡ Some s → slice_get (from_queues v.ends) k ≡ Some q → slice_get (to_queues v.ends) k ≡ Some r → Ships net.first net.most k s q r p → Each (IsSend net.most p.tx) (passed.sent r.0)
-      went_back k p at s q r s_at q_at r_at ships = each_begun (IsSend net.most p.tx) (bad_ones s (row.turn q.0) ∷ own_of s (row.turn v.ends.input.queue.0) ∷ []) (passed.sent r.0) served.gives_back both
+      -- what went back to it it had put before
+      went_back : slice_get (senders v.work) k ≡ Some s → slice_get (from_queues v.ends) k ≡ Some q → slice_get (to_queues v.ends) k ≡ Some r → Each (IsSend net.most p.tx) (passed.sent r.0)
+      went_back s_at q_at r_at = each_begun (IsSend net.most p.tx) (bad_ones s (row.turn q.0) ∷ own_of s (row.turn v.ends.input.queue.0) ∷ []) (passed.sent r.0) served.gives_back both
         where
           input : ℕ
           input = v.ends.input.queue.0
@@ -211,43 +227,94 @@ module _ (net : NetPlace) (frames : List (List ℕ)) (passed : Passed) (h : IsWh
           served : IsServed s (row.turn q.0) (passed.sent output) (row.turn input) (passed.sent r.0)
           served = row.serves k s q r s_at q_at r_at
 
+          put : IsPrefix (row.turn q.0) (passed.sent q.0)
+          put = prefix_trans (row.turn q.0) (passed.taken q.0) (passed.sent q.0) (in_turn q.0) (h.half.hands_over q.0)
+
           bads : bad_ones s (row.turn q.0) ≡ []
-          bads = ap (bad_ones s) (turn_is q.0) ∙ none_bad s (passed.taken q.0) (good_taken k s q s_at q_at)
+          bads = none_bad s (row.turn q.0) (front (λ (c : Cargo). is_good_of s c ≡ true) (row.turn q.0) (passed.sent q.0) put goods)
 
           begun : IsPrefix (own_of s (row.turn input)) (own_of s (passed.sent output))
-          begun =
-              let returned = subst (λ l. IsPrefix l (passed.sent output)) (sym (turn_is input)) (comes_back h.half.device h.half.driver v passed half_with) in
-              begins_map (to_client s.base) (filter (is_own s) (row.turn input)) (filter (is_own s) (passed.sent output)) (begins_filter (is_own s) (row.turn input) (passed.sent output) returned)
+          begun = begins_map (to_client s.base) (filter (is_own s) (row.turn input)) (filter (is_own s) (passed.sent output)) (begins_filter (is_own s) (row.turn input) (passed.sent output) returned)
 
           owned : Each (IsSend net.most p.tx) (own_of s (row.turn input))
           owned j c c_at =
               let went = prefix_get (own_of s (row.turn input)) (own_of s (passed.sent output)) begun j c c_at in
               let came = prefix_get (own_of s (passed.sent output)) (filter (is_good_of s) (row.turn q.0)) served.sends j c went in
               let kept = (kept_is (is_good_of s) (row.turn q.0) j c came).1 in
-              let taken : slice_get (passed.taken q.0) kept.0 ≡ Some c = ap (λ l. slice_get l kept.0) (sym (turn_is q.0)) ∙ kept.1 in
-              let sent = prefix_get (passed.taken q.0) (passed.sent q.0) (h.half.hands_over q.0) kept.0 c taken in
-              send k p at kept.0 c (ap (λ n. slice_get (passed.sent n) kept.0) (sym ships.1) ∙ sent)
+              let sent = prefix_get (row.turn q.0) (passed.sent q.0) put kept.0 c kept.1 in
+              sends kept.0 c (ap (λ n. slice_get (passed.sent n) kept.0) (sym ships.1) ∙ sent)
 
           both : Each (Each (IsSend net.most p.tx)) (bad_ones s (row.turn q.0) ∷ own_of s (row.turn input) ∷ [])
           both zero l l_at = subst (Each (IsSend net.most p.tx)) (sym bads ∙ some_is l_at) (λ j c c_at. cc)
           both (suc zero) l l_at = subst (Each (IsSend net.most p.tx)) (some_is l_at) owned
           both (suc (suc j)) l l_at = cc
 
-      pub back_is : (k : ℕ) (program : Program) (mac : Mac) (q : ClientPools) → IsClientOf net k program mac q → AreSends net.most q.tx (passed.taken (client_first net.first k + 5))
-      back_is k program mac q of j c at =
-          let x = place_of k q of.pools in
-          let n = client_first net.first k + 5 in
-          let put = prefix_get (passed.taken n) (passed.sent n) (h.half.hands_over n) j c at in
-          went_back k q of.pools x.0 x.1 x.2 x.3 x.4 x.5 x.6 j c (ap (λ i. slice_get (passed.sent i) j) x.6.2 ∙ put)
+    pub back_is : (k : ℕ) (program : Program) (mac : Mac) (q : ClientPools) → IsClientOf net k program mac q → AreSends net.most q.tx (passed.sent (client_first net.first k + 4)) → AreSends net.most q.tx (passed.taken (client_first net.first k + 5))
+    back_is k program mac q of sends j c at =
+        let x = place_of k q of.pools in
+        let n = client_first net.first k + 5 in
+        let put = prefix_get (passed.taken n) (passed.sent n) (h.half.hands_over n) j c at in
+        went_back k q sends x.0 x.1 x.2 x.6 x.3 x.4 x.5 j c (ap (λ i. slice_get (passed.sent i) j) x.6.2 ∙ put)
 
-      pub begun_is : (k : ℕ) (program : Program) (mac : Mac) (q : ClientPools) → IsClientOf net k program mac q → IsPrefix (map frame_of (passed.sent (client_first net.first k + 4))) (sends_of program mac frames)
-      begun_is k program mac q of = client_begins k program mac q of (back_is k program mac q of)
+    module _ (wild : Wild) (clients : AreClients wild net passed) (send : CalmSend wild net passed) where
+      -- whether the client of a number is hostile, by the virtualiser's queue
+      calm_at : (k : ℕ) (s : Sender) (q r : QueueId) (p : ClientPools) → Ships net.first net.most k s q r p → wild q.0 ≡ false → wild (client_first net.first k + 4) ≡ false
+      calm_at k s q r p ships calm = ap wild (sym ships.1) ∙ calm
 
-      all_good : AllSendGood v passed (sends_at net.programs net.macs frames)
-      all_good = record {
+      from_hand : (k : ℕ) (s : Sender) (q r : QueueId) → slice_get (senders v.work) k ≡ Some s → slice_get (from_queues v.ends) k ≡ Some q → slice_get (to_queues v.ends) k ≡ Some r → wild q.0 ≡ false → SendsFromHand s (passed.sent q.0) (passed.taken r.0)
+      from_hand k s q r at fat tat calm =
+          let x = ships_at k s q r at fat tat in
+          let of = client_there k x.0 x.1 in
+          let calm_k = calm_at k s q r x.0 x.2 calm in
+          let c = clients k of.0 of.1 x.0 of.2 calm_k in
+          record {
+            good = goods k x.0 (send k x.0 x.1 calm_k) s q r x.2;
+            in_hand = λ b lt.
+                let hand = client_hand k of.0 of.1 x.0 of.2 c.0 c.1 b in
+                let long : x.0.tx.size ≡ s.size = sym (ap (λ (p : PoolAt). p.size) x.2.0) in
+                let put = ap₂ (λ z n. at_address (b * z) (passed.sent n)) (sym long) x.2.1 in
+                let back = ap₂ (λ z n. at_address (b * z) (passed.taken n)) (sym long) x.2.2 in
+                omega (arith, hand, put, back);
+          }
+
+      half_with : IsSendHalf wild h.half.device h.half.driver v passed
+      half_with = half_by wild from_hand
+
+      pub none_out : StraysWild wild v row.place row.stray
+      unfolding half_with half_by
+      none_out = none_stray wild h.half.device h.half.driver v passed half_with
+
+      pub good_taken : CalmGood wild v passed
+      good_taken = takes_good wild h.half.device h.half.driver v passed half_with
+
+      begun_is : (k : ℕ) (program : Program) (mac : Mac) (q : ClientPools) → IsClientOf net k program mac q → wild (client_first net.first k + 4) ≡ false → IsPrefix (map frame_of (passed.sent (client_first net.first k + 4))) (sends_of program mac frames)
+      begun_is k program mac q of calm =
+          let c = clients k program mac q of calm in
+          client_begins k program mac q of c.0 c.1 (back_is k program mac q of (send k q of.pools calm))
+
+      -- the frames of the good descriptors that came from a client are a beginning of what it sends
+      good_begin : (k : ℕ) (s : Sender) (q r : QueueId) (p : ClientPools) → Ships net.first net.most k s q r p → (program : Program) (mac : Mac) → IsClientOf net k program mac p → (b : Bool) → wild (client_first net.first k + 4) ≡ b
+          → IsPrefix (map frame_of (filter (is_good_of s) (passed.taken q.0))) (by_sort b (good_frames net.first net.most passed k p.tx) (sends_of program mac frames))
+      good_begin k s q r p ships program mac of true is_wild =
+          let same : map frame_of (filter (is_good_of s) (passed.taken q.0)) ≡ good_frames net.first net.most passed k p.tx = good_same s q.0 p.tx ships.0 ships.3 ∙ ap (λ n. map frame_of (filter (is_good (record { 0 = p.tx.number }) p.tx.buffers p.tx.size net.most) (passed.taken n))) ships.1 in
+          ([], append-nil (map frame_of (filter (is_good_of s) (passed.taken q.0))) ∙ same)
+        where
+          good_same : (s : Sender) (n : ℕ) (pool : PoolAt) → sender_pool s ≡ pool → s.most ≡ net.most → map frame_of (filter (is_good_of s) (passed.taken n)) ≡ map frame_of (filter (is_good (record { 0 = pool.number }) pool.buffers pool.size net.most) (passed.taken n))
+          good_same s n pool own most = ap₂ (λ (x : PoolAt) (m : ℕ). map frame_of (filter (is_good (record { 0 = x.number }) x.buffers x.size m) (passed.taken n))) own most
+      good_begin k s q r p ships program mac of false calm =
+          let taken = passed.taken q.0 in
+          let sent = passed.sent q.0 in
+          let good = goods k p (send k p of.pools calm) s q r ships in
+          let begun = begins_map frame_of (filter (is_good_of s) taken) (filter (is_good_of s) sent) (begins_filter (is_good_of s) taken sent (h.half.hands_over q.0)) in
+          let all = subst (λ x. IsPrefix (map frame_of (filter (is_good_of s) taken)) (map frame_of x)) (all_same s sent good) begun in
+          let sends = subst (λ n. IsPrefix (map frame_of (passed.sent n)) (sends_of program mac frames)) (sym ships.1) (begun_is k program mac p of calm) in
+          prefix_trans (map frame_of (filter (is_good_of s) taken)) (map frame_of sent) (sends_of program mac frames) all sends
+
+      all_begin : AllBegin v passed (sends_beside wild net frames passed)
+      all_begin = record {
         as_many =
             let a = shipped.0 in
-            let b = sends_many net.programs net.macs frames h.programs_many in
+            let b = sends_many wild net.first net.most frames passed 0 net.programs net.macs net.pools h.programs_many h.pools_many in
             let c = h.pools_many in
             omega (arith, a, b, c);
         each = λ k s q l at fat lat.
@@ -255,17 +322,16 @@ module _ (net : NetPlace) (frames : List (List ℕ)) (passed : Passed) (h : IsWh
             let below = there_below (senders v.work) k s at in
             let r = there_is (to_queues v.ends) k (omega (arith, below, to_each)) in
             let x = ships_at k s q r.0 at fat r.1 in
-            let f = sends_there net.programs net.macs frames k l lat in
-            let of : IsClientOf net k f.0 f.1 x.0 = record { address = f.3; pools = x.1; plays = f.2 } in
-            let begun = begun_is k f.0 f.1 x.0 of in
-            record {
-              good = goods k x.0 x.1 s q r.0 x.2;
-              begun = subst (IsPrefix (map frame_of (passed.sent q.0))) f.4 (subst (λ n. IsPrefix (map frame_of (passed.sent n)) (sends_of f.0 f.1 frames)) (sym x.2.1) begun);
-            };
+            let f = sends_there wild net.first net.most frames passed 0 net.programs net.macs net.pools k l lat in
+            let plus : 0 + k ≡ k = omega arith in
+            let same : f.q ≡ x.0 = some_is (sym f.pooled ∙ x.1) in
+            let of : IsClientOf net k f.program f.mac x.0 = record { address = f.address; pools = x.1; plays = f.plays } in
+            let is : by_sort (wild (client_first net.first k + 4)) (good_frames net.first net.most passed k x.0.tx) (sends_of f.program f.mac frames) ≡ l = subst (λ (p : ClientPools). by_sort (wild (client_first net.first k + 4)) (good_frames net.first net.most passed k p.tx) (sends_of f.program f.mac frames) ≡ l) same (subst (λ n. by_sort (wild (client_first net.first n + 4)) (good_frames net.first net.most passed n f.q.tx) (sends_of f.program f.mac frames) ≡ l) plus f.is) in
+            subst (IsPrefix (map frame_of (filter (is_good_of s) (passed.taken q.0)))) is (good_begin k s q r.0 x.0 x.2 f.program f.mac of (wild (client_first net.first k + 4)) refl);
       }
 
-      pub wire_is : PrefixMerge (sends_at net.programs net.macs frames) h.half.device.wire.tape.shown
-      wire_is = wire_sends h.half.device h.half.driver v passed half_with.sending (sends_at net.programs net.macs frames) all_good
+      pub wire_is : PrefixMerge (sends_beside wild net frames passed) h.half.device.wire.tape.shown
+      wire_is = wire_sends h.half.device h.half.driver v passed half_with.sending (sends_beside wild net frames passed) all_begin
 
       -- the virtualiser's clients have these pools
       pools_are : map sender_pool (senders v.work) ≡ map (λ (q : ClientPools). q.tx) net.pools
@@ -274,5 +340,13 @@ module _ (net : NetPlace) (frames : List (List ℕ)) (passed : Passed) (h : IsWh
           let same : x.0 ≡ s = some_is (sym x.3 ∙ at) in
           ap sender_pool (sym same) ∙ x.6.0)
 
-      pub wire_by : h.half.device.wire.tape.shown ≡ wire_at net frames (items_of (passed.taken (net.first + 2)))
-      wire_by = wire_told h.half.device h.half.driver v passed half_with.sending (sends_at net.programs net.macs frames) all_good ∙ ap₂ (λ ps n. told_frames ps (sends_at net.programs net.macs frames) (items_of (passed.taken n))) pools_are (device_sends net.first frames h.half.device h.device_at).0
+      pub wire_by : h.half.device.wire.tape.shown ≡ wire_beside wild net frames passed
+      wire_by = wire_told h.half.device h.half.driver v passed half_with.sending (sends_beside wild net frames passed) all_begin ∙ ap₂ (λ ps n. told_frames ps (sends_beside wild net frames passed) (items_of (passed.taken n))) pools_are (device_sends net.first frames h.half.device h.device_at).0
+
+-- where no client is hostile
+module _ (wild : Wild) (net : NetPlace) (frames : List (List ℕ)) (passed : Passed) (h : IsWholeCast net frames passed) (none : NoneHostile wild net) where
+  pub sends_calm : sends_beside wild net frames passed ≡ sends_at net.programs net.macs frames
+  sends_calm = all_calm wild net.first net.most frames passed 0 net.programs net.macs net.pools h.programs_many h.pools_many (λ k lt. let plus : k ≡ 0 + k = omega arith in subst (λ n. wild (client_first net.first n + 4) ≡ false) plus (none k lt))
+
+  pub wire_calm : wire_beside wild net frames passed ≡ wire_at net frames (items_of (passed.taken (net.first + 2)))
+  wire_calm = ap (λ l. told_frames (map (λ (q : ClientPools). q.tx) net.pools) l (items_of (passed.taken (net.first + 2)))) sends_calm

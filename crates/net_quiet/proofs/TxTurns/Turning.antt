@@ -1,5 +1,5 @@
 -- On its way round nothing comes out of turn.
-use Rattle.std.proofs.Common.{◌≡◌, ◌+◌, ◌++◌, ◌<◌, ◌≤◌, ℕ, zero, suc, true, Some, List, [], ◌∷◌, All, slice_get, refl, ap, ◌∙◌, subst, inl, inr, eq-eqb, arith}
+use Rattle.std.proofs.Common.{◌≡◌, ◌+◌, ◌++◌, ◌<◌, ◌≤◌, ℕ, zero, suc, Bool, true, false, Some, List, [], ◌∷◌, All, slice_get, refl, ap, ◌∙◌, subst, inl, inr, eq-eqb, arith}
 use Rattle.std.proofs.lemmas.List.Elements.{All-cons}
 use Rattle.std.proofs.lemmas.Option.{get_or_from_slice_get}
 use Rattle.cargo_core.specs.Lists.{IsPrefix}
@@ -20,8 +20,9 @@ use Rattle.net_virt_tx.specs.Clients.{at_address, number_of}
 use Rattle.net_virt_tx.specs.Traffics.{senders}
 use Rattle.net_virt_tx.specs.Sending.{IsOutOfTurn, TxRow, queue_at}
 use Rattle.net_virt_tx.proofs.Counting.{at_append, bit_same, good_is}
-use Rattle.net_law.specs.TxParts.Playing.{TakesGood}
-use Rattle.net_quiet.specs.TxTurns.Turning.{IsSendHalf}
+use Rattle.play_core.specs.Names.{Wild}
+use Rattle.net_law.specs.TxScene.Playing.{CalmGood}
+use Rattle.net_quiet.specs.TxTurns.Turning.{IsSendHalf, StraysWild}
 
 pub at_few : (a : ℕ) (xs ys : List Cargo) → IsPrefix xs ys → at_address a xs ≤ at_address a ys
 at_few a xs ys h =
@@ -32,14 +33,14 @@ at_few a xs ys h =
 heads : (x y : Cargo) (xs ys : List Cargo) → (x ∷ xs) ≡ (y ∷ ys) → (y ≡ x) × (xs ≡ ys)
 heads x y xs ys e = (cc, cc)
 
-front : (P : Cargo → Type 0) (xs ys : List Cargo) → IsPrefix xs ys → All P ys → All P xs
+pub front : (P : Cargo → Type 0) (xs ys : List Cargo) → IsPrefix xs ys → All P ys → All P xs
 front P [] ys h all = λ k d l. absurd (omega (arith, l))
 front P (x ∷ xs) [] h all = let no : x ∷ (xs ++ h.0) ≡ [] = h.1 in absurd cc
 front P (x ∷ xs) (y ∷ ys) h all =
     let e = heads x y (xs ++ h.0) ys h.1 in
     All-cons P x xs (subst P e.0 (all zero y (omega arith))) (front P xs ys (h.0, e.1) (λ j d m. all (suc j) d (omega (arith, m))))
 
-module _ (d : EthDevice) (p : Pipes (Pipes (Pipes Pipe))) (v : NetVirtTx) (passed : Passed) (h : IsSendHalf d p v passed) where
+module _ (wild : Wild) (d : EthDevice) (p : Pipes (Pipes (Pipes Pipe))) (v : NetVirtTx) (passed : Passed) (h : IsSendHalf wild d p v passed) where
   abbrev row : TxRow v passed
   row = h.sending.virtualiser
 
@@ -65,14 +66,14 @@ module _ (d : EthDevice) (p : Pipes (Pipes (Pipes Pipe))) (v : NetVirtTx) (passe
       let six = prefix_trans (passed.taken input) (passed.sent o) (passed.taken i) five s.driver.1.1.0 in
       prefix_trans (passed.taken input) (passed.taken i) (passed.sent output) six (subst (λ n. IsPrefix (passed.taken i) (passed.sent n)) s.to_driver (s.hands_over i))
 
-  pub takes_good : TakesGood v passed
-  takes_good k s q at atq =
+  pub takes_good : CalmGood wild v passed
+  takes_good k s q at atq calm =
       let to_each = row.to_each in
       let there = there_below (senders v.work) k s at in
       let r = there_is (to_queues v.ends) k (omega (arith, to_each, there)) in
-      front (λ (c : Cargo). is_good_of s c ≡ true) (passed.taken q.0) (passed.sent q.0) (h.sending.hands_over q.0) (h.clients k s q r.0 at atq r.1).good
+      front (λ (c : Cargo). is_good_of s c ≡ true) (passed.taken q.0) (passed.sent q.0) (h.sending.hands_over q.0) (h.clients k s q r.0 at atq r.1 calm).good
 
-  -- no entry is out of turn
+  -- no entry is out of turn but at a queue with a hostile end
   module _ (x : Cargo) (xs : List Cargo) (is : row.stray ≡ x ∷ xs) where
     -- it came at its queue beside what came in turn
     more : (n : ℕ) → row.place ≡ n → at_address (addr_of x.0) (row.turn n) + 1 ≤ at_address (addr_of x.0) (passed.taken n)
@@ -89,17 +90,24 @@ module _ (d : EthDevice) (p : Pipes (Pipes (Pipes Pipe))) (v : NetVirtTx) (passe
         let b = at_few (addr_of x.0) (passed.taken input) (passed.sent output) comes_back in
         omega (arith, a, b)
 
-    client_in_turn : (k : ℕ) (s : Sender) → slice_get (senders v.work) k ≡ Some s → row.place ≡ queue_at (from_queues v.ends) k → is_good_of s x ≡ true → at_address (addr_of x.0) (row.turn row.place) ≤ at_address (addr_of x.0) (passed.sent (queue_at (to_queues v.ends) k))
-    client_in_turn k s at e good =
+    -- the queue of a client
+    client_queue : (k : ℕ) (s : Sender) → slice_get (senders v.work) k ≡ Some s → (q : QueueId) × (slice_get (from_queues v.ends) k ≡ Some q) × (queue_at (from_queues v.ends) k ≡ q.0)
+    client_queue k s at =
         let from_each = row.from_each in
-        let to_each = row.to_each in
         let there = there_below (senders v.work) k s at in
         let q = there_is (from_queues v.ends) k (omega (arith, from_each, there)) in
+        (q.0, q.1, ap (λ (y : QueueId). y.0) (get_or_from_slice_get (from_queues v.ends) k q.0 (record { 0 = 0 }) q.1))
+
+    client_in_turn : (k : ℕ) (s : Sender) (at : slice_get (senders v.work) k ≡ Some s) → wild (client_queue k s at).0.0 ≡ false → row.place ≡ queue_at (from_queues v.ends) k → is_good_of s x ≡ true → at_address (addr_of x.0) (row.turn row.place) ≤ at_address (addr_of x.0) (passed.sent (queue_at (to_queues v.ends) k))
+    client_in_turn k s at calm e good =
+        let to_each = row.to_each in
+        let there = there_below (senders v.work) k s at in
+        let q = client_queue k s at in
         let r = there_is (to_queues v.ends) k (omega (arith, to_each, there)) in
-        let qn : queue_at (from_queues v.ends) k ≡ q.0.0 = ap (λ (y : QueueId). y.0) (get_or_from_slice_get (from_queues v.ends) k q.0 (record { 0 = 0 }) q.1) in
+        let qn : queue_at (from_queues v.ends) k ≡ q.0.0 = q.2 in
         let rn : queue_at (to_queues v.ends) k ≡ r.0.0 = ap (λ (y : QueueId). y.0) (get_or_from_slice_get (to_queues v.ends) k r.0 (record { 0 = 0 }) r.1) in
         let g = good_is s x good in
-        let hand = (h.clients k s q.0 r.0 at q.1 r.1).in_hand (number_of x.1) g.0 in
+        let hand = (h.clients k s q.0 r.0 at q.1 r.1 calm).in_hand (number_of x.1) g.0 in
         let put = ap (λ a. at_address a (passed.sent q.0.0)) g.1 in
         let back = ap (λ a. at_address a (passed.taken r.0.0)) g.1 in
         let came = more q.0.0 (e ∙ qn) in
@@ -109,13 +117,17 @@ module _ (d : EthDevice) (p : Pipes (Pipes (Pipes Pipe))) (v : NetVirtTx) (passe
         let second = at_few (addr_of x.0) (passed.taken r.0.0) (passed.sent r.0.0) (h.sending.hands_over r.0.0) in
         omega (arith, hand, put, back, came, here, goes, first, second)
 
-    none_such : IsOutOfTurn input output (from_queues v.ends) (to_queues v.ends) (senders v.work) row.turn passed.sent row.place x → ⊥
-    none_such (inl (e, out)) = out (back_in_turn e)
-    none_such (inr (k, s, at, e, out)) = out (λ good. client_in_turn k s at e good)
+    wild_such : IsOutOfTurn input output (from_queues v.ends) (to_queues v.ends) (senders v.work) row.turn passed.sent row.place x → StraysWild wild v row.place row.stray
+    wild_such (inl (e, out)) = absurd (out (back_in_turn e))
+    wild_such (inr (k, s, at, e, out)) = by (wild (client_queue k s at).0.0) refl
+      where
+        by : (b : Bool) → wild (client_queue k s at).0.0 ≡ b → StraysWild wild v row.place row.stray
+        by true is_wild = let q = client_queue k s at in inr (k, q.0, q.1, e ∙ q.2, is_wild)
+        by false calm = absurd (out (λ good. client_in_turn k s at calm e good))
 
-  pub none_stray : row.stray ≡ []
+  pub none_stray : StraysWild wild v row.place row.stray
   none_stray = by_stray row.stray refl row.out_of_turn
     where
-      by_stray : (l : List Cargo) → row.stray ≡ l → All (IsOutOfTurn input output (from_queues v.ends) (to_queues v.ends) (senders v.work) row.turn passed.sent row.place) row.stray → row.stray ≡ []
-      by_stray [] is all = is
-      by_stray (x ∷ xs) is all = absurd (none_such x xs is (subst (λ l. All (IsOutOfTurn input output (from_queues v.ends) (to_queues v.ends) (senders v.work) row.turn passed.sent row.place) l) is all zero x (omega arith)))
+      by_stray : (l : List Cargo) → row.stray ≡ l → All (IsOutOfTurn input output (from_queues v.ends) (to_queues v.ends) (senders v.work) row.turn passed.sent row.place) row.stray → StraysWild wild v row.place row.stray
+      by_stray [] is all = inl is
+      by_stray (x ∷ xs) is all = wild_such x xs is (subst (λ l. All (IsOutOfTurn input output (from_queues v.ends) (to_queues v.ends) (senders v.work) row.turn passed.sent row.place) l) is all zero x (omega arith))

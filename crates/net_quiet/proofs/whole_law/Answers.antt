@@ -5,4 +5,4 @@ pub returns-clause-records : goal.returns-clause-records
 returns-clause-records c = λ hostile history rows actors journal scene net passed still w items whole. cast_record hostile history rows actors journal scene net still w passed items whole
 
 pub returns-clause-wire : goal.returns-clause-wire
-returns-clause-wire c = λ hostile history rows actors journal scene net passed still w items whole. cast_wire hostile history rows actors journal scene net still w passed items whole
+returns-clause-wire c = λ wild hostile history rows actors journal scene net passed still w items whole. cast_wire hostile history rows actors journal scene net still w passed items whole wild

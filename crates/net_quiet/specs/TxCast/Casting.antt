@@ -1,11 +1,16 @@
 -- The whole network in a system: the receive half with the sending virtualiser and the clients, at
 -- the layout's queues, and what clients may put to be sent.
-use Rattle.std.specs.Prelude.{◌≡◌, ◌+◌, ◌≤◌, ℕ, true, Some, List, [], ◌∷◌, length, map, slice_get}
+use Rattle.std.specs.Prelude.{◌≡◌, ◌+◌, ◌<◌, ◌≤◌, ℕ, true, false, Some, List, [], ◌∷◌, length}
+use Rattle.std.specs.Prelude.{map, slice_get}
+use Rattle.std.specs.List.{filter}
 use Rattle.cargo_core.specs.declared.item.Item.{Item}
 use Rattle.frame_core.specs.declared.mac.Mac.{Mac}
 use Rattle.wire_core.specs.Deeds.{Cargo}
 use Rattle.wire_core.specs.Lists.{Passed}
+use Rattle.wire_core.specs.Queues.{items_of}
+use Rattle.play_core.specs.Names.{Wild, by_sort}
 use Rattle.net_expect.specs.Expecting.{Program, Source, sends_of}
+use Rattle.buffer_kit.specs.Entries.{frame_of}
 use Rattle.client_programs.specs.Net.Clients.{ClientRow}
 use Rattle.client_programs.specs.declared.net.NetClient.{NetClient}
 use Rattle.net_virt_tx.specs.Descriptors.{is_good}
@@ -73,9 +78,9 @@ pub record IsSendingClient (net : NetPlace) (k : ℕ) (program : Program) (mac :
   pub some : 1 ≤ c.stock.buffers
   pub row : ClientRow c passed
 
--- the receive half's actors, the sending virtualiser and the clients stand at their queues; an
--- address has six bytes; each frame, received or of a script, has 14 bytes to the most; and no frame
--- is longer than a buffer of any pool
+-- the receive half's actors and the sending virtualiser stand at their queues; an address has six
+-- bytes; each frame, received or of a script, has 14 bytes to the most; and no frame is longer than
+-- a buffer of any pool
 pub record IsWholeCast (net : NetPlace) (frames : List (List ℕ)) (passed : Passed) : Type 0 where
   pub pools_many : length net.pools ≡ length net.macs
   pub programs_many : length net.programs ≡ length net.macs
@@ -83,9 +88,6 @@ pub record IsWholeCast (net : NetPlace) (frames : List (List ℕ)) (passed : Pas
   pub device_at : device_part half.device ≡ device_at net.first frames
   pub sender : NetVirtTx
   pub sender_at : IsSenderAt net sender passed
-  pub clients : (k : ℕ) (program : Program) (mac : Mac) (q : ClientPools)
-      → IsClientOf net k program mac q
-      → (c : NetClient) × IsSendingClient net k program mac q c passed
   pub addresses : (k : ℕ) (mac : Mac) → slice_get net.macs k ≡ Some mac → length mac.0 ≡ 6
   pub received : AreFrames net.most frames
   pub scripts : (k : ℕ) (script : List (List ℕ)) → slice_get net.programs k ≡ Some (Source script)
@@ -94,7 +96,49 @@ pub record IsWholeCast (net : NetPlace) (frames : List (List ℕ)) (passed : Pas
   pub fits_client : (k : ℕ) (q : ClientPools) → slice_get net.pools k ≡ Some q
       → (net.most ≤ q.rx.size) × (net.most ≤ q.tx.size)
 
--- each client put entries alone that send frames in buffers of its pool for sending
-abbrev pub AllSend : NetPlace → Passed → Type 0
-AllSend net passed = (k : ℕ) (q : ClientPools) → slice_get net.pools k ≡ Some q
+-- each client is there, where no hostile actor has an end of its queue
+abbrev pub AreClients : Wild → NetPlace → Passed → Type 0
+AreClients wild net passed = (k : ℕ) (program : Program) (mac : Mac) (q : ClientPools)
+    → IsClientOf net k program mac q → wild (client_first net.first k + 4) ≡ false
+    → (c : NetClient) × IsSendingClient net k program mac q c passed
+
+-- each client put entries alone that send frames in buffers of its pool for sending, where no
+-- hostile actor has an end of the queue
+abbrev pub CalmSend : Wild → NetPlace → Passed → Type 0
+CalmSend wild net passed = (k : ℕ) (q : ClientPools) → slice_get net.pools k ≡ Some q
+    → wild (client_first net.first k + 4) ≡ false
     → AreSends net.most q.tx (passed.sent (client_first net.first k + 4))
+
+-- no hostile actor has an end of a client's queue for sending
+abbrev pub NoneHostile : Wild → NetPlace → Type 0
+NoneHostile wild net = (k : ℕ) → k < length net.pools
+    → wild (client_first net.first k + 4) ≡ false
+
+-- the frames of the good descriptors that the virtualiser took from the client of a number
+abbrev pub good_frames : (first most : ℕ) → Passed → (k : ℕ) → PoolAt → List (List ℕ)
+good_frames first most passed k pool =
+    map frame_of (filter (is_good (record { 0 = pool.number }) pool.buffers pool.size most)
+    (passed.taken (client_first first k + 4)))
+
+-- what clients send, from a number on: each by its program, but a hostile one the frames of its
+-- good descriptors
+abbrev pub sends_from : Wild → (first most : ℕ) → (frames : List (List ℕ)) → Passed → (k : ℕ)
+    → List Program → List Mac → List ClientPools → List (List (List ℕ))
+sends_from wild first most frames passed k [] macs pools = []
+sends_from wild first most frames passed k (program ∷ programs) [] pools = []
+sends_from wild first most frames passed k (program ∷ programs) (mac ∷ macs) [] = []
+sends_from wild first most frames passed k (program ∷ programs) (mac ∷ macs) (q ∷ pools) =
+    by_sort (wild (client_first first k + 4)) (good_frames first most passed k q.tx)
+    (sends_of program mac frames)
+    ∷ sends_from wild first most frames passed (k + 1) programs macs pools
+
+-- so do all clients
+abbrev pub sends_beside : Wild → NetPlace → (frames : List (List ℕ)) → Passed
+    → List (List (List ℕ))
+sends_beside wild net frames passed =
+    sends_from wild net.first net.most frames passed 0 net.programs net.macs net.pools
+
+-- the frames on the wire by the items that the device took, where clients may be hostile
+abbrev pub wire_beside : Wild → NetPlace → (frames : List (List ℕ)) → Passed → List (List ℕ)
+wire_beside wild net frames passed = told_frames (map (λ (q : ClientPools). q.tx) net.pools)
+    (sends_beside wild net frames passed) (items_of (passed.taken (net.first + 2)))

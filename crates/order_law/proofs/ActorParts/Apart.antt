@@ -1,9 +1,10 @@
 -- Actors that were set apart over new rings stand there as they should.
-use Rattle.std.proofs.Common.{◌≡◌, ℕ, suc, Bool, true, ◌∷◌, nat_lt, Option, Some, List, [], length, map, slice_get, refl, sym, ap, ◌∙◌, subst, arith, ◌+◌}
+use Rattle.std.proofs.Common.{◌≡◌, ℕ, suc, Bool, true, false, ◌∷◌, nat_lt, Option, Some, List, [], length, map, slice_get, refl, sym, ap, ◌∙◌, subst, arith, ◌+◌}
 use Rattle.std.specs.List.{zip}
 use Rattle.std.proofs.lemmas.Bool.{lt-ltb}
 use Rattle.std.proofs.lemmas.Option.{get_or_from_slice_get}
 use Rattle.play_core.proofs.Lists.{map_get, map_from, there_below}
+use Rattle.cargo_core.specs.declared.item.QueueKind.{QueueKind}
 use Rattle.wire_core.specs.declared.names.QueueId.{QueueId}
 use Rattle.wire_core.specs.declared.names.QueueRow.{QueueRow}
 use Rattle.wire_core.specs.Ends.{Role, Consumer, Producer, End}
@@ -22,7 +23,7 @@ use Rattle.actor_set.proofs.LawsLemmas.PartEnds.{PartEnd, to_part, from_part}
 use Rattle.actor_set.specs.Adopting.Looks.{SameButLook}
 use Rattle.actor_set.proofs.AdoptingLemmas.Looks.{fits_anew}
 use Rattle.order_law.specs.ActorParts.Parting.{Apart, ends_at, end_in, apart_end, apart_passed, StandsApart, HasItsEnds, AreApart}
-use Rattle.order_law.specs.ActorParts.Opening.{opened_from, IsForgotten}
+use Rattle.order_law.specs.ActorParts.Opening.{opened_from, first_half, IsForgotten}
 use Rattle.order_law.specs.ActorParts.Given.{Kept, apart_of}
 use Rattle.order_law.specs.ActorParts.Opened.{AreOpened, HaveNothing, AreAsOpened}
 use Rattle.order_law.specs.ActorParts.Ready.{AreReady}
@@ -126,10 +127,15 @@ module _ (rows : List QueueRow) (actors : List Actor) (rings : List RingIs) (par
         empty Consumer row ring = refl
         empty Producer row ring = refl
 
+    first_sort : (r : Role) (kind : QueueKind) → (first_half r kind).wild ≡ false
+    first_sort Consumer kind = refl
+    first_sort Producer kind = refl
+
     stands_there : StandsApart rings a
     stands_there = record {
       once = λ r i j x y h g same. opened_once r k 0 pairs i j x y (ap (λ (l : List (QueueId × EndIs)). slice_get l i) (sym (ends_are r)) ∙ h) (ap (λ (l : List (QueueId × EndIs)). slice_get l j) (sym (ends_are r)) ∙ g) same;
       on = λ r i x h. let c = from r i x h in let z = zip_there rows rings x.0.0 c.pair (number r i x h) in (c.pair.1, z.1, ap (λ (e : EndIs). e.ring) c.is);
+      plain = λ r i x h. let c = from r i x h in ap (λ (e : EndIs). e.knows.wild) c.is ∙ first_sort r c.pair.0.kind;
       fits = fits_anew (end_at (starts rows)) (apart_end a) was.0 p.0.actor was.2.forgot
           (λ r n e. let o = owned r n e in let x = end_there r n o.0 o.1 o.2 in subst (λ (y : Option EndIs). SameButLook (end_at (starts rows) r n) (end_known y)) (sym x.1) (fresh_end rows n o.0 x.0 r o.1))
           (was.2.fits (end_at (starts rows)) (ready.fits k was.0 was.1));

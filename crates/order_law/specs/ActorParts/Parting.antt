@@ -1,6 +1,6 @@
 -- An actor apart with its ends: what it knows of them and what passed there, and what it must meet.
 use Rattle.std.specs.Prelude.{◌≡◌, ◌==◌, if◌then◌else◌, ℕ, Option, Some, None, List, [], ◌∷◌}
-use Rattle.std.specs.Prelude.{slice_get}
+use Rattle.std.specs.Prelude.{slice_get, false}
 use Rattle.std.specs.List.{AllZip}
 use Rattle.cargo_core.specs.declared.memory.Memory.{Memory}
 use Rattle.wire_core.specs.declared.names.Event.{Event}
@@ -45,13 +45,15 @@ apart_passed p calls = record {
 }
 
 -- no two of an actor's ends on one side are of one queue, and each is of the ring at its queue's
--- place; the actor fits them and stands for what passed there by some calls, and no step of it
--- wanted memory
+-- place and knows that the ring isn't wild; the actor fits them and stands for what passed there by
+-- some calls, and no step of it wanted memory
 pub record StandsApart (rings : List RingIs) (p : Apart) : Type 0 where
   pub once : (r : Role) (i j : ℕ) (x y : QueueId × EndIs) → slice_get (ends_at p r) i ≡ Some x
       → slice_get (ends_at p r) j ≡ Some y → x.0.0 ≡ y.0.0 → i ≡ j
   pub on : (r : Role) (i : ℕ) (x : QueueId × EndIs) → slice_get (ends_at p r) i ≡ Some x
       → (ring : RingIs) × (slice_get rings x.0.0 ≡ Some ring) × (x.1.ring ≡ ring.id)
+  pub plain : (r : Role) (i : ℕ) (x : QueueId × EndIs) → slice_get (ends_at p r) i ≡ Some x
+      → x.1.knows.wild ≡ false
   pub fits : FitsActor (apart_end p) p.actor
   pub stands : (calls : List Event) × ActorStandsFor p.actor (apart_passed p calls)
   pub fine : p.wanted ≡ None
@@ -63,9 +65,9 @@ pub record HasItsEnds (rows : List QueueRow) (k : ℕ) (p : Apart) : Type 0 wher
   pub all : (r : Role) (n : ℕ) (row : QueueRow) → slice_get rows n ≡ Some row → owner_of row r ≡ k
       → (e : EndIs) × (end_in (ends_at p r) n ≡ Some e)
 
--- a ring as a row says
+-- a ring as a row says, which isn't wild
 abbrev pub IsRingOf : QueueRow → RingIs → Type 0
-IsRingOf row ring = (ring.kind ≡ row.kind) × (ring.id.slots ≡ row.capacity)
+IsRingOf row ring = (ring.kind ≡ row.kind) × (ring.id.slots ≡ row.capacity) × (ring.wild ≡ false)
 
 -- one ring for each row, and the actors apart, each with the ends that the rows give it
 pub record AreApart (rows : List QueueRow) (rings : List RingIs) (parts : List Apart) : Type 0 where

@@ -13,7 +13,7 @@ use Rattle.sdf_plan.specs.declared.plan.NetClient.{NetClient}
 use Rattle.sdf_plan.specs.declared.plan.Blk.{Blk}
 use Rattle.sdf_plan.specs.declared.plan.BlkClient.{BlkClient}
 use Rattle.class_table.specs.declared.uses.Grant.{Grant}
-use Rattle.class_table.specs.Rows.{reads as granted_to_read, net_buffer, blk_buffer}
+use Rattle.class_table.specs.Rows.{reads as granted_to_read, blk_buffer}
 use Rattle.sdf_check.specs.Names.{region_names, region_named}
 use Rattle.sdf_check.specs.ClassRules.{IsGranted, HasStranger}
 use Rattle.sdf_check.specs.Valid.{Valid}
@@ -144,15 +144,15 @@ module _ (plan : Plan) (valid : Valid plan) where
           let named = net_client_named plan net c x valid is there in
           let rx = not-missed plan x.rx_region (λ none. named (inr (0, none))) in
           let tx = not-missed plan x.tx_region (λ none. named (inr (1, none))) in (
-            reached plan x.rx_region (client_name (codes "net.") c (codes ".rx")) x.rx_buffers net_buffer rx.0 (x.pd ∷ []) (x.copier ∷ []) [] rx.1 received,
-            (reached plan x.tx_region (client_name (codes "net.") c (codes ".tx")) x.tx_buffers net_buffer tx.0 [] (x.pd ∷ []) (net.tx_virt ∷ net.driver ∷ []) tx.1 to_send, tt),
+            reached plan x.rx_region (client_name (codes "net.") c (codes ".rx")) x.rx_buffers x.rx_buffer_size rx.0 (x.pd ∷ []) (x.copier ∷ []) [] rx.1 received,
+            (reached plan x.tx_region (client_name (codes "net.") c (codes ".tx")) x.tx_buffers x.tx_buffer_size tx.0 [] (x.pd ∷ []) (net.tx_virt ∷ net.driver ∷ []) tx.1 to_send, tt),
           )
 
     net_reached : AllZip (IsReached plan) (net_pools plan net) (net_users net)
     unfolding net_pools
     net_reached =
         let rx = not-missed plan net.rx_region (λ none. (net_named plan net valid is) (inr (0, none))) in (
-          reached plan net.rx_region (codes "net.rx") net.rx_buffers net_buffer rx.0 (net.rx_virt ∷ copiers) [] (net.driver ∷ []) rx.1 device_shared,
+          reached plan net.rx_region (codes "net.rx") net.rx_buffers net.rx_buffer_size rx.0 (net.rx_virt ∷ copiers) [] (net.driver ∷ []) rx.1 device_shared,
           zip-clients (IsReached plan) (net_client_pools plan) (net_client_users net) 0 net.client (λ k (x : NetClient) there.
               subst (λ n. AllZip (IsReached plan) (net_client_pools plan n x) (net_client_users net n x)) (let e : k ≡ 0 + k = omega arith in e) (client_reached k x there)),
         )

@@ -120,7 +120,7 @@ module _ (s : Setting) (rings : List RingIs) (parts : List Apart) (come : HaveCo
 
     pub one_spent : (limit : ℕ) (old : Apart) → HasSpent rings limit old p → OneSpent t.setting limit
     one_spent limit old spent =
-        let steps = spent.2.comes.went.steps in
+        let steps = spent.2.comes.went.least in
         let all = all_steps spent.2.after spent.2.ended in
         let le = spent.1 in
         (k, subst (λ (m : ℕ). k < m) (sym (length-map parts (λ (x : Apart). part_of x.actor)) ∙ (ap length is.cast ∙ sym (ap length cast_is))) (there_below parts k p here), omega (arith, steps, all, le))

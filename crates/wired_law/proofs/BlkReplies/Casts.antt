@@ -22,7 +22,7 @@ use Rattle.blk_virt.proofs.Rows.{row_of as server_row}
 use Rattle.blk_law.specs.Sheets.Parts.{BlkClient as ClientPart}
 use Rattle.blk_law.specs.Sheets.Numbers.{BlkPlace, IsBlkClientOf, disk_at, blk_driver_at, virt_at, blk_client_at}
 use Rattle.blk_law.specs.Sheets.Playing.{disk_part, blk_driver_part, virt_part, blk_client_part}
-use Rattle.blk_quiet.specs.Cast.Casting.{AllAsk, IsAskingClient, IsBlkCast}
+use Rattle.blk_quiet.specs.Cast.Casting.{IsAskingClient, IsBlkCast}
 use Rattle.blk_quiet.proofs.CastLemmas.Numbers.{client_queues}
 use Rattle.actor_set.specs.Parts.{Part, BlockPart}
 use Rattle.actor_set.specs.Actors.{FitsActor, ActorStandsFor, part_of}
@@ -32,9 +32,9 @@ use Rattle.actor_set.specs.declared.actor.Actor.TheVariants as Kinds
 use Rattle.actor_set.specs.Laws.Records.{replies_got}
 use Rattle.actor_set.proofs.LawsLemmas.BlkRows.{disk_row_of}
 use Rattle.play_core.specs.Sheets.{Scene}
-use Rattle.wired_law.specs.Wiring.{IsOfBlock, HasBlkIn, HasPart, ClientsAsk, ClientsSendIn, AreAtWork}
+use Rattle.wired_law.specs.Wiring.{IsOfBlock, HasBlkIn, HasPart, ClientsSendIn, AreAtWork}
 use Rattle.wired_law.proofs.Acting.{disk_actor, blk_driver_actor, virt_actor, blk_client_actor}
-use Rattle.wired_law.proofs.Blocks.{requests_own}
+use Rattle.wired_law.proofs.Blocks.{calm_block, requests_own}
 use Rattle.wired_law.proofs.BlkReplies.Clients.{client_recorded}
 
 -- a client of the class is one of its place
@@ -70,12 +70,6 @@ module _ (scene : Scene) (ends : Role → ℕ → End) (rows : List QueueRow) (a
       let fits : FitsActor ends (Kinds.BlkVirt v.0) = subst (FitsActor ends) v.1 x.2 in
       (v.0, v.2, fits.0, server_row v.0 passed (subst (λ a. ActorStandsFor a passed) v.1 x.3))
 
-  client_there : (k entry : ℕ) (asks : List Ask) (pool : PoolAt) → IsBlkClientOf place k entry asks pool → (c : BlkClient) × IsAskingClient place k asks pool c passed
-  client_there k entry asks pool of =
-      let x = actor_of (BlockPart (blk_client_at place.first k asks pool)) (has.client k entry asks pool of) in
-      let c = blk_client_actor place.first k asks pool x.0 x.1 in
-      (c.0, record { part = c.2; row = asker_row c.0 passed (subst (λ a. ActorStandsFor a passed) c.1 x.3) })
-
   start_is : (d : Disk) → disk_part d.start.value d.device ≡ disk_at place → d.start.value ≡ place.image
   start_is d part = cc
 
@@ -97,7 +91,6 @@ module _ (scene : Scene) (ends : Role → ℕ → End) (rows : List QueueRow) (a
     from_each = fits.from_each;
     to_each = fits.to_each;
     apart = fits.work.desk.apart;
-    clients = client_there;
     blocks = has.blocks;
     some_blocks = has.some_blocks;
     image_long = has.image_long;
@@ -107,18 +100,6 @@ module _ (scene : Scene) (ends : Role → ℕ → End) (rows : List QueueRow) (a
   -- the class at the layout's queues
   class : IsBlkCast place passed
   class = let d = disk_there in let v = virt_there in class_with d.0 d.1 d.2 v.0 v.1 v.2 v.3
-
-  -- what the clients put, by their numbers
-  all_ask : ClientsAsk cast passed → AllAsk place passed
-  all_ask ask k pool at =
-      let below = there_below place.pools k pool at in
-      let pools_many = has.pools_many in
-      let asks_many = has.asks_many in
-      let entry = there_is place.entries k (omega (arith, below, pools_many)) in
-      let asks = there_is place.asks k (omega (arith, below, pools_many, asks_many)) in
-      let of : IsBlkClientOf place k entry.0 asks.0 pool = record { has_entry = entry.1; has_asks = asks.1; has_pool = at } in
-      let there = has.client k entry.0 asks.0 pool of in
-      requests_own pool (passed.sent (place.first + 4 + 2 * k)) (ask there.0 (place.first + 4 + 2 * k) (place.first + 5 + 2 * k) asks.0 (own_pool pool) there.1)
 
   -- a client's number and what it is told
   client_of : (k : ℕ) (c : BlkClient) → slice_get actors k ≡ Some (Kinds.BlkClient c) → (j entry : ℕ) × (asks : List Ask) × (pool : PoolAt) × IsBlkClientOf place j entry asks pool × (blk_client_part c ≡ blk_client_at place.first j asks pool)
@@ -139,7 +120,9 @@ replied {scene} ends rows actors passed place has work sends k c x asks pool ent
     let entry_is : is.1 ≡ entry = some_is (sym is.4.has_entry ∙ (ap (slice_get place.entries) number ∙ entry_at)) in
     let asks_is : is.2 ≡ asks = sym two.2 ∙ one.2 in
     let shown = d.0.asking.kept.shown in
-    let ask = all_ask scene ends rows actors passed place has work sends.requests in
+    let there : slice_get (map part_of actors) k ≡ Some (BlockPart (blk_client_at place.first is.0 is.2 is.3)) = map_get part_of actors k (Kinds.BlkClient d.0) here ∙ ap (λ p. Some (BlockPart p)) is.5 in
+    let put = sends.requests k (place.first + 4 + 2 * is.0) (place.first + 5 + 2 * is.0) is.2 (own_pool is.3) (calm_block (map part_of actors) k (blk_client_at place.first is.0 is.2 is.3) there) there in
+    let ask = requests_own is.3 (passed.sent (place.first + 4 + 2 * is.0)) put in
     let recorded : IsPrefix shown (replies_of place.image is.1 is.2) = client_recorded place passed (class scene ends rows actors passed place has work) is.0 is.1 is.2 is.3 is.4 ask has.apart (has.sized is.0 is.2 is.4.has_asks) d.0 client in
     let of_asks : IsPrefix shown (replies_of place.image is.1 asks) = subst (λ l. IsPrefix shown (replies_of place.image is.1 l)) asks_is recorded in
     let of_entry : IsPrefix shown (replies_of place.image entry asks) = subst (λ n. IsPrefix shown (replies_of place.image n asks)) entry_is of_asks in

@@ -24,9 +24,9 @@ use Rattle.blk_virt.specs.declared.requests.Holder.{Holder}
 use Rattle.blk_law.specs.Replying.{AreSized, HaveRoom}
 use Rattle.blk_law.proofs.RecordsLemmas.Whole.{records_now}
 use Rattle.blk_law.specs.Sheets.Numbers.{BlkPlace, IsBlkClientOf}
-use Rattle.blk_quiet.specs.Cast.Casting.{AllAsk, IsAskingClient, IsBlkCast, IsWhole}
+use Rattle.blk_quiet.specs.Cast.Casting.{AreRequests, IsAskingClient, IsBlkCast, IsWhole}
 use Rattle.blk_quiet.proofs.CastLemmas.Numbers.{client_queues, virt_queues}
-use Rattle.blk_quiet.proofs.CastLemmas.Turning.{drop_get, good_is, served, shared, shares_at}
+use Rattle.blk_quiet.proofs.CastLemmas.Turning.{drop_get, good_from, served, shared, shares_at}
 use Rattle.blk_quiet.proofs.CastLemmas.Clients.{back_own}
 use Rattle.wired_law.proofs.BlkReplies.Inside.{partition_fits}
 use Rattle.wired_law.proofs.BlkReplies.Disks.{all_from, behind, leaves}
@@ -92,7 +92,7 @@ module _ (place : BlkPlace) (passed : Passed) (h : IsBlkCast place passed) where
           },
         )
 
-    module _ (ask : AllAsk place passed) (apart : (j n e : ℕ) → slice_get place.entries j ≡ Some e → slice_get place.entries n ≡ Some e → j ≡ n) (sized : AreSized asks) (c : BlkClient) (is : IsAskingClient place k asks pool c passed) where
+    module _ (ask : AreRequests pool (passed.sent (place.first + 4 + 2 * k))) (apart : (j n e : ℕ) → slice_get place.entries j ≡ Some e → slice_get place.entries n ≡ Some e → j ≡ n) (sized : AreSized asks) (c : BlkClient) (is : IsAskingClient place k asks pool c passed) where
       own : (req_queue c ≡ place.first + 4 + 2 * k) × (resp_queue c ≡ place.first + 5 + 2 * k) × (c.asking.script.items ≡ asks)
       own = client_queues place.first k asks pool c is.part
 
@@ -114,7 +114,7 @@ module _ (place : BlkPlace) (passed : Passed) (h : IsBlkCast place passed) where
           let taken : IsPrefix (passed.taken q.0) (passed.sent (req_queue c)) = subst (λ n. IsPrefix (passed.taken q.0) (passed.sent n)) from (h.hands_over q.0) in
           let to : resp_queue c ≡ r.0 = own.1 ∙ sym d.resp_is in
           let came : IsPrefix is.row.came (passed.sent r.0) = prefix_trans is.row.came (passed.taken (resp_queue c)) (passed.sent r.0) took (subst (λ n. IsPrefix (passed.taken (resp_queue c)) (passed.sent n)) to (h.hands_over (resp_queue c))) in
-          let good = all_from (λ (x : Cargo). is_bad g x ≡ false) (passed.taken q.0) (good_is place passed h ask k g q d.at d.from_at) in
+          let good = all_from (λ (x : Cargo). is_bad g x ≡ false) (passed.taken q.0) (good_from place passed h k g q d.at d.from_at (λ p there. subst (λ l. AreRequests l (passed.sent (place.first + 4 + 2 * k))) (some_is (sym of.has_pool ∙ there)) ask)) in
           let are = all_from (λ (x : Cargo). kind_of x.0 ≡ Kind.Req) (drop 1 S) kinds in
           records_now place.image entry asks g (partition_fits place.image entry) sized pages (passed.sent (req_queue c)) (passed.taken q.0) (drop 1 S) B (passed.sent r.0) is.row.came
           room put taken good are (leaves place passed h apart k entry g d.at of.has_entry) d.serves (behind place passed h) came

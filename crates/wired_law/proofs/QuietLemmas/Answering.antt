@@ -33,6 +33,7 @@ use Rattle.actor_set.specs.Laws.Kinds.{sheet, hostiles}
 use Rattle.actor_set.specs.Laws.Records.{replies_got, replies_by}
 use Rattle.actor_set.proofs.LawsLemmas.Calm.{calm_actor}
 use Rattle.actor_set.proofs.LawsLemmas.Rows.{replies_here}
+use Rattle.actor_set.proofs.LawsLemmas.Told.{none_wild}
 use Rattle.wired_law.specs.Wiring.{HasBlkIn, HasPart, IsWiredIn, ClientsSendIn, AreAtWork}
 use Rattle.wired_law.proofs.Wiring.{in_turn}
 use Rattle.wired_law.proofs.BlkReplies.Casts.{replied}
@@ -68,7 +69,7 @@ module _ (scene : Scene) (rows : List QueueRow) (cast : List Part) (m : Moved) (
     disk = plays (BlockPart (disk_at place)) has.disk;
     driver = plays (BlockPart (blk_driver_at place.first)) has.driver;
     virt = plays (BlockPart (virt_at place)) has.virt;
-    client = λ k entry asks pool of. plays (BlockPart (blk_client_at place.first k asks pool)) (has.client k entry asks pool of);
+    client = λ k entry asks pool of. plays (BlockPart (blk_client_at place.first k asks pool)) (has.client k entry asks pool of (none_wild cast rows (place.first + 4 + 2 * k)));
   }
 
 pub block_there : {scene : Scene} (rows : List QueueRow) (cast : List Part) (m : Moved) (place : BlkPlace) → HasBlkIn scene rows place cast → HasClientPools place → HasBlkRooms (hostiles cast) rows place → RowsHold (sheet scene) (hostiles cast) cast m → IsBlock (hostiles cast) scene rows (needful (sheet scene) cast m) place m

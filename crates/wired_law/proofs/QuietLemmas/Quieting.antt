@@ -28,6 +28,7 @@ use Rattle.actor_set.specs.Laws.Kinds.{sheet, hostiles}
 use Rattle.actor_set.specs.Laws.Records.{frames_got, frames_by}
 use Rattle.actor_set.proofs.LawsLemmas.Calm.{calm_actor}
 use Rattle.actor_set.proofs.LawsLemmas.Rows.{frames_here}
+use Rattle.actor_set.proofs.LawsLemmas.Told.{none_wild}
 use Rattle.wired_law.specs.Wiring.{HasPart, HasWholeIn, IsWiredIn, ClientsSendIn, AreAtWork}
 use Rattle.wired_law.proofs.Wiring.{recorded, sent_on}
 use Rattle.wired_law.proofs.QuietLemmas.Rows.{rows_hold}
@@ -49,7 +50,7 @@ module _ (scene : Scene) (rows : List QueueRow) (cast : List Part) (m : Moved) (
     receiver = plays (NetworkPart (receiver_at net.first net.pool net.macs)) whole.receiver;
     sender = plays (SendingPart (sender_at net.first net.most net.pools)) whole.sender;
     copier = λ k lt. plays (NetworkPart (copier_at net.first k)) (whole.copier k lt);
-    client = λ k program mac q of. plays (NetworkPart (client_at net.first k program mac (own_pools q))) (whole.client k program mac q of);
+    client = λ k program mac q of. plays (NetworkPart (client_at net.first k program mac (own_pools q))) (whole.client k program mac q of (none_wild cast rows (client_first net.first k + 4)));
   }
 
 pub network_there : {scene : Scene} (rows : List QueueRow) (cast : List Part) (m : Moved) (net : NetPlace) → HasWholeIn scene rows net cast → HasPools net → HasRooms (hostiles cast) rows net → RowsHold (sheet scene) (hostiles cast) cast m → IsNetwork (hostiles cast) scene rows (needful (sheet scene) cast m) net m

@@ -11,4 +11,4 @@ pub returns-clause-sector : goal.returns-clause-sector
 returns-clause-sector c = sector_is
 
 pub returns-clause-disk : goal.returns-clause-disk
-returns-clause-disk c = disk_in_turn
+returns-clause-disk c = λ wild place passed h ask whole. disk_in_turn place passed h wild ask whole

@@ -6,7 +6,7 @@ use Rattle.cast_core.specs.Known.{HasRows, IsKnown, net_job, serial_job, blk_job
 use Rattle.cast_core.specs.Making.{HasPools, HasFrames, HasBlkPools, HasAsks}
 use Rattle.cast_core.proofs.Tables.{has_rows, some_known, known_has}
 use Rattle.cast_core.proofs.Rooms.{has_pools, has_blk_pools}
-use Rattle.cast_core.proofs.Joining.{queues_are, pools_are, net_count, net_few, serial_few, serial_some, first_few, has_frames, says_count, is_cast, blk_count, blk_few, first_blk_few, first_blk_pool_few, has_asks}
+use Rattle.cast_core.proofs.Joining.{queues_are, pools_are, net_count, net_few, frames_few, serial_few, serial_some, first_few, has_frames, says_count, is_cast, blk_count, blk_few, first_blk_few, first_blk_pool_few, has_asks}
 use Rattle.cast_core.proofs.actors.actor.Goals as goal
 
 pub job_of-requires-clause-rows : goal.job_of-requires-clause-rows
@@ -29,6 +29,9 @@ net_actor-requires-clause-few c = let is = c.net_clients.ensures in let few = ne
 pub net_actor-requires-clause-rows : goal.net_actor-requires-clause-rows
 net_actor-requires-clause-rows c = c.pools.ensures ∙ pools_are c.args.plan.now c.args.layout.now c.requires.layout
 
+pub net_actor-requires-clause-longest : goal.net_actor-requires-clause-longest
+net_actor-requires-clause-longest c = let most = frames_few c.args.plan.now c.requires.valid in omega (arith, most)
+
 pub net_actor-requires-clause-pools : goal.net_actor-requires-clause-pools
 net_actor-requires-clause-pools c =
     let rows : c.pools.result.now ≡ pools_of c.args.plan.now = c.pools.ensures ∙ pools_are c.args.plan.now c.args.layout.now c.requires.layout in
@@ -37,7 +40,7 @@ net_actor-requires-clause-pools c =
     (subst (λ l. HasPools l (length c.in-Net.ensures.0.client)) (sym rows) (has_pools c.args.plan.now c.requires.valid c.in-Net.ensures.0 c.in-Net.ensures.1))
 
 pub net_actor-requires-clause-frames : goal.net_actor-requires-clause-frames
-net_actor-requires-clause-frames c = subst (HasFrames c.args.trace.now) (sym c.net_clients.ensures) (has_frames c.args.plan.now c.args.trace.now c.requires.trace)
+net_actor-requires-clause-frames c = subst (HasFrames c.args.trace.now) (sym c.net_clients.ensures) (has_frames c.args.plan.now c.args.trace.now c.requires.valid c.requires.trace)
 
 pub serial_clients-requires : goal.serial_clients-requires
 serial_clients-requires c = let few = serial_few c.args.plan.now c.requires.valid in omega (arith, few)

@@ -21,4 +21,8 @@ pub new-requires : goal.new-requires
 new-requires c = tx_fits c.args.pools.now c.args.clients c.in_ok-ends.ends.items c.in_ok-ranges.ranges c.in_ok-ends.ensures c.requires.pools c.requires.few (rw c.deref.ensures.value at c.in_ok-ranges.ensures)
 
 pub returns-clause-part : goal.returns-clause-part
-returns-clause-part c = tx_part c.args.pools.now c.args.clients frame_most c.in_ok-ends.ends.items c.in_ok-new.field-0 c.in_ok-ends.ensures (record { 0 = 6 }) (record { 0 = 7 }) refl refl c.in_ok-new.ensures.new
+returns-clause-part c =
+    tx_part c.args.pools.now c.args.clients (frame_most c.args.plan.now) c.in_ok-ends.ends.items c.in_ok-new.field-0 c.in_ok-ends.ensures (record { 0 = 6 }) (record { 0 = 7 }) refl refl (rw c.frame_most-most.ensures at c.in_ok-new.ensures.new)
+
+pub overflow_cast-most : goal.overflow_cast-most
+overflow_cast-most c = let small = c.requires.longest in omega (arith, small, c.frame_most-most.ensures)

@@ -13,7 +13,7 @@ returns-in-None c =
 
 pub returns-then-not-is_source : goal.returns-then-not-is_source
 returns-then-not-is_source c =
-    send_none c.args.self.now c.args.plan.now c.args.client.now c.args.word.now (λ n frame m e. inl (and_left (is_source c.args.plan.now n) (is_frame_of frame frame_most) (let told = c.in-Some.ensures.some in let same : n ≡ c.in-Some.client = cc in rw same (sym c.is_source.ensures ∙ c.if-not-is_source.true))))
+    send_none c.args.self.now c.args.plan.now c.args.client.now c.args.word.now (λ n frame m e. inl (and_left (is_source c.args.plan.now n) (is_frame_of frame (frame_most c.args.plan.now)) (let told = c.in-Some.ensures.some in let same : n ≡ c.in-Some.client = cc in rw same (sym c.is_source.ensures ∙ c.if-not-is_source.true))))
 
 pub returns-then-self-ge-LINES : goal.returns-then-self-ge-LINES
 returns-then-self-ge-LINES c =
@@ -22,17 +22,17 @@ returns-then-self-ge-LINES c =
 pub returns-in-None-2 : goal.returns-in-None-2
 returns-in-None-2 c =
     let long = rw c.in-None-2.is at c.in_ok-frame.ensures in
-    send_none c.args.self.now c.args.plan.now c.args.client.now c.args.word.now (λ n frame m e. inl (and_right _ _ (too_long_frame frame (long frame e))))
+    send_none c.args.self.now c.args.plan.now c.args.client.now c.args.word.now (λ n frame m e. inl (and_right _ _ (too_long_frame _ frame (rw c.frame_most-most.ensures at (long frame e)))))
 
 pub returns-then-not-is_frame : goal.returns-then-not-is_frame
 returns-then-not-is_frame c =
     let read = rw c.in-Some-2.is at c.in_ok-frame.ensures in
-    let is_frame = rw c.as_slice.ensures at (sym c.is_frame.ensures ∙ c.if-not-is_frame.true) in
-    send_none c.args.self.now c.args.plan.now c.args.client.now c.args.word.now (λ n frame m e. inl (and_right (is_source c.args.plan.now n) (is_frame_of frame frame_most) (let same : frame ≡ c.in-Some-2.frame = cc in rw same is_frame)))
+    let is_frame = rw (c.as_slice.ensures, c.frame_most-most.ensures) at (sym c.is_frame.ensures ∙ c.if-not-is_frame.true) in
+    send_none c.args.self.now c.args.plan.now c.args.client.now c.args.word.now (λ n frame m e. inl (and_right (is_source c.args.plan.now n) (is_frame_of frame (frame_most c.args.plan.now)) (let same : frame ≡ c.in-Some-2.frame = cc in rw same is_frame)))
 
 pub returns : goal.returns
 returns c =
     let read = rw c.in-Some-2.is at c.in_ok-frame.ensures in
-    let is_frame = rw c.as_slice.ensures at (sym c.is_frame.ensures ∙ c.if-not-is_frame.false) in
+    let is_frame = rw (c.as_slice.ensures, c.frame_most-most.ensures) at (sym c.is_frame.ensures ∙ c.if-not-is_frame.false) in
     let source = sym c.is_source.ensures ∙ c.if-not-is_source.false in
     rw (c.in_ok-add_frame.ensures, c.as_slice-2.ensures) (send_taken c.args.self.now c.args.plan.now c.args.client.now c.args.word.now c.in-Some.client c.in-Some-2.frame c.in-Some.ensures.some.0 read.0 (rw (source, is_frame) refl) (lt-leb 1024 _ c.if-self-ge-LINES.false))

@@ -1,0 +1,4 @@
+-- Nothing comes out of turn.
+pub mod Ways
+pub mod Heavy
+pub mod Turning

@@ -1,0 +1,12 @@
+-- The proofs on the player.
+pub mod Rising
+pub mod Places
+pub mod Taking
+pub mod Posts
+pub mod Step
+pub mod Telling
+pub mod Keeping
+pub mod Playing
+pub mod Listing
+pub mod Wanting
+pub mod Paced

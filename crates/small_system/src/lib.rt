@@ -1,0 +1,12 @@
+//! One player for actors of any kind: queues between actors that stand behind one trait, a play by
+//! a seed, the one journal, and the tale of turns from which a class's own claims follow.
+#![tactic(auto)]
+
+mod actor;
+mod laws;
+mod running;
+mod small;
+
+pub use actor::SmallActor;
+pub use laws::tale_law;
+pub use small::Small;

@@ -1,0 +1,19 @@
+use Rattle.std.proofs.Common.{rules, true, ℕ, ◌∙◌, length, ap, arith}
+use mathlib.Core.Option.{none}
+use Rattle.atomic_table.specs.Table.{step}
+use Rattle.spsc_queue.specs.declared.view.View.{View}
+use Rattle.spsc_queue.specs.Rule.{wrap, tail_word}
+use Rattle.spsc_queue.specs.Steps.{passed, producer_passed}
+use Rattle.spsc_queue.proofs.Views.{as_producer, producer_passes}
+use Rattle.spsc_queue.proofs.producer.Producer.store_tail.Goals as goal
+
+pub store-requires : goal.store-requires
+store-requires c = let me = c.self.inside.seat.me in let kind = c.ring.inside.table.shared.key.kind in let wild = c.ring.inside.table.shared.key.wild in let n = c.ring.inside.table.shared.table_id.slots in let id = c.self.inside.seat.id in let v = c.from.result in (
+  search rules,
+  search rules,
+  as_producer wild kind n id me true tail_word (λ _. v) (λ _ m. producer_passed (step n tail_word v 0 none) me v m) (ap (λ e. e.knows.wild) c.self.view_is ∙ c.requires.sort) c.self.invariant.produces
+      (producer_passes kind n id me tail_word (λ _. v) (λ _. v) (omega arith) c.self.invariant.produces c.self.invariant.consumes),
+)
+
+pub returns-clause-did : goal.returns-clause-did
+returns-clause-did c = let me = c.self.inside.seat.me in ap (λ (z : View). z.producer) c.store.ensures.2.0 ∙ (ap (λ (z : ℕ). passed tail_word z me.0.producer) (c.from.ensures ∙ c.self.invariant.index) ∙ ap (λ e. passed tail_word (wrap (length e.knows.entries)) e.knows) c.self.view_is)
