@@ -112,10 +112,9 @@ impl PipeList for Pipe {
     #[inline(always)]
     fn step<W: Wires>(&mut self, wires: &mut W, place: usize) -> Event {
         if place == 0 {
-            self.step_input(wires)
-        } else {
-            self.step_output(wires)
+            return self.step_input(wires);
         }
+        self.step_output(wires)
     }
 
     fn forget(&mut self) {
@@ -161,12 +160,12 @@ impl<R: PipeList> PipeList for Pipes<R> {
     #[inline(always)]
     fn step<W: Wires>(&mut self, wires: &mut W, place: usize) -> Event {
         if place == 0 {
-            self.first.step_input(wires)
-        } else if place == 1 {
-            self.first.step_output(wires)
-        } else {
-            self.rest.step(wires, place - 2)
+            return self.first.step_input(wires);
         }
+        if place == 1 {
+            return self.first.step_output(wires);
+        }
+        self.rest.step(wires, place - 2)
     }
 
     fn forget(&mut self) {
