@@ -83,9 +83,9 @@ counted_next x base k posts needs p need at n =
     ∙ one_left (lower_if (not (is_settled p.state need)) x (record { queue = p.queue; place = base + k })) base k (k + 1) posts needs (add_assoc base k 1) (sym (add-one k)))
 
 -- one end of a list more was counted
-pub end_counted : {X : Type 0} (f : X → Post) (g : X → QueueId) (all x y : Option Stand) (base k : ℕ) (ends : List X) (end : X) (need : ℕ → Bool) (q : ℕ) (s b : Bool) → slice_get ends k ≡ Some end → q ≡ (f end).queue → y ≡ lower_if (not s) x (record { queue = q; place = base + k }) → s ≡ is_settled (f end).state b → b ≡ need k
-    → all ≡ unsettled_from x (base + k) (drop k (map f ends)) (drop k (needs_from need 0 (map g ends))) → all ≡ unsettled_from y (base + (k + 1)) (drop (k + 1) (map f ends)) (drop (k + 1) (needs_from need 0 (map g ends)))
-end_counted f g all x y base k ends end need q s b there p e t u on = rw (e, p, t, u) (on ∙ counted_next x base k (map f ends) (needs_from need 0 (map g ends)) (f end) (need k) (post_here f g ends k end need there) (need_here f g ends k end need there))
+pub end_counted : {X : Type 0} (f : X → Post) (g : X → QueueId) (all was now : Option Stand) (base k : ℕ) (ends : List X) (x : X) (need : ℕ → Bool) (q : ℕ) (s b : Bool) → slice_get ends k ≡ Some x → q ≡ (f x).queue → now ≡ lower_if (not s) was (record { queue = q; place = base + k }) → s ≡ is_settled (f x).state b → b ≡ need k
+    → all ≡ unsettled_from was (base + k) (drop k (map f ends)) (drop k (needs_from need 0 (map g ends))) → all ≡ unsettled_from now (base + (k + 1)) (drop (k + 1) (map f ends)) (drop (k + 1) (needs_from need 0 (map g ends)))
+end_counted f g all was now base k ends x need q s b there p e t u on = rw (e, p, t, u) (on ∙ counted_next was base k (map f ends) (needs_from need 0 (map g ends)) (f x) (need k) (post_here f g ends k x need there) (need_here f g ends k x need there))
 
 here_settled : (posts : List Post) (needs : List Bool) (k : ℕ) (p : Post) (need : Bool) → slice_get posts k ≡ Some p → slice_get needs k ≡ Some need → settled_all (drop k posts) (drop k needs) ≡ (is_settled p.state need && settled_all (drop (k + 1) posts) (drop (k + 1) needs))
 here_settled posts needs k p need at n = rw (drop_here posts k p at, drop_here needs k need n, add-one k) refl

@@ -27,11 +27,12 @@ module _ (r : Round) (s : Stand) (h : unsettled_from None 0 r.posts r.needs ≡ 
   pub last_stays : r.last ≡ last_after (choice_of r)
   last_stays = sym (ap (λ (u : Option Stand). cond (is_none u) (queue_or (choice_of r).after (queue_or (choice_of r).first (choice_of r).last)) (choice_of r).last) has ∙ last_is r)
 
-  within : Among is_loose 0 r.posts r.needs s → s.place < length r.posts
-  within a =
+  within : (None ≡ Some s) ⊎ Among is_loose 0 r.posts r.needs s → s.place < length r.posts
+  within (inl no) = cc
+  within (inr a) =
       let there = slice_get_within r.posts a.k a.post a.there in
       let place = a.is_place in
       omega (arith, there, place)
 
   pub first_within : s.place < length r.posts
-  first_within = elim (found is_loose None 0 r.posts r.needs s (loosest None 0 r.posts r.needs ∙ h)).from [ inl no ↦ cc | inr a ↦ within a ]
+  first_within = within (found is_loose None 0 r.posts r.needs s (loosest None 0 r.posts r.needs ∙ h)).from
