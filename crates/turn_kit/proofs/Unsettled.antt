@@ -28,7 +28,7 @@ module _ (r : Round) (s : Stand) (h : unsettled_from None 0 r.posts r.needs ≡ 
   last_stays = sym (ap (λ (u : Option Stand). cond (is_none u) (queue_or (choice_of r).after (queue_or (choice_of r).first (choice_of r).last)) (choice_of r).last) has ∙ last_is r)
 
   within : (None ≡ Some s) ⊎ Among is_loose 0 r.posts r.needs s → s.place < length r.posts
-  within (inl no) = cc
+  within (inl none) = cc
   within (inr a) =
       let there = slice_get_within r.posts a.k a.post a.there in
       let place = a.is_place in
