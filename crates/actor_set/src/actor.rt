@@ -142,21 +142,29 @@ impl Actor {
         ensures unchanged { OnErr result (self.new ≡ self.old) }
     {
         let event = match self {
-            Actor::UartDevice(device) => return device.step(wires),
+            Actor::UartDevice(device) => {
+                let terminal = &mut device.terminal;
+                terminal.reserve()?;
+                terminal.step(wires)
+            }
             Actor::UartDriver(driver) => driver.step(wires),
             Actor::SerialVirtRx(virt) => virt.step(wires),
             Actor::SerialVirtTx(virt) => virt.step(wires),
-            Actor::SerialClient(client) => return client.step(wires),
-            Actor::EthDevice(device) => return device.step(wires),
+            Actor::SerialClient(client) => {
+                let terminal = &mut client.terminal;
+                terminal.reserve()?;
+                terminal.step(wires)
+            }
+            Actor::EthDevice(device) => device.step(wires)?,
             Actor::EthDriver(driver) => driver.step(wires),
-            Actor::NetVirtRx(virt) => return virt.step(wires),
+            Actor::NetVirtRx(virt) => virt.step(wires)?,
             Actor::NetCopier(copier) => copier.step(wires),
-            Actor::NetClient(client) => return client.step(wires),
+            Actor::NetClient(client) => client.step(wires)?,
             Actor::NetVirtTx(virt) => virt.step(wires),
             Actor::DiskDevice(disk) => disk.device.step(wires),
             Actor::BlkDriver(driver) => driver.step(wires),
             Actor::BlkVirt(virt) => virt.step(wires),
-            Actor::BlkClient(client) => return client.step(wires),
+            Actor::BlkClient(client) => client.step(wires)?,
         };
         Ok(event)
     }

@@ -1,7 +1,7 @@
 //! An actor that puts given bytes in order and records the bytes that come: what a serial device
 //! and a serial client have in common.
 
-ghost use Rattle.std.specs.Prelude.{◌≡◌, ◌<◌, ◌≤◌, ◌+◌, ◌^◌, ℕ, [], ◌++◌, OnErr, IfOk, OnOk};
+ghost use Rattle.std.specs.Prelude.{◌≡◌, ◌<◌, ◌≤◌, ◌+◌, ◌^◌, ℕ, [], ◌++◌, OnErr, OnOk};
 ghost use Rattle.std.specs.Prelude.{slice_get, length, nat_lt, is_some, true, false};
 ghost use Rattle.std.specs.Option.{option_map, option_to_list};
 ghost use Rattle.wire_core.specs.Ends.{role_of, Role, End};
@@ -170,28 +170,39 @@ impl Terminal {
         event
     }
 
-    /// Makes one call on one of its ends. The memory of the record is taken first; after want of
-    /// memory no call was made and nothing changed.
-    #[inline(never)]
-    pub fn step<W: Wires>(&mut self, wires: &mut W) -> Result<Event, Memory>
-        requires { FitsTerminal (W.ends wires.old) self.old }
-        ensures fits { FitsTerminal (W.ends wires.new) self.new }
-        ensures own { IfOk result (λ e. TerminalEnd self.old (role_of e.op) e.queue.0) }
+    /// Takes the memory of the record for one byte more. After want of memory nothing changed.
+    #[inline(always)]
+    pub fn reserve(&mut self) -> Result<(), Memory>
+        ensures room { OnOk result (0 < self.new.recorded.spare) }
         ensures same { SameTerminal self.old self.new }
-        ensures stepped { IfOk result (λ e. Stepped TerminalStandsFor W.did wires.old wires.new
-            self.old self.new e) }
-        ensures turned { IfOk result (λ e. Turned (terminal_round self.old) e
-            (terminal_round self.new)) }
-        ensures no_call { OnErr result (wires.new ≡ wires.old) }
+        ensures round { terminal_round self.new ≡ terminal_round self.old }
+        ensures fits { (ends : Role → ℕ → End) → FitsTerminal ends self.old
+            → FitsTerminal ends self.new }
+        ensures lists { OnOk result ((passed : Passed) → TerminalStandsFor self.old passed
+            → TerminalStandsFor self.new passed) }
         ensures unchanged { OnErr result (self.new ≡ self.old) }
     {
         self.recorded.reserve()?;
-        let event = match self.choose() {
+        Ok(())
+    }
+
+    /// Makes one call on one of its ends. The memory of what it may record was taken before.
+    #[inline(never)]
+    pub fn step<W: Wires>(&mut self, wires: &mut W) -> Event
+        requires fits { FitsTerminal (W.ends wires.old) self.old }
+        requires room { 0 < self.old.recorded.spare }
+        ensures fits { FitsTerminal (W.ends wires.new) self.new }
+        ensures own { TerminalEnd self.old (role_of result.op) result.queue.0 }
+        ensures same { SameTerminal self.old self.new }
+        ensures stepped { Stepped TerminalStandsFor W.did wires.old wires.new self.old self.new
+            result }
+        ensures turned { Turned (terminal_round self.old) result (terminal_round self.new) }
+    {
+        match self.choose() {
             0 => self.step_input(wires),
             1 => self.step_output(wires),
             _ => unreachable!(),
-        };
-        Ok(event)
+        }
     }
 
     /// Discards the last look of each end, and nothing else.

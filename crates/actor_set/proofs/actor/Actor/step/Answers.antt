@@ -15,13 +15,13 @@ use Rattle.actor_set.proofs.Casting.{ok_actor, as_actor, few_still, first_still}
 use Rattle.actor_set.proofs.actor.Actor.step.Goals as goal
 
 pub returns-in-UartDevice-clause-stepped : goal.returns-in-UartDevice-clause-stepped
-returns-in-UartDevice-clause-stepped g c = ok_actor TerminalStandsFor _ _ _ _ _ _ _ c.step.result (λ passed h. subst (λ t. TerminalStandsFor t passed) (sym c.deref_mut.ensures.value) (subst (λ a. ActorStandsFor a passed) c.in-UartDevice.is h)) (λ passed h. h) c.step.ensures.stepped
+returns-in-UartDevice-clause-stepped g c = as_actor TerminalStandsFor _ _ _ _ _ _ _ _ (λ passed h. c.in_ok-reserve.ensures.lists passed (subst (λ a. ActorStandsFor a passed) c.in-UartDevice.is h)) (λ passed h. h) c.step-event.ensures.stepped
 
 pub returns-in-UartDriver-clause-stepped : goal.returns-in-UartDriver-clause-stepped
-returns-in-UartDriver-clause-stepped g c = as_actor PipesStandFor _ _ _ _ _ _ _ _ (λ passed h. subst (λ d. PipesStandFor (two_pipes d.pipes) passed) (sym c.deref_mut-in-UartDriver.ensures.value) (subst (λ a. ActorStandsFor a passed) c.in-UartDriver.is h)) (λ passed h. h) c.step-event.ensures.stepped
+returns-in-UartDriver-clause-stepped g c = as_actor PipesStandFor _ _ _ _ _ _ _ _ (λ passed h. subst (λ d. PipesStandFor (two_pipes d.pipes) passed) (sym c.deref_mut.ensures.value) (subst (λ a. ActorStandsFor a passed) c.in-UartDriver.is h)) (λ passed h. h) c.step-event-in-UartDriver.ensures.stepped
 
 pub returns-in-SerialClient-clause-stepped : goal.returns-in-SerialClient-clause-stepped
-returns-in-SerialClient-clause-stepped g c = ok_actor TerminalStandsFor _ _ _ _ _ _ _ c.step-in-SerialClient.result (λ passed h. subst (λ t. TerminalStandsFor t passed) (sym c.deref_mut-in-SerialClient.ensures.value) (subst (λ a. ActorStandsFor a passed) c.in-SerialClient.is h)) (λ passed h. h) c.step-in-SerialClient.ensures.stepped
+returns-in-SerialClient-clause-stepped g c = as_actor TerminalStandsFor _ _ _ _ _ _ _ _ (λ passed h. c.in_ok-reserve-in-SerialClient.ensures.lists passed (subst (λ a. ActorStandsFor a passed) c.in-SerialClient.is h)) (λ passed h. h) c.step-event-in-SerialClient.ensures.stepped
 
 pub returns-in-SerialVirtRx-clause-stepped : goal.returns-in-SerialVirtRx-clause-stepped
 returns-in-SerialVirtRx-clause-stepped g c = as_actor RxStandsFor _ _ _ _ _ _ _ _ (λ passed h. subst (λ a. ActorStandsFor a passed) c.in-SerialVirtRx.is h) (λ passed h. h) c.step-event-in-SerialVirtRx.ensures.stepped
@@ -30,7 +30,7 @@ pub returns-in-SerialVirtTx-clause-stepped : goal.returns-in-SerialVirtTx-clause
 returns-in-SerialVirtTx-clause-stepped g c = as_actor TxStandsFor _ _ _ _ _ _ _ _ (λ passed h. subst (λ a. ActorStandsFor a passed) c.in-SerialVirtTx.is h) (λ passed h. h) c.step-event-in-SerialVirtTx.ensures.stepped
 
 pub returns-in-NetClient-clause-stepped : goal.returns-in-NetClient-clause-stepped
-returns-in-NetClient-clause-stepped g c = ok_actor ClientStandsFor _ _ _ _ _ _ _ c.step-in-NetClient.result (λ passed h. subst (λ a. ActorStandsFor a passed) c.in-NetClient.is h) (λ passed h. h) c.step-in-NetClient.ensures.stepped
+returns-in-NetClient-clause-stepped g c = as_actor ClientStandsFor _ _ _ _ _ _ _ _ (λ passed h. subst (λ a. ActorStandsFor a passed) c.in-NetClient.is h) (λ passed h. h) c.in_ok-event-in-NetClient.ensures.stepped
 
 pub step-requires-in-NetVirtRx : goal.step-requires-in-NetVirtRx
 step-requires-in-NetVirtRx g c = let f = subst (FitsActor (g.W.Wires.ends c.args.wires.now)) c.in-NetVirtRx.is c.requires in f
@@ -39,13 +39,13 @@ pub step-requires-in-NetClient : goal.step-requires-in-NetClient
 step-requires-in-NetClient g c = let f = subst (FitsActor (g.W.Wires.ends c.args.wires.now)) c.in-NetClient.is c.requires in f.0
 
 pub returns-in-NetVirtRx-clause-fits : goal.returns-in-NetVirtRx-clause-fits
-returns-in-NetVirtRx-clause-fits g c = c.step-in-NetVirtRx.ensures.fits
+returns-in-NetVirtRx-clause-fits g c = c.in_ok-event-in-NetVirtRx.ensures.fits
 
 pub returns-in-NetClient-clause-fits : goal.returns-in-NetClient-clause-fits
-returns-in-NetClient-clause-fits g c = let f = subst (FitsActor (g.W.Wires.ends c.args.wires.now)) c.in-NetClient.is c.requires in (c.step-in-NetClient.ensures.fits, record { base = c.step-in-NetClient.ensures.same.stock.base ∙ f.1.base; spare_base = c.step-in-NetClient.ensures.same.spare.base ∙ f.1.spare_base })
+returns-in-NetClient-clause-fits g c = let f = subst (FitsActor (g.W.Wires.ends c.args.wires.now)) c.in-NetClient.is c.requires in (c.in_ok-event-in-NetClient.ensures.fits, record { base = c.in_ok-event-in-NetClient.ensures.same.stock.base ∙ f.1.base; spare_base = c.in_ok-event-in-NetClient.ensures.same.spare.base ∙ f.1.spare_base })
 
 pub returns-in-NetVirtRx-clause-stepped : goal.returns-in-NetVirtRx-clause-stepped
-returns-in-NetVirtRx-clause-stepped g c = ok_actor NetRxStandsFor _ _ _ _ _ _ _ c.step-in-NetVirtRx.result (λ passed h. subst (λ a. ActorStandsFor a passed) c.in-NetVirtRx.is h) (λ passed h. h) c.step-in-NetVirtRx.ensures.stepped
+returns-in-NetVirtRx-clause-stepped g c = as_actor NetRxStandsFor _ _ _ _ _ _ _ _ (λ passed h. subst (λ a. ActorStandsFor a passed) c.in-NetVirtRx.is h) (λ passed h. h) c.in_ok-event-in-NetVirtRx.ensures.stepped
 
 pub returns-in-NetVirtTx-clause-stepped : goal.returns-in-NetVirtTx-clause-stepped
 returns-in-NetVirtTx-clause-stepped g c = as_actor NetTxStandsFor _ _ _ _ _ _ _ _ (λ passed h. subst (λ a. ActorStandsFor a passed) c.in-NetVirtTx.is h) (λ passed h. h) c.step-event-in-NetVirtTx.ensures.stepped
@@ -66,4 +66,4 @@ pub returns-in-BlkVirt-clause-stepped : goal.returns-in-BlkVirt-clause-stepped
 returns-in-BlkVirt-clause-stepped g c = as_actor BlkVirtStandsFor _ _ _ _ _ _ _ _ (λ passed h. subst (λ a. ActorStandsFor a passed) c.in-BlkVirt.is h) (λ passed h. h) c.step-event-in-BlkVirt.ensures.stepped
 
 pub returns-in-BlkClient-clause-stepped : goal.returns-in-BlkClient-clause-stepped
-returns-in-BlkClient-clause-stepped g c = ok_actor BlkClientStandsFor _ _ _ _ _ _ _ c.step-in-BlkClient.result (λ passed h. subst (λ a. ActorStandsFor a passed) c.in-BlkClient.is h) (λ passed h. h) c.step-in-BlkClient.ensures.stepped
+returns-in-BlkClient-clause-stepped g c = as_actor BlkClientStandsFor _ _ _ _ _ _ _ _ (λ passed h. subst (λ a. ActorStandsFor a passed) c.in-BlkClient.is h) (λ passed h. h) c.in_ok-event-in-BlkClient.ensures.stepped
