@@ -45,6 +45,7 @@ pub enum Actor {
 
 impl Actor {
     /// Whether nothing is to be done before a notification comes.
+    #[inline(always)]
     pub fn at_rest(&self) -> bool
         ensures { result ≡ actor_rests self.now }
     {

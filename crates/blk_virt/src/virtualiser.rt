@@ -318,6 +318,7 @@ impl BlkVirt {
     }
 
     /// Makes one call on one of its ends.
+    #[inline(never)]
     pub fn step<W: Wires>(&mut self, wires: &mut W) -> Event
         requires { FitsBlkVirt (W.ends wires.old) self.old }
         ensures fits { FitsBlkVirt (W.ends wires.new) self.new }

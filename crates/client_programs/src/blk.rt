@@ -203,6 +203,7 @@ impl BlkClient {
 
     /// Makes one call on one of its ends. The memory of the record is taken first; after want of
     /// memory no call was made and nothing changed.
+    #[inline(never)]
     pub fn step<W: Wires>(&mut self, wires: &mut W) -> Result<Event, Memory>
         requires { FitsBlkClient (W.ends wires.old) self.old }
         ensures fits { FitsBlkClient (W.ends wires.new) self.new }

@@ -281,6 +281,7 @@ impl NetClient {
 
     /// Makes one call on one of its ends. The memory of the record is taken first; after want of
     /// memory no call was made and nothing changed.
+    #[inline(never)]
     pub fn step<W: Wires>(&mut self, wires: &mut W) -> Result<Event, Memory>
         requires { FitsClient (W.ends wires.old) self.old }
         ensures fits { FitsClient (W.ends wires.new) self.new }

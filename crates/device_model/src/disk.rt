@@ -147,6 +147,7 @@ impl DiskDevice {
     }
 
     /// Makes one call on one of its ends.
+    #[inline(never)]
     pub fn step<W: Wires>(&mut self, wires: &mut W) -> Event
         requires { FitsDisk (W.ends wires.old) self.old }
         ensures fits { FitsDisk (W.ends wires.new) self.new }

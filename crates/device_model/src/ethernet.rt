@@ -201,6 +201,7 @@ impl EthDevice {
 
     /// Makes one call on one of its ends. The memory of the wire is taken first; after want of
     /// memory no call was made and nothing changed.
+    #[inline(never)]
     pub fn step<W: Wires>(&mut self, wires: &mut W) -> Result<Event, Memory>
         requires { FitsDevice (W.ends wires.old) self.old }
         ensures fits { FitsDevice (W.ends wires.new) self.new }

@@ -172,6 +172,7 @@ impl Terminal {
 
     /// Makes one call on one of its ends. The memory of the record is taken first; after want of
     /// memory no call was made and nothing changed.
+    #[inline(never)]
     pub fn step<W: Wires>(&mut self, wires: &mut W) -> Result<Event, Memory>
         requires { FitsTerminal (W.ends wires.old) self.old }
         ensures fits { FitsTerminal (W.ends wires.new) self.new }

@@ -259,6 +259,7 @@ impl NetCopier {
     }
 
     /// Makes one call on one of its ends.
+    #[inline(never)]
     pub fn step<W: Wires>(&mut self, wires: &mut W) -> Event
         requires { FitsCopier (W.ends wires.old) self.old }
         ensures fits { FitsCopier (W.ends wires.new) self.new }

@@ -274,6 +274,7 @@ impl NetVirtRx {
 
     /// Makes one call on one of its ends. The memory of a lease that is owed is taken first; after
     /// want of memory no call was made and nothing changed.
+    #[inline(never)]
     pub fn step<W: Wires>(&mut self, wires: &mut W) -> Result<Event, Memory>
         requires { FitsRx (W.ends wires.old) self.old }
         ensures fits { FitsRx (W.ends wires.new) self.new }

@@ -283,6 +283,7 @@ impl NetVirtTx {
     }
 
     /// Makes one call on one of its ends.
+    #[inline(never)]
     pub fn step<W: Wires>(&mut self, wires: &mut W) -> Event
         requires { FitsTx (W.ends wires.old) self.old }
         ensures fits { FitsTx (W.ends wires.new) self.new }

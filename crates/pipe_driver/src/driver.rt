@@ -66,6 +66,7 @@ impl<P: PipeList> PipeDriver<P> {
     }
 
     /// Makes one call on one of its ends.
+    #[inline(never)]
     pub fn step<W: Wires>(&mut self, wires: &mut W) -> Event
         requires fits { FitsPipes (W.ends wires.old) (P.list self.old.pipes) }
         requires few { length (P.list self.old.pipes) < 2 ^ 16 }

@@ -87,6 +87,7 @@ impl Model for System {
 }
 
 // Whether the actor at a place isn't runnable.
+#[inline(always)]
 fn is_idle(actor: &Actor, world: &World, place: ActorId) -> bool
     ensures { result ≡ idles (manner_of (part_of actor.now)) (actor_rests actor.now)
         (is_pending place.0 world.now) }
