@@ -1,6 +1,7 @@
-use Rattle.std.proofs.Common.{◌≡◌, ◌+◌, ◌*◌, ℕ, Bool, List, [], ◌∷◌, length, refl, sym, ap, ◌∙◌, suc, arith}
+use Rattle.std.proofs.Common.{◌≡◌, ◌+◌, ◌*◌, ℕ, Bool, Option, Some, None, List, [], ◌∷◌, length, refl, sym, ap, ◌∙◌, suc, arith}
 use Rattle.turn_kit.specs.Table.{is_settled}
-use Rattle.turn_kit.specs.Turns.{Post, Choosing, choice_with, offered_from, choosing, choice_of}
+use Rattle.turn_kit.specs.Turns.{Post, Choosing, choice_with, offered_from, choosing, choice_of, unsettled_from}
+use Rattle.turn_kit.specs.declared.turns.Stand.{Stand}
 use Rattle.turn_kit.specs.declared.pipe.Pipe.{Pipe}
 use Rattle.pipe_driver.specs.Drivers.{pipe_posts, pipe_needs, pipes_round}
 
@@ -27,3 +28,7 @@ module _ (ps : List Pipe) (last n : ℕ) (c0 c1 : Choosing) (two : n ≡ 2 * len
 
   pub pipes_count : c1.count ≡ n
   pipes_count = ap (λ (c : Choosing). c.count) all ∙ (offered_count c0 0 (pipe_posts ps) (pipe_needs ps) ∙ ap (λ (c : Choosing). c.count) begun)
+
+-- the lowest unsettled end was found
+pub pipes_first : (ps : List Pipe) (x y : Option Stand) (s : Stand) → x ≡ None → y ≡ unsettled_from x 0 (pipe_posts ps) (pipe_needs ps) → Some s ≡ y → unsettled_from None 0 (pipe_posts ps) (pipe_needs ps) ≡ Some s
+pipes_first ps x y s none all is = ap (λ (z : Option Stand). unsettled_from z 0 (pipe_posts ps) (pipe_needs ps)) (sym none) ∙ (sym all ∙ sym is)

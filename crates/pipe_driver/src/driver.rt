@@ -12,7 +12,7 @@ ghost use Rattle.pipe_driver.specs.Drivers.{pipes_hand, pipe_forgotten};
 
 use crate::PipeList;
 use cargo_core::PoolId;
-use turn_kit::Turn;
+use turn_kit::{Lowest, Turn};
 use wire_core::{Event, Wires};
 
 /// A driver of these pipes.
@@ -50,7 +50,7 @@ impl<P: PipeList> PipeDriver<P> {
     }
 
     // The end that is stepped now: those of the first pipe come first, each input before its
-    // output.
+    // output. The rotation is asked only where all are settled.
     fn choose(&mut self) -> usize
         requires { length (P.list self.old.pipes) < 2 ^ 16 }
         ensures place { result ≡ chosen_place (choice_of
@@ -60,6 +60,10 @@ impl<P: PipeList> PipeDriver<P> {
         ensures last { self.new.turn.last ≡ last_after
             (choice_of (pipes_round (P.list self.old.pipes) self.old.turn.last)) }
     {
+        let lowest = self.pipes.unsettled(Lowest::none(), 0);
+        if let Some(end) = lowest.stand() {
+            return end.place;
+        }
         let choice = self.turn.begin(self.pipes.ends());
         let choice = self.pipes.offer(choice, 0);
         self.turn.pass(choice)

@@ -6,14 +6,15 @@ ghost use Rattle.cargo_core.specs.Bodies.{buffers_of};
 ghost use Rattle.wire_core.specs.Ends.{role_of, Moves};
 ghost use Rattle.wire_core.specs.Lists.{Passed, Stepped};
 ghost use Rattle.wire_core.specs.Marks.{is_mark};
-ghost use Rattle.turn_kit.specs.Turns.{offered_from, settled_all};
+ghost use Rattle.turn_kit.specs.Lowests.{found};
+ghost use Rattle.turn_kit.specs.Turns.{offered_from, settled_all, unsettled_from};
 ghost use Rattle.turn_kit.specs.declared.pipe.Pipe.{Pipe};
 ghost use Rattle.pipe_driver.specs.Drivers.{FitsPipes, PipesStandFor, PipesEnd, PipesPosted};
 ghost use Rattle.pipe_driver.specs.Drivers.{inputs_of, outputs_of, pipe_posts, pipe_needs};
 ghost use Rattle.pipe_driver.specs.Drivers.{pipes_hand, pipe_forgotten};
 
 use cargo_core::PoolId;
-use turn_kit::{Choice, Pipe, count_held};
+use turn_kit::{Choice, Lowest, Pipe, count_held};
 use wire_core::{Event, Wires};
 
 /// Some pipes, one at least.
@@ -41,6 +42,12 @@ pub trait PipeList {
     fn offer(&self, choice: Choice, base: usize) -> Choice
         requires { base + 2 * length (list self.now) ≤ choice.count }
         ensures { result ≡ offered_from choice base (pipe_posts (list self.now))
+            (pipe_needs (list self.now)) };
+
+    /// Counts each end that isn't settled, the first of them at the place `base`.
+    fn unsettled(&self, lowest: Lowest, base: usize) -> Lowest
+        requires { base + 2 * length (list self.now) < 2 ^ 64 }
+        ensures { found result ≡ unsettled_from (found lowest) base (pipe_posts (list self.now))
             (pipe_needs (list self.now)) };
 
     /// Makes the next call of the end at a place.
@@ -96,12 +103,18 @@ impl PipeList for Pipe {
     }
 
     #[inline(always)]
+    fn unsettled(&self, lowest: Lowest, base: usize) -> Lowest {
+        lowest
+            .unless_settled(base, self.input.queue, self.input_settled())
+            .unless_settled(base + 1, self.output.queue, self.output_settled())
+    }
+
+    #[inline(always)]
     fn step<W: Wires>(&mut self, wires: &mut W, place: usize) -> Event {
         if place == 0 {
-            self.step_input(wires)
-        } else {
-            self.step_output(wires)
+            return self.step_input(wires);
         }
+        self.step_output(wires)
     }
 
     fn forget(&mut self) {
@@ -136,14 +149,23 @@ impl<R: PipeList> PipeList for Pipes<R> {
     }
 
     #[inline(always)]
+    fn unsettled(&self, lowest: Lowest, base: usize) -> Lowest {
+        let pipe = &self.first;
+        let lowest = lowest
+            .unless_settled(base, pipe.input.queue, pipe.input_settled())
+            .unless_settled(base + 1, pipe.output.queue, pipe.output_settled());
+        self.rest.unsettled(lowest, base + 2)
+    }
+
+    #[inline(always)]
     fn step<W: Wires>(&mut self, wires: &mut W, place: usize) -> Event {
         if place == 0 {
-            self.first.step_input(wires)
-        } else if place == 1 {
-            self.first.step_output(wires)
-        } else {
-            self.rest.step(wires, place - 2)
+            return self.first.step_input(wires);
         }
+        if place == 1 {
+            return self.first.step_output(wires);
+        }
+        self.rest.step(wires, place - 2)
     }
 
     fn forget(&mut self) {

@@ -1,6 +1,6 @@
 //! The entries of one queue, in slots that are made once, between two indices of 16 bits.
 
-ghost use Rattle.std.specs.Prelude.{◌≡◌, ◌<◌, ◌≤◌, not, nat_lt, [], ◌∷◌, ◌++◌, length};
+ghost use Rattle.std.specs.Prelude.{◌≡◌, ◌<◌, ◌≤◌, ◌%◌, not, nat_lt, [], ◌∷◌, ◌++◌, length};
 ghost use Rattle.std.specs.Prelude.{option_to_list, IfOk};
 ghost use Rattle.cargo_core.specs.Capacities.{IsCapacity};
 ghost use Rattle.plain_wires.specs.Contents.{standing};
@@ -43,6 +43,15 @@ fn page_in(pool: PoolId, slot: &Option<(Item, Body)>) -> u32
         Some((_, Body::Page(page))) if page.pool().0 == pool.0 => 1,
         _ => 0,
     }
+}
+
+// The slot of an index: its remainder by a power of two, which is its lowest bits.
+#[inline(always)]
+fn slot_of(index: u16, capacity: u16) -> u16
+    requires { IsCapacity capacity }
+    ensures { result ≡ index % capacity }
+{
+    index & (capacity - 1)
 }
 
 // How many buffers of a pool lie in so many slots, from that of an index on. There are as many
@@ -126,7 +135,7 @@ impl Slots {
         ensures first { self.old.entries ≡ result ∷ self.new.entries }
         ensures capacity { self.new.capacity ≡ self.old.capacity }
     {
-        let place = usize::from(self.head % self.capacity);
+        let place = usize::from(slot_of(self.head, self.capacity));
         self.head = self.head.wrapping_add(1);
         self.slots[place].take().unwrap()
     }
@@ -137,7 +146,7 @@ impl Slots {
         ensures entries { self.new.entries ≡ self.old.entries ++ entry ∷ [] }
         ensures capacity { self.new.capacity ≡ self.old.capacity }
     {
-        let place = usize::from(self.tail % self.capacity);
+        let place = usize::from(slot_of(self.tail, self.capacity));
         self.tail = self.tail.wrapping_add(1);
         drop(self.slots[place].replace(entry));
     }

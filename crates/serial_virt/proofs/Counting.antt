@@ -1,6 +1,7 @@
-use Rattle.std.proofs.Common.{◌≡◌, ◌+◌, ℕ, Bool, true, false, not, Option, Some, None, is_some, is_none, List, [], ◌∷◌, length, map, refl, ap, ◌∙◌, arith}
+use Rattle.std.proofs.Common.{◌≡◌, ◌+◌, ℕ, Bool, true, false, not, Option, Some, None, is_some, is_none, List, [], ◌∷◌, length, map, refl, sym, ap, ◌∙◌, arith}
 use Rattle.std.proofs.lemmas.List.{length-map}
-use Rattle.turn_kit.specs.Turns.{Post, Choosing, choice_with, offered_from, choosing, choice_of}
+use Rattle.turn_kit.specs.Turns.{Post, Choosing, choice_with, offered_from, choosing, choice_of, lower_if, unsettled_from}
+use Rattle.turn_kit.specs.declared.turns.Stand.{Stand}
 use Rattle.turn_kit.specs.Table.{is_settled}
 use Rattle.turn_kit.specs.Posts.{intake_post}
 use Rattle.turn_kit.specs.Posts.{outlet_post}
@@ -49,3 +50,19 @@ rx_choice v s owed n c0 c1 c2 settled here count h0 h1 h2 =
     ∙ ap (λ c. offered_from c 1 (outlet_posts v.outputs) (needs_from (is_here (place_loaded v)) 0 (outlet_queues v.outputs)))
     (h1 ∙ (ap (λ x. choice_with c0 (record { queue = v.input.queue.0; place = 0 }) x) settled
     ∙ ap (λ c. choice_with c (record { queue = v.input.queue.0; place = 0 }) (is_settled v.input.state (is_none v.load))) (h0 ∙ ap (λ m. choosing m v.turn.last) all))))
+
+-- the lowest unsettled end of the sending virtualiser was found
+pub tx_first : (v : SerialVirtTx) (b s : Bool) (x0 x1 x2 : Option Stand) (one : Stand) → b ≡ is_none v.load → s ≡ is_settled v.output.state (is_some v.load) → x0 ≡ None
+    → x1 ≡ lower_if (not s) x0 (record { queue = v.output.queue.0; place = 0 }) → x2 ≡ unsettled_from x1 1 (intake_posts v.inputs) (needs_from (λ place. b) 0 (intake_queues v.inputs)) → Some one ≡ x2 → unsettled_from None 0 (tx_round v).posts (tx_round v).needs ≡ Some one
+tx_first v b s x0 x1 x2 one free settled none e1 e2 is =
+    let first : x1 ≡ lower_if (not (is_settled v.output.state (is_some v.load))) None (record { queue = v.output.queue.0; place = 0 }) = e1 ∙ (ap (λ y. lower_if (not y) x0 (record { queue = v.output.queue.0; place = 0 })) settled ∙ ap (λ (x : Option Stand). lower_if (not (is_settled v.output.state (is_some v.load))) x (record { queue = v.output.queue.0; place = 0 })) none) in
+    sym (e2 ∙ (ap (λ x. unsettled_from x1 1 (intake_posts v.inputs) (needs_from (λ place. x) 0 (intake_queues v.inputs))) free
+    ∙ ap (λ (x : Option Stand). unsettled_from x 1 (intake_posts v.inputs) (needs_from (λ place. is_none v.load) 0 (intake_queues v.inputs))) first)) ∙ sym is
+
+-- and that of the receiving one
+pub rx_first : (v : SerialVirtRx) (s : Bool) (owed : Option ℕ) (x0 x1 x2 : Option Stand) (one : Stand) → s ≡ is_settled v.input.state (is_none v.load) → owed ≡ place_loaded v → x0 ≡ None
+    → x1 ≡ lower_if (not s) x0 (record { queue = v.input.queue.0; place = 0 }) → x2 ≡ unsettled_from x1 1 (outlet_posts v.outputs) (needs_from (is_here owed) 0 (outlet_queues v.outputs)) → Some one ≡ x2 → unsettled_from None 0 (rx_round v).posts (rx_round v).needs ≡ Some one
+rx_first v s owed x0 x1 x2 one settled here none e1 e2 is =
+    let first : x1 ≡ lower_if (not (is_settled v.input.state (is_none v.load))) None (record { queue = v.input.queue.0; place = 0 }) = e1 ∙ (ap (λ b. lower_if (not b) x0 (record { queue = v.input.queue.0; place = 0 })) settled ∙ ap (λ (x : Option Stand). lower_if (not (is_settled v.input.state (is_none v.load))) x (record { queue = v.input.queue.0; place = 0 })) none) in
+    sym (e2 ∙ (ap (λ (o : Option ℕ). unsettled_from x1 1 (outlet_posts v.outputs) (needs_from (is_here o) 0 (outlet_queues v.outputs))) here
+    ∙ ap (λ (x : Option Stand). unsettled_from x 1 (outlet_posts v.outputs) (needs_from (is_here (place_loaded v)) 0 (outlet_queues v.outputs))) first)) ∙ sym is

@@ -24,7 +24,7 @@ ghost use Rattle.serial_virt.specs.Receiving.{place_loaded};
 use cargo_core::{Body, Item, Memory, PoolId};
 use serial_switch::Switch;
 use std::alloc::Global;
-use turn_kit::{Intake, Outlet, Outlets, Turn, count_held};
+use turn_kit::{Intake, Lowest, Outlet, Outlets, Turn, count_held};
 use wire_core::{Event, QueueId, Wires};
 
 /// Shares out what the driver received, by the selections that stand in it. `load` is the byte that
@@ -121,7 +121,8 @@ impl SerialVirtRx {
         count_held(pool, &self.load)
     }
 
-    // The end that is stepped now: the input is the first, the clients follow in their order.
+    // The end that is stepped now: the input is the first, the clients follow in their order. The
+    // rotation is asked only where all are settled.
     fn choose(&mut self) -> usize
         ensures place { result ≡ chosen_place (choice_of (rx_round self.old)) }
         ensures within { result < 1 + length (outlet_queues self.old.outputs) }
@@ -130,12 +131,15 @@ impl SerialVirtRx {
               record { last = last_after (choice_of (rx_round self.old)) };
         } }
     {
-        let choice = self.turn.begin(1 + self.outputs.len()).offer(
-            0,
-            self.input.queue,
-            self.input.settled(self.load.is_none()),
-        );
+        let count = 1 + self.outputs.len();
         let owed = self.client_owed();
+        let settled = self.input.settled(self.load.is_none());
+        let lowest = Lowest::none().unless_settled(0, self.input.queue, settled);
+        let lowest = self.outputs.unsettled(lowest, 1, &owed);
+        if let Some(end) = lowest.stand() {
+            return end.place;
+        }
+        let choice = self.turn.begin(count).offer(0, self.input.queue, settled);
         let choice = self.outputs.offer(choice, 1, &owed);
         self.turn.pass(choice)
     }

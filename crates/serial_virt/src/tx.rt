@@ -16,7 +16,7 @@ ghost use Rattle.serial_virt.specs.Sending.{TxForgot, new_intake, tx_queues, tx_
 
 use cargo_core::{Body, Item, Memory, PoolId};
 use std::alloc::Global;
-use turn_kit::{Intake, Intakes, Outlet, Turn, count_held};
+use turn_kit::{Intake, Intakes, Lowest, Outlet, Turn, count_held};
 use wire_core::{Event, QueueId, Wires};
 
 /// Moves the clients' bytes to the driver, one at a time and in any order between clients.
@@ -79,7 +79,8 @@ impl SerialVirtTx {
         count_held(pool, &self.load)
     }
 
-    // The end that is stepped now: the output is the first, the clients follow in their order.
+    // The end that is stepped now: the output is the first, the clients follow in their order. The
+    // rotation is asked only where all are settled.
     fn choose(&mut self) -> usize
         ensures place { result ≡ chosen_place (choice_of (tx_round self.old)) }
         ensures within { result < 1 + length (intake_queues self.old.inputs) }
@@ -88,12 +89,15 @@ impl SerialVirtTx {
               record { last = last_after (choice_of (tx_round self.old)) };
         } }
     {
-        let choice = self.turn.begin(1 + self.inputs.len()).offer(
-            0,
-            self.output.queue,
-            self.output.settled(self.load.is_some()),
-        );
+        let count = 1 + self.inputs.len();
         let free = self.load.is_none();
+        let settled = self.output.settled(self.load.is_some());
+        let lowest = Lowest::none().unless_settled(0, self.output.queue, settled);
+        let lowest = self.inputs.unsettled(lowest, 1, &free);
+        if let Some(end) = lowest.stand() {
+            return end.place;
+        }
+        let choice = self.turn.begin(count).offer(0, self.output.queue, settled);
         let choice = self.inputs.offer(choice, 1, &free);
         self.turn.pass(choice)
     }

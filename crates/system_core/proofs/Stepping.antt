@@ -19,7 +19,7 @@ use Rattle.turn_kit.proofs.Playing.{pace_few}
 use Rattle.play_core.specs.Moved.{moved}
 use Rattle.play_core.specs.Wants.{Want, Needful, all_settled}
 use Rattle.play_core.specs.Sheets.{Scene, AreSeated, needful, RowsHold}
-use Rattle.play_core.specs.Runs.{called_from, is_runnable, flags_from, places_from, runnable, reach_of}
+use Rattle.play_core.specs.Runs.{called_from, is_runnable, flags_from, places_from, runnable, reach_of, reaches}
 use Rattle.play_core.proofs.Lists.{some_is, map_get, there_is}
 use Rattle.play_core.proofs.Flags.{differs_at, differs_twice, flag_at, flags_length, reach_owns}
 use Rattle.play_core.proofs.Tables.{others_run}
@@ -41,7 +41,8 @@ use Rattle.actor_set.proofs.LawsLemmas.PartEnds.{from_part, seat_end}
 use Rattle.actor_set.proofs.LawsLemmas.Paces.{called_end}
 use Rattle.actor_set.proofs.LawsLemmas.Rounds.{rests_is}
 use Rattle.wired_law.specs.Wiring.{IsWired}
-use Rattle.wire_core.proofs.Sinces.{eqb_apart}
+use Rattle.wire_core.proofs.Sinces.{eqb_apart, eqb_refl}
+use Rattle.wire_core.specs.declared.names.Op.{Op}
 use Rattle.system_core.proofs.Places.{places_kept, places_clear, places_so, places_below, places_few}
 
 pub set_same : {X : Type 0} (xs : List X) (k : ℕ) (b : X) → slice_get xs k ≡ Some b → slice_set xs k b ≡ xs
@@ -174,6 +175,17 @@ rung_there history rows w actors journal old k x e row m within is rung =
     let o = reach_owns e.op row k m rung in
     let lt : m < length actors = subst (λ n. n < length actors) o.1 (old.peers e.queue.0 row there o.0) in
     rw length-set lt
+
+-- who makes a call owns the end at which it is made
+pub caller_owns : (history : History) (rows : List QueueRow) (w : List Queue) (actors : List Actor) (journal : List Entry) → Holds history rows w actors journal → (k : ℕ) (x : Actor) (e : Event) (row : QueueRow) → k < length actors → e.queue.0 < length w → x ≡ slice_index_or actors k x → row ≡ slice_index_or rows e.queue.0 row → ActorEnd x (role_of e.op) e.queue.0 → owner_of row (role_of e.op) ≡ k
+caller_owns history rows w actors journal old k x e row below within x_is row_is own =
+    let here : slice_get actors k ≡ Some x = slice_get_read actors _ k x refl below x_is in
+    let there : slice_get rows e.queue.0 ≡ Some row = slice_get_read rows _ e.queue.0 row refl (subst (λ n. e.queue.0 < n) old.size within) row_is in
+    old.owners k x here (role_of e.op) e.queue.0 own row there
+
+-- at an end of the caller's own, only a call that reaches the other owner changes anything for it
+pub own_reach : (op : Op) (row : QueueRow) (k : ℕ) → owner_of row (role_of op) ≡ k → reaches op ≡ false → reach_of op row k ≡ None
+own_reach op row k own quiet = rw (quiet, own, eqb_refl k) refl
 
 called_so : (a b : Bool) → a ≡ true → (not a || b) ≡ true → b ≡ true
 called_so true b e g = g

@@ -33,7 +33,7 @@ use crate::lines::{bad, lines, pool_copies};
 use crate::records::{frame_records, line, records, replies, wire};
 use crate::running::Running;
 use actor_set::Actor;
-use cargo_core::{Memory, Series, Word};
+use cargo_core::{Memory, Series};
 use cast_core::{cast, copies};
 use expect_core::Report;
 use plain_wires::World;
@@ -45,7 +45,7 @@ use std::alloc::Global;
 use std::marker::Model;
 use std::snapshot::Snapshot;
 use trace_text::Trace;
-use wire_core::{ActorId, Entry, Op, PoolRow, QueueRow, Side, next_seed, place_of};
+use wire_core::{ActorId, Entry, Op, PoolRow, QueueRow, next_seed, place_of};
 
 /// How a play ended: no actor is runnable, or the steps are spent and some actor is runnable.
 #[derive(Clone, Copy, Debug, PartialEq, Eq)]
@@ -95,32 +95,6 @@ fn is_idle(actor: &Actor, world: &World, place: ActorId) -> bool
     actor.at_rest() && !world.is_pending(place)
 }
 
-// The owner of the end of a queue at which a call is made.
-fn end_owner(row: &QueueRow, op: Op) -> u16
-    ensures { result ≡ owner_of row.now (role_of op) }
-{
-    match op {
-        Op::See | Op::Take => row.consumer.0,
-        Op::Room | Op::Put => row.producer.0,
-        Op::Ask(side) | Op::Waive(side) | Op::Wake(side) => match side {
-            Side::Forward => row.consumer.0,
-            Side::Backward => row.producer.0,
-        },
-        Op::Wanted(side) | Op::Settle(side) | Op::Ring(side) => match side {
-            Side::Forward => row.producer.0,
-            Side::Backward => row.consumer.0,
-        },
-        Op::Store(word, _) => match word {
-            Word::Head => row.consumer.0,
-            Word::Tail => row.producer.0,
-            Word::Flag => row.consumer.0,
-            Word::FlagBack => row.producer.0,
-            Word::Pending => row.consumer.0,
-            Word::PendingBack => row.producer.0,
-        },
-    }
-}
-
 // The other owner of a queue.
 fn other_owner(row: &QueueRow, actor: u16) -> u16
     ensures { result ≡ other_owner row.now actor }
@@ -139,11 +113,15 @@ fn reaches(op: Op) -> bool
     matches!(op, Op::Ring(_))
 }
 
-// The other owner of a queue, where a call of this actor may change whether that one is runnable.
+// The other owner of a queue, where a call of this actor at an end of its own may change whether
+// that one is runnable.
+#[inline(always)]
+#[tactic(auto, using(crate::proofs::Stepping::own_reach))]
 fn reach(op: Op, row: &QueueRow, caller: u16) -> Option<u16>
+    requires { owner_of row.now (role_of op) ≡ caller }
     ensures { result ≡ reach_of op row.now caller }
 {
-    if reaches(op) || end_owner(row, op) != caller {
+    if reaches(op) {
         Some(other_owner(row, caller))
     } else {
         None

@@ -1,8 +1,9 @@
-use Rattle.std.proofs.Common.{◌≡◌, ◌+◌, ◌&&◌, ℕ, zero, suc, Bool, true, false, Some, List, [], ◌∷◌, drop, map, slice_get, slice_set, refl, sym, ap, ◌∙◌, arith, add-one, add-zero, zero-add, add_assoc}
+use Rattle.std.proofs.Common.{◌≡◌, ◌+◌, ◌&&◌, ℕ, zero, suc, Bool, true, false, not, Option, Some, List, [], ◌∷◌, drop, map, slice_get, slice_set, refl, sym, ap, ◌∙◌, arith, add-one, add-zero, zero-add, add_assoc}
 use Rattle.wire_core.specs.declared.names.QueueId.{QueueId}
 use Rattle.wire_core.specs.declared.names.Event.{Event}
 use Rattle.turn_kit.specs.Table.{is_settled}
-use Rattle.turn_kit.specs.Turns.{Post, Posted, PostedAt, Choosing, choice_with, offered_from, settled_all}
+use Rattle.turn_kit.specs.Turns.{Post, Posted, PostedAt, Choosing, choice_with, offered_from, settled_all, lower_if, unsettled_from}
+use Rattle.turn_kit.specs.declared.turns.Stand.{Stand}
 use Rattle.turn_kit.specs.ManyEnds.{needs_from}
 
 -- so many ends were offered, and the others are left
@@ -70,6 +71,21 @@ module _ {X : Type 0} (f : X → Post) (g : X → QueueId) (ends : List X) (k : 
 pub end_next : {X : Type 0} (f : X → Post) (g : X → QueueId) (c now v : Choosing) (base k : ℕ) (ends : List X) (x : X) (need : ℕ → Bool) (q : ℕ) (s b : Bool) → slice_get ends k ≡ Some x → q ≡ (f x).queue → v ≡ choice_with now (record { queue = q; place = base + k }) s → s ≡ is_settled (f x).state b → b ≡ need k
     → OffersOn c now base k (map f ends) (needs_from need 0 (map g ends)) → OffersOn c v base (k + 1) (map f ends) (needs_from need 0 (map g ends))
 end_next f g c now v base k ends x need q s b there p e t u on = rw (e, p, t, u) (offers_next c now base k (map f ends) (needs_from need 0 (map g ends)) (f x) (need k) (post_here f g ends k x need there) (need_here f g ends k x need there) on)
+
+module _ (x : Option Stand) (base k k' : ℕ) (posts : List Post) (needs : List Bool) where
+  one_left : base + k + 1 ≡ base + (k + 1) → suc k ≡ k' → unsettled_from x (base + k + 1) (drop (suc k) posts) (drop (suc k) needs) ≡ unsettled_from x (base + k') (drop k' posts) (drop k' needs)
+  one_left e f = ap (λ n. unsettled_from x n (drop (suc k) posts) (drop (suc k) needs)) (e ∙ ap (λ m. base + m) (add-one k)) ∙ ap (λ m. unsettled_from x (base + m) (drop m posts) (drop m needs)) f
+
+counted_next : (x : Option Stand) (base k : ℕ) (posts : List Post) (needs : List Bool) (p : Post) (need : Bool) → slice_get posts k ≡ Some p → slice_get needs k ≡ Some need → unsettled_from x (base + k) (drop k posts) (drop k needs) ≡ unsettled_from (lower_if (not (is_settled p.state need)) x (record { queue = p.queue; place = base + k })) (base + (k + 1)) (drop (k + 1) posts) (drop (k + 1) needs)
+counted_next x base k posts needs p need at n =
+    ap (λ ps. unsettled_from x (base + k) ps (drop k needs)) (drop_here posts k p at)
+    ∙ (ap (λ ns. unsettled_from x (base + k) (p ∷ drop (suc k) posts) ns) (drop_here needs k need n)
+    ∙ one_left (lower_if (not (is_settled p.state need)) x (record { queue = p.queue; place = base + k })) base k (k + 1) posts needs (add_assoc base k 1) (sym (add-one k)))
+
+-- one end of a list more was counted
+pub end_counted : {X : Type 0} (f : X → Post) (g : X → QueueId) (all was now : Option Stand) (base k : ℕ) (ends : List X) (x : X) (need : ℕ → Bool) (q : ℕ) (s b : Bool) → slice_get ends k ≡ Some x → q ≡ (f x).queue → now ≡ lower_if (not s) was (record { queue = q; place = base + k }) → s ≡ is_settled (f x).state b → b ≡ need k
+    → all ≡ unsettled_from was (base + k) (drop k (map f ends)) (drop k (needs_from need 0 (map g ends))) → all ≡ unsettled_from now (base + (k + 1)) (drop (k + 1) (map f ends)) (drop (k + 1) (needs_from need 0 (map g ends)))
+end_counted f g all was now base k ends x need q s b there p e t u on = rw (e, p, t, u) (on ∙ counted_next was base k (map f ends) (needs_from need 0 (map g ends)) (f x) (need k) (post_here f g ends k x need there) (need_here f g ends k x need there))
 
 here_settled : (posts : List Post) (needs : List Bool) (k : ℕ) (p : Post) (need : Bool) → slice_get posts k ≡ Some p → slice_get needs k ≡ Some need → settled_all (drop k posts) (drop k needs) ≡ (is_settled p.state need && settled_all (drop (k + 1) posts) (drop (k + 1) needs))
 here_settled posts needs k p need at n = rw (drop_here posts k p at, drop_here needs k need n, add-one k) refl

@@ -92,6 +92,16 @@ offered_from c place (p ∷ ps) (need ∷ needs) =
     (is_settled p.state need))
     (place + 1) ps needs
 
+-- the end with the lowest queue number of those that aren't settled, from a place on, and of what
+-- was found before
+abbrev pub unsettled_from : Option Stand → ℕ → List Post → List Bool → Option Stand
+unsettled_from x place [] needs = x
+unsettled_from x place (p ∷ ps) [] = x
+unsettled_from x place (p ∷ ps) (need ∷ needs) =
+    unsettled_from (lower_if (not (is_settled p.state need)) x
+    (record { queue = p.queue; place = place }))
+    (place + 1) ps needs
+
 -- what is known once all ends were looked at
 abbrev pub choice_of : Round → Choosing
 choice_of r = offered_from (choosing (length r.posts) r.last) 0 r.posts r.needs

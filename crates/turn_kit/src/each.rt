@@ -1,12 +1,13 @@
 //! What is asked of each end of a list: one loop serves consuming and producing ends.
 
-ghost use Rattle.std.specs.Prelude.{◌≡◌, ◌≤◌, ◌+◌, length, map};
+ghost use Rattle.std.specs.Prelude.{◌≡◌, ◌<◌, ◌≤◌, ◌+◌, ◌^◌, length, map};
 ghost use Rattle.wire_core.specs.declared.names.QueueId.{QueueId};
+ghost use Rattle.turn_kit.specs.Lowests.{found};
 ghost use Rattle.turn_kit.specs.ManyEnds.{needs_from};
 ghost use Rattle.turn_kit.specs.Table.{is_settled};
-ghost use Rattle.turn_kit.specs.Turns.{Post, offered_from, settled_all};
+ghost use Rattle.turn_kit.specs.Turns.{Post, offered_from, settled_all, unsettled_from};
 
-use crate::{Choice, Needs};
+use crate::{Choice, Lowest, Needs};
 use wire_core::QueueId;
 
 /// An end of a list of ends of one sort.
@@ -42,6 +43,25 @@ pub fn offer_each<E: Listed, N: Needs>(
         choice = choice.offer(base + k, end.queue(), end.is_settled(needs.at(k)));
     }
     choice
+}
+
+/// Counts each end that isn't settled, the first of them at the place `base`; `needs` tells which
+/// are needed, or loaded, by their places among these ends.
+#[inline(always)]
+pub fn unsettled_each<E: Listed, N: Needs>(
+    ends: &[E],
+    mut lowest: Lowest,
+    base: usize,
+    needs: &N,
+) -> Lowest
+    requires { base + length ends.now < 2 ^ 64 }
+    ensures { found result ≡ unsettled_from (found lowest) base (map E.post ends.now)
+        (needs_from (N.need needs.now) 0 (map E.queue ends.now)) }
+{
+    for (k, end) in ends.iter().enumerate() {
+        lowest = lowest.unless_settled(base + k, end.queue(), end.is_settled(needs.at(k)));
+    }
+    lowest
 }
 
 /// Whether all ends are settled.

@@ -9,10 +9,11 @@ ghost use Rattle.wire_core.specs.Lists.{taken_by, put_by, if_there};
 ghost use Rattle.wire_core.specs.Ends.{Moves, Consumer, role_of};
 ghost use Rattle.turn_kit.specs.ManyEnds.{FitsIntakes, intake_queues, intake_posts, needs_from};
 ghost use Rattle.wire_core.specs.Marks.{is_mark};
-ghost use Rattle.turn_kit.specs.Turns.{PostedAt, offered_from, settled_all};
+ghost use Rattle.turn_kit.specs.Lowests.{found};
+ghost use Rattle.turn_kit.specs.Turns.{PostedAt, offered_from, settled_all, unsettled_from};
 
-use crate::each::{is_each_settled, offer_each};
-use crate::{Choice, Intake, Needs};
+use crate::each::{is_each_settled, offer_each, unsettled_each};
+use crate::{Choice, Intake, Lowest, Needs};
 use cargo_core::{Body, Item};
 use wire_core::{Event, Op, Wires};
 
@@ -71,6 +72,17 @@ impl Intakes {
             (needs_from (N.need needs.now) 0 (intake_queues self.now)) }
     {
         offer_each(&self.ends, choice, base, needs)
+    }
+
+    /// Counts each end that isn't settled, the first of them at the place `base`; `needs` tells
+    /// which are needed, by their places among these ends.
+    #[inline(always)]
+    pub fn unsettled<N: Needs>(&self, lowest: Lowest, base: usize, needs: &N) -> Lowest
+        requires { base + length (intake_queues self.now) < 2 ^ 64 }
+        ensures { found result ≡ unsettled_from (found lowest) base (intake_posts self.now)
+            (needs_from (N.need needs.now) 0 (intake_queues self.now)) }
+    {
+        unsettled_each(&self.ends, lowest, base, needs)
     }
 
     /// Whether all ends are settled.

@@ -9,10 +9,11 @@ ghost use Rattle.wire_core.specs.Lists.{taken_by, put_by, if_there};
 ghost use Rattle.wire_core.specs.Ends.{Moves, Producer, role_of};
 ghost use Rattle.turn_kit.specs.ManyEnds.{FitsOutlets, outlet_queues, outlet_posts, needs_from};
 ghost use Rattle.wire_core.specs.Marks.{is_mark};
-ghost use Rattle.turn_kit.specs.Turns.{PostedAt, offered_from, settled_all};
+ghost use Rattle.turn_kit.specs.Lowests.{found};
+ghost use Rattle.turn_kit.specs.Turns.{PostedAt, offered_from, settled_all, unsettled_from};
 
-use crate::each::{is_each_settled, offer_each};
-use crate::{Choice, Needs, Outlet};
+use crate::each::{is_each_settled, offer_each, unsettled_each};
+use crate::{Choice, Lowest, Needs, Outlet};
 use cargo_core::{Body, Item};
 use wire_core::{Event, Op, QueueId, Wires};
 
@@ -74,6 +75,17 @@ impl Outlets {
             (needs_from (N.need loads.now) 0 (outlet_queues self.now)) }
     {
         offer_each(&self.ends, choice, base, loads)
+    }
+
+    /// Counts each end that isn't settled, the first of them at the place `base`; `loads` tells
+    /// which are loaded, by their places among these ends.
+    #[inline(always)]
+    pub fn unsettled<N: Needs>(&self, lowest: Lowest, base: usize, loads: &N) -> Lowest
+        requires { base + length (outlet_queues self.now) < 2 ^ 64 }
+        ensures { found result ≡ unsettled_from (found lowest) base (outlet_posts self.now)
+            (needs_from (N.need loads.now) 0 (outlet_queues self.now)) }
+    {
+        unsettled_each(&self.ends, lowest, base, loads)
     }
 
     /// Whether all ends are settled.

@@ -1,8 +1,9 @@
 //! Which of an actor's ends is stepped.
 
-ghost use Rattle.std.specs.Prelude.{◌≡◌, ◌<◌, None};
+ghost use Rattle.std.specs.Prelude.{◌≡◌, ◌<◌, None, not};
 ghost use Rattle.turn_kit.specs.Lowests.{found};
-ghost use Rattle.turn_kit.specs.Turns.{choosing, lower, choice_with, chosen_place, last_after};
+ghost use Rattle.turn_kit.specs.Turns.{choosing, lower, lower_if, choice_with, chosen_place};
+ghost use Rattle.turn_kit.specs.Turns.{last_after};
 
 use std::marker::Model;
 use wire_core::QueueId;
@@ -26,8 +27,8 @@ pub struct Turn {
 /// yet, and its place. Its fields fill it, so that it is moved as numbers.
 #[derive(Clone, Copy, Debug)]
 pub struct Lowest {
-    queue: u64,
-    place: usize,
+    pub queue: u64,
+    pub place: usize,
 }
 
 /// What was found of the ends that were offered so far.
@@ -52,9 +53,9 @@ impl Model for Choice {
 }
 
 impl Lowest {
-    // None was found yet.
+    /// None was found yet.
     #[inline(always)]
-    fn none() -> Lowest
+    pub fn none() -> Lowest
         ensures { found result ≡ None }
     {
         Lowest {
@@ -63,9 +64,9 @@ impl Lowest {
         }
     }
 
-    // The end, if any was found.
+    /// The end, if any was found.
     #[inline(always)]
-    fn stand(&self) -> Option<Stand>
+    pub fn stand(&self) -> Option<Stand>
         ensures { result ≡ found self.now }
     {
         if self.queue < 65536 {
@@ -86,6 +87,21 @@ impl Lowest {
             (record { queue = new.queue; place = new.place }) }
     {
         if new.queue < self.queue { new } else { self }
+    }
+
+    /// Counts the end at a place, unless it is settled.
+    #[inline(always)]
+    pub fn unless_settled(self, place: usize, queue: QueueId, settled: bool) -> Lowest
+        ensures { found result ≡ lower_if (not settled) (found self)
+            (record { queue = queue.0; place = place }) }
+    {
+        if settled {
+            return self;
+        }
+        self.lower(Lowest {
+            queue: u64::from(queue.0),
+            place,
+        })
     }
 }
 

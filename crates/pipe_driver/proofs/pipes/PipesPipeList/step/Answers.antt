@@ -15,8 +15,8 @@ returns-then-place-eq1-clause-fits g c = first_fits_out _ _ c.step_output.result
 pub returns-then-place-eq1-clause-stepped : goal.returns-then-place-eq1-clause-stepped
 returns-then-place-eq1-clause-stepped g c = first_steps_out g.W.Wires.did c.args.wires.now c.step_output.new.wires (deed_of c.step_output.result (put_of c.step_output.result c.args.self.now.first.load)) c.step_output.ensures.did _ c.args.self.now.first c.step_output.new.self (g.R.PipeList.list c.args.self.now.rest) c.requires.fits c.step_output.ensures.role c.step_output.ensures.on c.step_output.ensures.kept
 
-pub returns-else-place-eq1-clause-fits : goal.returns-else-place-eq1-clause-fits
-returns-else-place-eq1-clause-fits g c = rest_fits _ _ c.step.result c.step.ensures.moves c.args.self.now.first (g.R.PipeList.list c.args.self.now.rest) (g.R.PipeList.list c.step.new.self) c.requires.fits c.step.ensures.fits c.step.ensures.own c.step.ensures.inputs c.step.ensures.outputs
+pub returns-clause-fits : goal.returns-clause-fits
+returns-clause-fits g c = rest_fits _ _ c.step.result c.step.ensures.moves c.args.self.now.first (g.R.PipeList.list c.args.self.now.rest) (g.R.PipeList.list c.step.new.self) c.requires.fits c.step.ensures.fits c.step.ensures.own c.step.ensures.inputs c.step.ensures.outputs
 
-pub returns-else-place-eq1-clause-stepped : goal.returns-else-place-eq1-clause-stepped
-returns-else-place-eq1-clause-stepped g c = rest_steps g.W.Wires.did c.args.wires.now c.step.new.wires c.step.result _ c.args.self.now.first (g.R.PipeList.list c.args.self.now.rest) (g.R.PipeList.list c.step.new.self) c.requires.fits c.step.ensures.own c.step.ensures.stepped
+pub returns-clause-stepped : goal.returns-clause-stepped
+returns-clause-stepped g c = rest_steps g.W.Wires.did c.args.wires.now c.step.new.wires c.step.result _ c.args.self.now.first (g.R.PipeList.list c.args.self.now.rest) (g.R.PipeList.list c.step.new.self) c.requires.fits c.step.ensures.own c.step.ensures.stepped

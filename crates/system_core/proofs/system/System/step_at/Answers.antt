@@ -11,7 +11,7 @@ use Rattle.system_core.proofs.SystemStep.{entry_of}
 use Rattle.system_core.specs.Plays.{runnable_now}
 use Rattle.system_core.specs.Asking.{IsAsked}
 use Rattle.system_core.specs.Systems.{Holds, HoldsBefore}
-use Rattle.system_core.proofs.Stepping.{rung_there, set_same, system_then}
+use Rattle.system_core.proofs.Stepping.{caller_owns, rung_there, set_same, system_then}
 use Rattle.system_core.proofs.Hearing.{runner_there}
 use Rattle.system_core.proofs.system.System.step_at.Goals as goal
 
@@ -48,6 +48,11 @@ invariant_of-self-in_err-event c =
       running = rw c.in_ok-reserve.ensures.items (c.self.invariant.running ∙ ap (λ z. runs z c.self.inside.journal.items) (sym same));
       room = rw length-set c.self.invariant.room;
     }
+
+pub reach-other-requires : goal.reach-other-requires
+reach-other-requires c =
+    let lt : c.at-number.result < length c.self.inside.actors.items = runner_there c.self.inside c.self.invariant c.args.place c.at-number.result c.at-number.ensures in
+    caller_owns _ _ _ c.self.inside.actors.items _ c.self.invariant.holds c.at-number.result c.index_mut-actor.result.now c.in_ok-event.event c.index-row.result.now lt c.in_ok-event.ensures.stepped.happened.there c.index_mut-actor.ensures.value c.index-row.ensures c.in_ok-event.ensures.own
 
 pub note-requires-clause-there : goal.note-requires-clause-there
 note-requires-clause-there c = slice_get_within c.self.inside.running.list c.args.place c.at-number.result c.at-number.ensures
