@@ -21,10 +21,10 @@ use Rattle.blk_law.specs.Sheets.Numbers.{BlkPlace}
 use Rattle.blk_law.specs.Hops.Hops.{blk_put, blk_moves, IsBlock}
 use Rattle.blk_law.proofs.HopsLemmas.Moves.{blk_moved}
 use Rattle.actor_set.specs.Parts.{Part}
-use Rattle.actor_set.specs.Laws.Kinds.{sheet, scene_of, hostiles}
+use Rattle.actor_set.specs.Laws.Kinds.{sheet, hostiles}
 use Rattle.actor_set.proofs.LawsLemmas.Calm.{calm_actor, calm_row}
 use Rattle.actor_set.proofs.LawsLemmas.Told.{none_wild}
-use Rattle.wired_law.specs.Wiring.{HasPart, HasBlk}
+use Rattle.wired_law.specs.Wiring.{HasPart, HasBlkIn}
 use Rattle.expect_core.specs.Expected.{client_entry}
 use Rattle.cast_core.specs.Sources.{first_blk}
 use Rattle.cast_core.specs.Casts.{blk_place}
@@ -57,17 +57,17 @@ serial_many_is (Some serial) = refl
 first_is : (plan : Plan) → first_blk plan ≡ blk_first plan
 first_is plan = let a = serial_first_is plan.net in let b = serial_many_is plan.serial in omega (arith, a, b)
 
-module _ (plan : Plan) (trace : Trace) (cast : List Part) (history : History) (journal : List Entry) (valid : Valid plan) (blk : Blk) (is : plan.blk ≡ Some blk) (has : HasBlk (queues_of plan) (blk_place plan trace) cast) (rows : RowsHold (sheet (scene_of cast)) (hostiles cast) cast (moved history journal)) where
+module _ (plan : Plan) (trace : Trace) (scene : Scene) (cast : List Part) (history : History) (journal : List Entry) (valid : Valid plan) (blk : Blk) (is : plan.blk ≡ Some blk) (has : HasBlkIn scene (queues_of plan) (blk_place plan trace) cast) (rows : RowsHold (sheet scene) (hostiles cast) cast (moved history journal)) where
   abbrev place : BlkPlace
   place = blk_place plan trace
 
   many : length place.entries ≡ length blk.client
   many = value_count (length (blk_clients plan)) (client_entry plan) ∙ ap (λ (o : Option Blk). length (option_map_or (λ (b : Blk). b.client) o [])) is
 
-  row_of : (p : Part) → HasPart cast p → (sheet (scene_of cast) p).row (moved history journal)
+  row_of : (p : Part) → HasPart cast p → (sheet scene p).row (moved history journal)
   row_of p there = rows there.0 p (calm_actor cast there.0) there.1
 
-  is_block : IsBlock (scene_of cast) (hostiles cast) (queues_of plan) (moved history journal) place
+  is_block : IsBlock scene (hostiles cast) (queues_of plan) (moved history journal) place
   is_block = record {
     asks_many = has.asks_many;
     pools_many = has.pools_many;
@@ -83,16 +83,16 @@ module _ (plan : Plan) (trace : Trace) (cast : List Part) (history : History) (j
 
   pub few_put : QueuesFlow history (queues_of plan) journal → blk_put (blk_first plan) (length blk.client) (moved history journal) ≤ blk_moves trace.asks
   few_put flows =
-      let few = blk_moved (scene_of cast) (hostiles cast) history (queues_of plan) journal place flows is_block in
+      let few = blk_moved scene (hostiles cast) history (queues_of plan) journal place flows is_block in
       let asks = asks_few (length (blk_clients plan)) trace.asks in
       let here : blk_put place.first (length place.entries) (moved history journal) ≡ blk_put (blk_first plan) (length blk.client) (moved history journal) =
       ap (λ n. blk_put n (length place.entries) (moved history journal)) (first_is plan) ∙ ap (λ n. blk_put (blk_first plan) n (moved history journal)) many in
       omega (arith, few, asks, here)
 
-pub blk_within : (plan : Plan) (trace : Trace) (cast : List Part) (history : History) (journal : List Entry) → Valid plan → ((blk : Blk) → plan.blk ≡ Some blk → HasBlk (queues_of plan) (blk_place plan trace) cast)
-    → QueuesFlow history (queues_of plan) journal → RowsHold (sheet (scene_of cast)) (hostiles cast) cast (moved history journal) → BlkMoves plan trace (moved history journal)
-blk_within plan trace cast history journal valid has flows rows = by plan.blk refl
+pub blk_within : (plan : Plan) (trace : Trace) (scene : Scene) (cast : List Part) (history : History) (journal : List Entry) → Valid plan → ((blk : Blk) → plan.blk ≡ Some blk → HasBlkIn scene (queues_of plan) (blk_place plan trace) cast)
+    → QueuesFlow history (queues_of plan) journal → RowsHold (sheet scene) (hostiles cast) cast (moved history journal) → BlkMoves plan trace (moved history journal)
+blk_within plan trace scene cast history journal valid has flows rows = by plan.blk refl
   where
     by : (o : Option Blk) → plan.blk ≡ o → BlkMoves plan trace (moved history journal)
     by None is = without_blk is
-    by (Some blk) is = with_blk blk is (few_put plan trace cast history journal valid blk is (has blk is) rows flows)
+    by (Some blk) is = with_blk blk is (few_put plan trace scene cast history journal valid blk is (has blk is) rows flows)

@@ -21,11 +21,11 @@ use Rattle.owner_law.specs.Pools.Places.{PoolAt}
 use Rattle.net_law.specs.TxParts.Numbers.{NetPlace}
 use Rattle.net_law.specs.TxParts.Rows.{in_range}
 use Rattle.actor_set.specs.Parts.{Part}
-use Rattle.actor_set.specs.Laws.Kinds.{sheet, scene_of, hostiles}
+use Rattle.actor_set.specs.Laws.Kinds.{sheet, hostiles}
 use Rattle.actor_set.proofs.LawsLemmas.Calm.{calm_actor, calm_row}
 use Rattle.actor_set.proofs.LawsLemmas.Told.{none_wild}
 use Rattle.net_law.specs.Parts.Numbers.{client_first}
-use Rattle.wired_law.specs.Wiring.{HasPart, HasWhole}
+use Rattle.wired_law.specs.Wiring.{HasPart, HasWholeIn}
 use Rattle.cast_core.specs.Sources.{pool_at, first_blk_pool}
 use Rattle.cast_core.specs.Casts.{client_pools, net_place, scene_for}
 use Rattle.cast_core.proofs.Listing.{value_is}
@@ -93,11 +93,11 @@ module _ (plan : Plan) (valid : Valid plan) where
           by_other (inl less) = λ item here there. lower k j less low item there here
           by_other (inr same) = absurd (off (omega (arith, more, same)))
 
-module _ (plan : Plan) (trace : Trace) (cast : List Part) (history : History) (journal : List Entry) (valid : Valid plan) (net : Net) (is : plan.net ≡ Some net) (w : HasWhole (queues_of plan) (net_place plan trace) cast) (rows : RowsHold (sheet (scene_of cast)) (hostiles cast) cast (moved history journal)) where
+module _ (plan : Plan) (trace : Trace) (scene : Scene) (cast : List Part) (history : History) (journal : List Entry) (valid : Valid plan) (net : Net) (is : plan.net ≡ Some net) (w : HasWholeIn scene (queues_of plan) (net_place plan trace) cast) (rows : RowsHold (sheet scene) (hostiles cast) cast (moved history journal)) where
   abbrev place : NetPlace
   place = net_place plan trace
 
-  row_of : (p : Part) → HasPart cast p → (sheet (scene_of cast) p).row (moved history journal)
+  row_of : (p : Part) → HasPart cast p → (sheet scene p).row (moved history journal)
   row_of p there = rows there.0 p (calm_actor cast there.0) there.1
 
   -- the pool that a client sends in is one of the network
@@ -107,7 +107,7 @@ module _ (plan : Plan) (trace : Trace) (cast : List Part) (history : History) (j
       let pools : first_blk_pool plan ≡ 1 + 2 * length net.client = ap (λ (o : Option Net). option_map_or (λ (n : Net). 1 + 2 * length n.client) o 0) is in
       omega (arith, lt, many, pools)
 
-  is_network : IsNetwork (scene_of cast) (hostiles cast) (queues_of plan) (moved history journal) place
+  is_network : IsNetwork scene (hostiles cast) (queues_of plan) (moved history journal) place
   is_network = record {
     pools_many = w.pools_many;
     programs_many = w.programs_many;
@@ -124,13 +124,13 @@ module _ (plan : Plan) (trace : Trace) (cast : List Part) (history : History) (j
         subst (λ (z : ClientPools × ClientPools). AreApart z.0.tx z.1.tx) (λ i. (sym a.1 i, sym b.1 i)) (apart_at plan valid (2 + 2 * j) (2 + 2 * k) (sends_below j a.0) (sends_below k b.0) (λ e. off (omega (arith, e))));
   }
 
-pub net_within : (plan : Plan) (trace : Trace) (cast : List Part) (history : History) (journal : List Entry) → Valid plan → ((net : Net) → plan.net ≡ Some net → HasWhole (queues_of plan) (net_place plan trace) cast) → scene_of cast ≡ scene_for plan trace
-    → QueuesFlow history (queues_of plan) journal → RowsHold (sheet (scene_of cast)) (hostiles cast) cast (moved history journal) → NetMoves plan trace (moved history journal)
-net_within plan trace cast history journal valid whole scene flows rows = by plan.net refl
+pub net_within : (plan : Plan) (trace : Trace) (scene : Scene) (cast : List Part) (history : History) (journal : List Entry) → Valid plan → ((net : Net) → plan.net ≡ Some net → HasWholeIn scene (queues_of plan) (net_place plan trace) cast) → scene ≡ scene_for plan trace
+    → QueuesFlow history (queues_of plan) journal → RowsHold (sheet scene) (hostiles cast) cast (moved history journal) → NetMoves plan trace (moved history journal)
+net_within plan trace scene cast history journal valid whole scene_is flows rows = by plan.net refl
   where
     by : (o : Option Net) → plan.net ≡ o → NetMoves plan trace (moved history journal)
     by None is = without_net is
     by (Some net) is =
-        let frames : (scene_of cast).frames ≡ trace.frames = ap (λ (s : Scene). s.frames) scene ∙ ap (λ (n : Option Net). option_map_or (λ (x : Net). trace.frames) n []) is in
-        let few = net_moved (scene_of cast) (hostiles cast) history (queues_of plan) journal (net_place plan trace) flows (is_network plan trace cast history journal valid net is (whole net is) rows) in
+        let frames : scene.frames ≡ trace.frames = ap (λ (s : Scene). s.frames) scene_is ∙ ap (λ (n : Option Net). option_map_or (λ (x : Net). trace.frames) n []) is in
+        let few = net_moved scene (hostiles cast) history (queues_of plan) journal (net_place plan trace) flows (is_network plan trace scene cast history journal valid net is (whole net is) rows) in
         with_net net (net_place plan trace) is (place_is plan net is trace) (subst (λ fs. net_put 0 (length (net_place plan trace).macs) (moved history journal) ≤ net_moves (net_place plan trace) fs) frames few)

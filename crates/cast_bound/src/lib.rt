@@ -7,7 +7,7 @@ ghost use Rattle.wire_core.specs.declared.names.Entry.{Entry};
 ghost use Rattle.wire_core.specs.Journal.{History, LegalJournal, BellsHold, QueuesFlow};
 ghost use Rattle.wire_core.specs.Marks.{no_drops, Brisk};
 ghost use Rattle.play_core.specs.Moved.{moved};
-ghost use Rattle.play_core.specs.Sheets.{RowsHold};
+ghost use Rattle.play_core.specs.Sheets.{RowsHold, Scene};
 ghost use Rattle.play_core.specs.Still.{IsPeopled};
 ghost use Rattle.sdf_plan.specs.declared.plan.Plan.{Plan};
 ghost use Rattle.sdf_plan.specs.declared.plan.Net.{Net};
@@ -20,8 +20,8 @@ ghost use Rattle.expect_core.specs.Budgets.{budget_of};
 ghost use Rattle.serial_law.specs.Serial.{SerialClass, IsSerial};
 ghost use Rattle.serial_law.specs.Table.{serial_sheet};
 ghost use Rattle.actor_set.specs.Parts.{Part};
-ghost use Rattle.actor_set.specs.Laws.Kinds.{sheet, scene_of, hostiles};
-ghost use Rattle.wired_law.specs.Wiring.{HasWhole, HasBlk};
+ghost use Rattle.actor_set.specs.Laws.Kinds.{sheet, hostiles};
+ghost use Rattle.wired_law.specs.Wiring.{HasWholeIn, HasBlkIn};
 ghost use Rattle.cast_core.specs.Casts.{net_place, blk_place, scene_for};
 ghost use Rattle.cast_bound.specs.PlayBound.Standing.{StandsFrom, Carries, serial_first, NetMoves};
 ghost use Rattle.cast_bound.specs.PlayBound.Standing.{SerialMoves, BlkMoves};
@@ -32,18 +32,20 @@ pub mod play_bound;
 /// more to its queues than its entries have to be moved; so a journal that is legal and brisk is
 /// shorter than the budget of plan and trace.
 pub fn cast_bound_law()
-    ensures network { (plan : Plan) (trace : Trace) (cast : List Part) (history : History)
-        (journal : List Entry) → Valid plan → ((net : Net) → plan.net ≡ Some net
-        → HasWhole (queues_of plan) (net_place plan trace) cast)
-        → scene_of cast ≡ scene_for plan trace
+    ensures network { (plan : Plan) (trace : Trace) (scene : Scene) (cast : List Part)
+        (history : History) (journal : List Entry) → Valid plan
+        → ((net : Net) → plan.net ≡ Some net
+        → HasWholeIn scene (queues_of plan) (net_place plan trace) cast)
+        → scene ≡ scene_for plan trace
         → QueuesFlow history (queues_of plan) journal
-        → RowsHold (sheet (scene_of cast)) (hostiles cast) cast (moved history journal)
+        → RowsHold (sheet scene) (hostiles cast) cast (moved history journal)
         → NetMoves plan trace (moved history journal) }
-    ensures block { (plan : Plan) (trace : Trace) (cast : List Part) (history : History)
-        (journal : List Entry) → Valid plan → ((blk : Blk) → plan.blk ≡ Some blk
-        → HasBlk (queues_of plan) (blk_place plan trace) cast)
+    ensures block { (plan : Plan) (trace : Trace) (scene : Scene) (cast : List Part)
+        (history : History) (journal : List Entry) → Valid plan
+        → ((blk : Blk) → plan.blk ≡ Some blk
+        → HasBlkIn scene (queues_of plan) (blk_place plan trace) cast)
         → QueuesFlow history (queues_of plan) journal
-        → RowsHold (sheet (scene_of cast)) (hostiles cast) cast (moved history journal)
+        → RowsHold (sheet scene) (hostiles cast) cast (moved history journal)
         → BlkMoves plan trace (moved history journal) }
     ensures serial { (plan : Plan) (trace : Trace) (cast : List Part) (history : History)
         (journal : List Entry) → QueuesFlow history (queues_of plan) journal

@@ -12,5 +12,6 @@ pub mod PoolsLemmas
 pub mod PastOwners
 pub mod PoolLines
 pub mod PagesLemmas
+pub mod TurnsLemmas
 pub mod RunsLemmas
 pub mod GoneLemmas

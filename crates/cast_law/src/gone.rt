@@ -11,11 +11,12 @@ ghost use Rattle.order_law.specs.ActorParts.Parting.{Apart};
 ghost use Rattle.order_law.specs.ActorParts.Finished.{AreFinished};
 ghost use Rattle.cast_law.specs.Gone.Gone.{HaveGone, passed_of, left_at, actors_apart};
 
-/// Where the actors of a wired cast stood apart with nothing passed, made their calls at their own
-/// ends, and their rings came to their end, each actor is of the part that it was and stands for
-/// what the ended rings say passed, by some calls, of which nothing came out of turn; the clients
-/// put good descriptors and requests alone; and entries carry the pages that their items name. Each
-/// queue handed over in order: what was put there is what was taken and then what is left.
+/// Where the actors of a cast in place stood apart with nothing passed, made their calls at their
+/// own ends, and their rings came to their end, each actor is of the part that it was and stands
+/// for what the ended rings say passed, by some calls, of which nothing came out of turn; the
+/// clients put good descriptors and requests alone; and entries carry the pages that their items
+/// name. Each queue handed over in order: what was put there is what was taken and then what is
+/// left.
 pub fn gone_law()
     ensures held { (rows : List QueueRow) (rings : List RingIs) (olds news : List Apart)
         (actors : List Actor) (ended : List EndedIs) → HaveGone rows rings olds news

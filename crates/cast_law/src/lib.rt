@@ -1,8 +1,8 @@
 //! The actors of a plan, made as the plan and a trace say. They stand where the layout seats them,
 //! so a system can start with them. What holds of them then: of the network and the block class
 //! where nobody is runnable, of their pools, of the lines that a report has of these and of each
-//! buffer of these, and of what they leave after they were at work over rings, each in a thread of
-//! its own.
+//! buffer of these, of what comes in turn, and of what they leave after they were at work over
+//! rings, each in a thread of its own.
 #![tactic(auto)]
 
 ghost use Rattle.std.specs.Prelude.{◌≡◌, ℕ, Some, None, List, map, slice_get};
@@ -30,6 +30,7 @@ pub mod pool_lines;
 pub mod pools;
 pub mod quiet;
 pub mod runs;
+pub mod turns;
 
 /// The actors of a valid plan are seated at its layout's queues, each number has the part of its
 /// job, and with a network class or a block class the cast has the whole class where the layout

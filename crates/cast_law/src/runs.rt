@@ -9,8 +9,8 @@ ghost use Rattle.wired_law.specs.Wiring.{AreOfKind};
 ghost use Rattle.order_law.specs.Orders.{Turn, InOrder};
 ghost use Rattle.cast_law.specs.Runs.Running.{AreReady, HaveHeld};
 
-/// Where a wired cast began with nothing and made its calls one after another, and what was put to
-/// each queue is of the queue's kind, each actor is of the part that it was and stands for what
+/// Where a cast in place began with nothing and made its calls one after another, and what was put
+/// to each queue is of the queue's kind, each actor is of the part that it was and stands for what
 /// passed, of which nothing came out of turn; the clients put good descriptors and requests alone;
 /// and entries carry the pages that their items name.
 pub fn run_law()

@@ -18,8 +18,10 @@ use Rattle.spsc_queue.specs.Known.Ends.{EndIs, RingIs, EndedIs}
 use Rattle.turn_kit.specs.Pace.{pendings}
 use Rattle.turn_kit.proofs.Pacing.{paced_anew}
 use Rattle.play_core.specs.Moved.{Moved, moved}
+use Rattle.play_core.specs.Names.{Noted}
 use Rattle.play_core.specs.Sheets.{Scene, RowsHold, AreSeated, AreFilled}
 use Rattle.play_core.specs.Still.{IsPeopled}
+use Rattle.play_core.specs.Wants.{all_settled}
 use Rattle.play_core.proofs.Lists.{some_is, map_get, map_from, there_is, there_below}
 use Rattle.owner_law.specs.Pages.{CarryPages}
 use Rattle.play_core.specs.Rests.Showing.{HaveItems, HaveBells}
@@ -30,9 +32,9 @@ use Rattle.actor_set.specs.Laws.Kinds.{sheet, scene_of, hostiles}
 use Rattle.actor_set.specs.Laws.Turning.{InTurn}
 use Rattle.actor_set.proofs.LawsLemmas.PartEnds.{to_part, end_seat}
 use Rattle.actor_set.proofs.LawsLemmas.Starts.{fits_whole}
-use Rattle.wired_law.specs.Wiring.{IsWired, AreAtWork, AreOfKind, ClientsSend}
-use Rattle.wired_law.proofs.Wiring.{in_turn}
-use Rattle.cast_law.specs.Pools.Places.{PoolPlace, IsPlaced, HasPools, cast_naming}
+use Rattle.wired_law.specs.Wiring.{AreAtWork, AreOfKind, ClientsSend}
+use Rattle.cast_law.specs.Pools.Places.{PoolPlace, IsInPlace, IsPlaced, HasPools, cast_naming}
+use Rattle.cast_law.proofs.TurnsLemmas.{calm_turns}
 use Rattle.cast_law.specs.Pools.Pooling.{AreAtPlay, HasOwners}
 use Rattle.cast_law.proofs.PoolsLemmas.Playing.{rows_at}
 use Rattle.plain_wires.specs.Adopted.{IsEndedOf, adopted, all_adopted}
@@ -56,7 +58,8 @@ use Rattle.region_layout.specs.Rows.{queues_of, pools_of}
 use Rattle.layout_laws.proofs.SeatsLemmas.Counts.{few_numbers}
 use Rattle.system_core.specs.Builds.{IsCastOf}
 use Rattle.system_core.specs.Crews.{net_crew, serial_crew, blk_crew}
-use Rattle.system_core.proofs.Fitting.{are_sized}
+use Rattle.system_core.proofs.Fitting.{are_sized, fitted_place}
+use Rattle.system_core.proofs.Telling.{wants_plain}
 use Rattle.wire_core.specs.Sizes.{AreSized}
 use Rattle.system_core.specs.Shows.{Setting, Shown, Crew, hostile_in, sheet_in, moved_in}
 use Rattle.system_core.specs.States.{history_of, begun, started}
@@ -122,6 +125,10 @@ module _ (s : Setting) (rings : List RingIs) (parts : List Apart) (fitted : IsFi
   abbrev history : History
   history = history_left ended
 
+  -- in the scene that the parts give
+  in_place : IsInPlace rows s.pools s.cast
+  in_place = fitted_place s fitted
+
   cast_now : map part_of nows ≡ s.cast
   cast_now = parts_same actors nows forgotten ∙ cast
 
@@ -171,7 +178,7 @@ module _ (s : Setting) (rings : List RingIs) (parts : List Apart) (fitted : IsFi
   own_of : (k : ℕ) (p : Part) → slice_get s.cast k ≡ Some p → (x : Actor) → part_of x ≡ p → IsWhole x → (r : Role) (n : ℕ) → ActorEnd x r n → (row : QueueRow) × (slice_get rows n ≡ Some row) × (owner_of row r ≡ k)
   own_of k p at x is whole r n own =
       let e = end_seat (scene_of s.cast) (part_of x) r n (to_part x r n whole own) in
-      fitted.seated k (part_of x) (at ∙ ap Some (sym is)) e.0 (record { queue = n; role = r }) e.1
+      in_place.seated k (part_of x) (at ∙ ap Some (sym is)) e.0 (record { queue = n; role = r }) e.1
 
   part_now : (k : ℕ) (x : Actor) → slice_get nows k ≡ Some x → slice_get s.cast k ≡ Some (part_of x)
   part_now k x at = ap (λ (c : List Part). slice_get c k) (sym cast_now) ∙ map_get part_of nows k x at
@@ -214,7 +221,7 @@ module _ (s : Setting) (rings : List RingIs) (parts : List Apart) (fitted : IsFi
   work = record { fits = fits_now; stands = stands_now; hands_over = λ n. ((queue_at world n).entries, sym (stands_there n)); kinds = kinds }
 
   turns_now : (k : ℕ) (x : Actor) → slice_get nows k ≡ Some x → InTurn (scene_of (map part_of nows)) x passed
-  turns_now = in_turn (end_at world) rows nows passed (subst (IsWired rows) (sym cast_now) fitted.wired) work sends_now
+  turns_now = calm_turns (end_at world) rows s.pools nows passed (subst (IsInPlace rows s.pools) (sym cast_now) in_place) work sends_now
 
   pub holds : Holds history rows world nows []
   holds = record {
@@ -248,8 +255,8 @@ module _ (s : Setting) (rings : List RingIs) (parts : List Apart) (fitted : IsFi
   pub at_play : AreAtPlay history rows nows [] passed world
   at_play = record {
     peopled = subst (λ (c : List Part). IsPeopled rows (length c)) (sym cast_now) fitted.peopled;
-    seated = subst (λ (c : List Part). AreSeated (sheet (scene_of c)) rows c) (sym cast_now) fitted.seated;
-    filled = subst (λ (c : List Part). AreFilled (sheet (scene_of c)) rows c) (sym cast_now) fitted.ends;
+    seated = subst (λ (c : List Part). AreSeated (sheet (scene_of c)) rows c) (sym cast_now) in_place.seated;
+    filled = subst (λ (c : List Part). AreFilled (sheet (scene_of c)) rows c) (sym cast_now) in_place.filled;
     legal = tt;
     flows = (before.flows, tt);
     rows_hold = (rows_at rows nows passed (moved history []) items turns_now stands_now, tt);
@@ -266,6 +273,8 @@ module _ (s : Setting) (rings : List RingIs) (parts : List Apart) (fitted : IsFi
   module _ (owners : (place : PoolPlace) → IsPlaced rows place (map part_of nows) → HasPools s.pools place → HasOwners history rows place (map part_of nows)) where
     refitted : IsFitted (record s { history = history })
     refitted = record {
+      scene_is = fitted.scene_is;
+      names_are = fitted.names_are;
       peopled = fitted.peopled;
       seated = fitted.seated;
       ends = fitted.ends;
@@ -278,7 +287,7 @@ module _ (s : Setting) (rings : List RingIs) (parts : List Apart) (fitted : IsFi
     }
 
     setting_is : begun history rows s.pools nows s.net s.serial s.blk ≡ record s { history = history }
-    setting_is = ap (λ (c : List Part). record s { history = history; cast = c }) cast_now
+    setting_is = ap (λ (c : List Part). record s { history = history; cast = c; scene = scene_of c; names = [] }) cast_now ∙ (ap (λ (z : Scene). record s { history = history; scene = z; names = [] }) (sym fitted.scene_is) ∙ ap (λ (ns : List Noted). record s { history = history; names = ns }) (sym fitted.names_are))
 
     pub goes_on : GoesOn (begun history rows s.pools nows s.net s.serial s.blk) world nows
     goes_on = record { fitted = subst IsFitted (sym setting_is) refitted; before = subst HoldsBefore (sym setting_is) before; holds = holds }
@@ -288,12 +297,13 @@ module _ (s : Setting) (rings : List RingIs) (parts : List Apart) (fitted : IsFi
     rests_as k p at =
         let here : slice_get actors k ≡ Some p.actor = ap (λ (l : List Actor). slice_get l k) done.actors_are ∙ map_get (λ (q : Apart). q.actor) parts k p at in
         let part : slice_get s.cast k ≡ Some (part_of p.actor) = ap (λ (c : List Part). slice_get c k) (sym cast) ∙ map_get part_of actors k p.actor here in
-        rests_left world history (length-map ended track_of ∙ (ended_many ∙ sym left.size)) bells (scene_of s.cast) p passed
+        rests_left world history (length-map ended track_of ∙ (ended_many ∙ sym left.size)) bells s.scene p passed
         (λ r n own. (
         let o = own_of k (part_of p.actor) part p.actor refl (fits_whole (apart_end p) p.actor (fits_apart k p at)) r n own in
         (let lt = there_below rows n o.0 o.1 in let long = left.size in omega (arith, lt, long), same_end rows rings parts actors ended apart peopled done k p at r n o.0 o.1 o.2)
         ))
-        (fits_apart k p at) (subst (λ (c : List Part). InTurn (scene_of c) p.actor passed) cast (held.in_turn k p.actor here)) (held.stands k p.actor here) items
+        (fits_apart k p at) (subst (λ z. InTurn z p.actor passed) (sym fitted.scene_is) (subst (λ (c : List Part). InTurn (scene_of c) p.actor passed) cast (held.in_turn k p.actor here))) (held.stands k p.actor here) items
+        ∙ ap (all_settled history []) (sym (wants_plain (record s { history = history }) (part_of p.actor) (moved history [])))
       where
         bells : HaveBells world history []
         bells n lt = let row = there_is rows n (let long = left.size in omega (arith, lt, long)) in (left.each n row.0 row.1).shown.bells
@@ -319,8 +329,8 @@ module _ (s : Setting) (rings : List RingIs) (parts : List Apart) (come : HaveCo
 
   pub have_gone : HaveGone s.rows rings come.olds parts
   have_gone = record {
-    wired = subst (IsWired s.rows) (sym old_cast) come.fitted.wired;
-    seated = subst (λ (c : List Part). AreSeated (sheet (scene_of c)) s.rows c) (sym old_cast) come.fitted.seated;
+    pools = s.pools;
+    in_place = subst (IsInPlace s.rows s.pools) (sym old_cast) (fitted_place s come.fitted);
     split = come.fitted.split;
     peopled = λ n row at r. subst (λ (m : ℕ). owner_of row r < m) (sym olds_many) (come.fitted.peopled n row at r);
     stood = come.before;

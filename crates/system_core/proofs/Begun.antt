@@ -17,8 +17,8 @@ use Rattle.serial_law.specs.Parts.{SerialPart}
 use Rattle.serial_law.specs.Bytes.{bytes_in}
 use Rattle.serial_law.specs.Serial.{SerialClass, IsSerial, ArrivesInPart, ArrivesWhole}
 use Rattle.actor_set.specs.Parts.{Part, ClientPart}
-use Rattle.actor_set.specs.Laws.Kinds.{serial_part}
-use Rattle.system_core.specs.Shows.{Setting, Shown, hostile_in, sheet_in, moved_in}
+use Rattle.actor_set.specs.Laws.Kinds.{serial_part, sheet}
+use Rattle.system_core.specs.Shows.{Setting, Shown, hostile_in, moved_in}
 use Rattle.actor_set.specs.Laws.Records.{record_by}
 use Rattle.system_core.specs.Lawful.{record_at, IsFitted, IsTold}
 use Rattle.system_core.specs.Crews.{number_named}
@@ -38,7 +38,7 @@ module _ (plan : Plan) (serial : Serial) (first : ℕ) (trace : Trace) (s : Sett
   count = length serial.client
 
   -- a queue of which an actor has an end is there, and can hold an entry
-  holds : (k : ℕ) (p : Part) → slice_get s.cast k ≡ Some p → (i : ℕ) (x : Seat) → slice_get (sheet_in s p).ends i ≡ Some x → Holds (hostile_in s) s.rows x.queue 1
+  holds : (k : ℕ) (p : Part) → slice_get s.cast k ≡ Some p → (i : ℕ) (x : Seat) → slice_get (sheet s.scene p).ends i ≡ Some x → Holds (hostile_in s) s.rows x.queue 1
   holds k p at i x end =
       let seat = fitted.seated k p at i x end in
       let c = fitted.places x.queue seat.0 seat.1 in

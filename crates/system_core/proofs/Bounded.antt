@@ -18,9 +18,9 @@ use Rattle.play_core.proofs.Moments.{last_moment}
 use Rattle.serial_law.specs.Parts.{SerialPart}
 use Rattle.serial_law.specs.Serial.{SerialClass, IsSerial}
 use Rattle.serial_law.proofs.Arrivals.{as_there, RowAt}
-use Rattle.actor_set.specs.Laws.Kinds.{serial_part, scene_of}
+use Rattle.actor_set.specs.Laws.Kinds.{serial_part, sheet}
 use Rattle.actor_set.proofs.LawsLemmas.Calm.{calm_actor, sheet_is}
-use Rattle.wired_law.specs.Wiring.{HasWhole, HasBlk}
+use Rattle.wired_law.specs.Wiring.{HasWholeIn, HasBlkIn}
 use Rattle.cast_core.specs.Sources.{first_serial}
 use Rattle.cast_core.specs.Casts.{net_place, blk_place}
 use Rattle.cast_core.proofs.Seconds.{second_get, second_length}
@@ -28,14 +28,15 @@ use Rattle.cast_bound.specs.PlayBound.Standing.{StandsFrom, Carries, serial_firs
 use Rattle.cast_bound.proofs.Blocks.{blk_within}
 use Rattle.cast_bound.proofs.Networks.{net_within}
 use Rattle.cast_bound.proofs.Bounds.{serial_within, short}
-use Rattle.system_core.specs.Shows.{Setting, Shown, hostile_in, sheet_in, moved_in, RowsStand}
+use Rattle.system_core.specs.Shows.{Setting, Shown, hostile_in, moved_in, RowsStand}
+use Rattle.system_core.proofs.Telling.{PlainRows, rows_plain}
 use Rattle.system_core.specs.Lawful.{StandsLawful}
 use Rattle.system_core.specs.Builds.{IsCastOf, serial_class}
 use Rattle.system_core.proofs.Begun.{There}
 
 -- what is said of a part of the serial class, as one of all
-pub row_as : (s : Setting) (m : Moved) (p : SerialPart) → (sheet_in s (serial_part p)).row m → RowAt m p
-row_as s m p = subst (λ (t : Sheet). t.row m) (sheet_is (scene_of s.cast) p)
+pub row_as : (s : Setting) (m : Moved) (p : SerialPart) → (sheet s.scene (serial_part p)).row m → RowAt m p
+row_as s m p = subst (λ (t : Sheet). t.row m) (sheet_is s.scene p)
 
 first_is : (o : Option Net) → option_map_or (λ (net : Net). 8 + 6 * length net.client) o 0 ≡ serial_first o
 first_is None = refl
@@ -58,8 +59,8 @@ module _ (plan : Plan) (trace : Trace) (valid : Valid plan) (s : Shown) (cast : 
   abbrev went : Moved
   went = moved_in s.setting s.journal
 
-  rows_now : RowsStand s.setting s.journal
-  rows_now = last_moment (RowsStand s.setting) s.journal stands.lawful.rows_hold
+  rows_now : PlainRows s.setting s.journal
+  rows_now = rows_plain s.setting s.journal (last_moment (RowsStand s.setting) s.journal stands.lawful.rows_hold)
 
   flows_at : (j : List Entry) → QueuesFlow s.setting.history s.setting.rows j → QueuesFlow s.setting.history (queues_of plan) j
   flows_at j = subst (λ rs. QueuesFlow s.setting.history rs j) cast.rows
@@ -88,6 +89,6 @@ module _ (plan : Plan) (trace : Trace) (valid : Valid plan) (s : Shown) (cast : 
       (flows_at [] stands.lawful.flows.0)
       (subst (λ rs. LegalJournal (hostile_in s.setting) s.setting.history rs s.journal) cast.rows stands.lawful.legal)
       (subst (λ rs. Brisk (hostile_in s.setting) rs no_drops s.journal) cast.rows stands.lawful.brisk)
-      (net_within plan trace s.setting.cast s.setting.history s.journal valid (λ net has. subst (λ rs. HasWhole rs (net_place plan trace) s.setting.cast) cast.rows (cast.whole net has)) cast.scene flows_now rows_now)
+      (net_within plan trace s.setting.scene s.setting.cast s.setting.history s.journal valid (λ net has. subst (λ rs. HasWholeIn s.setting.scene rs (net_place plan trace) s.setting.cast) cast.rows (cast.whole net has)) cast.scene flows_now rows_now)
       (serial_within plan trace s.setting.cast s.setting.history s.journal flows_now (λ serial has. (class serial has, class_at serial has, carries serial has, rows_of_class serial has)))
-      (blk_within plan trace s.setting.cast s.setting.history s.journal valid (λ blk has. subst (λ rs. HasBlk rs (blk_place plan trace) s.setting.cast) cast.rows (cast.whole_block blk has)) flows_now rows_now)
+      (blk_within plan trace s.setting.scene s.setting.cast s.setting.history s.journal valid (λ blk has. subst (λ rs. HasBlkIn s.setting.scene rs (blk_place plan trace) s.setting.cast) cast.rows (cast.whole_block blk has)) flows_now rows_now)

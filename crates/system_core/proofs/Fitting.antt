@@ -10,16 +10,16 @@ use Rattle.wire_core.proofs.BellTheorem.{starts_hold, starts_flow}
 use Rattle.cargo_core.specs.Capacities.{IsCapacity}
 use Rattle.wire_core.specs.Sizes.{AreSized}
 use Rattle.play_core.specs.Moved.{Seat}
-use Rattle.play_core.specs.Sheets.{Scene, IsSeat}
+use Rattle.play_core.specs.Sheets.{Scene, IsSeat, AreFilled, AreSeated as HaveSeats}
 use Rattle.play_core.proofs.Lists.{map_from, there_is}
 use Rattle.actor_set.specs.Parts.{Part}
 use Rattle.actor_set.specs.Actors.{part_of}
 use Rattle.actor_set.specs.declared.actor.Actor.{Actor}
 use Rattle.actor_set.specs.Laws.Kinds.{sheet, scene_of, hostiles}
-use Rattle.cast_law.specs.Pools.Places.{PoolPlace, IsPlaced, HasPools, ArePooled}
+use Rattle.cast_law.specs.Pools.Places.{PoolPlace, IsInPlace, IsPlaced, HasPools, ArePooled}
 use Rattle.cast_law.specs.Pools.Pooling.{HasOwners}
 use Rattle.cast_law.proofs.PoolsLemmas.Playing.{owners_anew}
-use Rattle.system_core.specs.Shows.{Crew}
+use Rattle.system_core.specs.Shows.{Crew, Setting}
 use Rattle.system_core.specs.States.{begun}
 use Rattle.cast_law.specs.Seats.{AreSeated}
 use Rattle.system_core.specs.Lawful.{IsFitted}
@@ -35,6 +35,15 @@ capacities rows places = λ k d lt. places k (get_or rows k d) (slice_get-get_or
 
 pub are_sized : (rows : List QueueRow) → length rows ≤ 65536 → ((n : ℕ) (row : QueueRow) → slice_get rows n ≡ Some row → IsCapacity row.capacity) → AreSized rows
 are_sized rows few places = record { few = few; capacities = capacities rows places }
+
+-- the cast of a setting that fits is in place
+pub fitted_place : (s : Setting) → IsFitted s → IsInPlace s.rows s.pools s.cast
+fitted_place s fitted = record {
+  peopled = fitted.peopled;
+  seated = subst (λ z. HaveSeats (sheet z) s.rows s.cast) fitted.scene_is fitted.seated;
+  filled = subst (λ z. AreFilled (sheet z) s.rows s.cast) fitted.scene_is fitted.ends;
+  pooled = fitted.pooled;
+}
 
 -- seated actors fit the rows
 module _ (rows : List QueueRow) (actors : List Actor) (s : AreSeated rows actors) where
@@ -63,6 +72,8 @@ module _ (rows : List QueueRow) (actors : List Actor) (s : AreSeated rows actors
   module _ (history : History) (pools : List PoolRow) (net serial blk : Crew) (pooled : ArePooled rows pools (map part_of actors)) (owners : (place : PoolPlace) → IsPlaced rows place (map part_of actors) → HasPools pools place → HasOwners history rows place (map part_of actors)) where
     pub seated_fit : IsFitted (begun history rows pools actors net serial blk)
     seated_fit = record {
+      scene_is = refl;
+      names_are = refl;
       peopled = λ n row at r. subst (λ m. owner_of row r < m) (sym (length-map actors part_of)) (s.peers n row at r);
       seated = end_given;
       ends = seat_given;
@@ -76,8 +87,10 @@ module _ (rows : List QueueRow) (actors : List Actor) (s : AreSeated rows actors
 
 -- the start state goes on from a history in which nothing happened
 pub start_goes : (rows : List QueueRow) (pools : List PoolRow) (actors : List Actor) (net serial blk : Crew) → AreSeated rows actors → ArePooled rows pools (map part_of actors) → GoesOn (begun (start_history rows) rows pools actors net serial blk) (starts rows) actors
-start_goes rows pools actors net serial blk s pooled = record {
-  fitted = seated_fit rows actors s (start_history rows) pools net serial blk pooled (λ place placed has. owners_anew rows (map part_of actors) (end_given rows actors s) place placed has.numbered);
-  before = record { bells_hold = starts_hold (hostiles (map part_of actors)) rows; flows = starts_flow rows };
-  holds = start_holds rows actors (seated_start rows actors s);
-}
+start_goes rows pools actors net serial blk s pooled =
+    let start : Setting = begun (start_history rows) rows pools actors net serial blk in
+    let fitted : IsFitted start = seated_fit rows actors s (start_history rows) pools net serial blk pooled (λ place placed has. owners_anew rows (map part_of actors) (end_given rows actors s) place placed has.numbered) in record {
+      fitted = fitted;
+      before = record { bells_hold = starts_hold (hostiles (map part_of actors)) rows; flows = starts_flow rows };
+      holds = start_holds rows pools actors (fitted_place start fitted) (seated_start rows actors s);
+    }

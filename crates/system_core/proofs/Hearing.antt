@@ -19,6 +19,7 @@ use Rattle.system_core.specs.Inside.{shown_of, setting_of, IsSystem}
 use Rattle.system_core.specs.declared.system.System.TheInside.{Inside}
 use Rattle.std.proofs.lemmas.List.{length-map}
 use Rattle.system_core.proofs.Stepping.{runs_below}
+use Rattle.system_core.proofs.Telling.{runs_plain}
 use Rattle.actor_set.proofs.LawsLemmas.Rows.{heard_here}
 use Rattle.system_core.proofs.RunsNow.{items_here}
 use Rattle.system_core.proofs.Recording.{records_at, wire_here, replies_at}
@@ -66,7 +67,7 @@ module _ (a : Inside) (i : IsSystem a) where
   -- a runnable actor is one of its actors
   pub runner_there : (place k : ℕ) → slice_get a.running.list place ≡ Some k → k < length a.actors.items
   runner_there place k at =
-      let below = runs_below (setting_of a).history a.rows.items (map part_of a.actors.items) a.journal.items place k (rw i.running at at) in
+      let below = runs_below (setting_of a).history a.rows.items (map part_of a.actors.items) a.journal.items place k (rw (i.running ∙ runs_plain (setting_of a) a.journal.items) at at) in
       let size = length-map a.actors.items part_of in
       omega (arith, below, size)
 

@@ -1,18 +1,19 @@
 -- The proofs on a system at play.
 pub mod Rising
 pub mod Places
+pub mod Telling
 pub mod SystemStep
 pub mod Playing
 pub mod RunsNow
-pub mod Stepping
 pub mod Taking
 pub mod Starting
+pub mod Seating
+pub mod Fitting
+pub mod Stepping
 pub mod Recording
 pub mod Lining
 pub mod Counting
 pub mod Hearing
-pub mod Seating
-pub mod Fitting
 pub mod Scripts
 pub mod Casting
 pub mod Begun

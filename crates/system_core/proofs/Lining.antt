@@ -20,6 +20,7 @@ use Rattle.cast_law.proofs.PagesLemmas.Holding.{cast_whole, cast_shown, cast_onc
 use Rattle.cast_law.proofs.PoolsLemmas.Goodness.{none_bad}
 use Rattle.cast_law.proofs.PoolsLemmas.Playing.{bare, begins_anew, play_kinds, play_lines, play_whole, pools_few}
 use Rattle.system_core.specs.Shows.{hostile_in}
+use Rattle.system_core.proofs.Telling.{each_plain}
 use Rattle.system_core.specs.States.{bad_in}
 use Rattle.system_core.specs.Inside.{setting_of, shown_of, IsSystem}
 use Rattle.system_core.specs.Lawful.{TellsBuffers}
@@ -38,7 +39,7 @@ module _ (a : Inside) (i : IsSystem a) where
     filled = i.fitted.ends;
     legal = i.holds.legal;
     flows = queues_flow (hostile_in (setting_of a)) (setting_of a).history a.rows.items a.journal.items i.before.flows i.holds.legal;
-    rows_hold = i.rows_hold;
+    rows_hold = each_plain (setting_of a) a.journal.items i.rows_hold;
     items = items_here (setting_of a).history a.rows.items a.world a.actors.items a.journal.items i.holds;
     stands_there = i.holds.stands_there;
     size = i.holds.size;

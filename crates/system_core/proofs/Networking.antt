@@ -23,8 +23,7 @@ use Rattle.play_core.proofs.Merges.{prefix_merge_whole}
 use Rattle.play_core.proofs.OneQueue.{whole_prefix}
 use Rattle.net_quiet.specs.Still.{ArrivesAll, SendsAll}
 use Rattle.actor_set.specs.Parts.{NetworkPart}
-use Rattle.actor_set.specs.Laws.Kinds.{scene_of}
-use Rattle.wired_law.specs.Wiring.{HasWhole}
+use Rattle.wired_law.specs.Wiring.{HasWholeIn}
 use Rattle.cast_core.specs.Casts.{net_place, client_pools}
 use Rattle.cast_core.specs.Sources.{client_mac, client_program}
 use Rattle.cast_core.proofs.Listing.{value_count, value_at, value_is}
@@ -43,14 +42,14 @@ module _ (plan : Plan) (net : Net) (trace : Trace) (s : Shown) (cast : IsCastOf 
   abbrev place : NetPlace
   place = net_place plan trace
 
-  whole : HasWhole s.setting.rows place s.setting.cast
+  whole : HasWholeIn s.setting.scene s.setting.rows place s.setting.cast
   whole = cast.whole net has
 
   tells : TellsFrames s place
   tells = told.frames place whole
 
   -- the scene has the frames that the trace gives its device
-  frames : (scene_of s.setting.cast).frames ≡ trace.frames
+  frames : s.setting.scene.frames ≡ trace.frames
   frames = ap (λ (x : Scene). x.frames) cast.scene ∙ ap (λ o. option_map_or (λ (n : Net). trace.frames) o []) has
 
   who : s.setting.net ≡ crew_of (Some (eth_number plan).0) (map (λ (c : Client). number_named plan c.pd) net.client)
@@ -93,7 +92,7 @@ module _ (plan : Plan) (net : Net) (trace : Trace) (s : Shown) (cast : IsCastOf 
   }
 
   -- where all frames went through, all are seen
-  module _ (arrives : ArrivesAll (scene_of s.setting.cast) place (moved_in s.setting s.journal)) (sends : SendsAll (scene_of s.setting.cast) place (moved_in s.setting s.journal)) where
+  module _ (arrives : ArrivesAll s.setting.scene place (moved_in s.setting s.journal)) (sends : SendsAll s.setting.scene place (moved_in s.setting s.journal)) where
     record_whole : (c : ℕ) (mac : Mac) (got : List (List ℕ)) → slice_get place.macs c ≡ Some mac → slice_get s.state.net c ≡ Some got → got ≡ frames_for mac trace.frames
     record_whole c mac got address at =
         let is = record_is c mac got address at in

@@ -1,5 +1,5 @@
 -- Where nobody is runnable, all frames of the network went through, and all replies of the block class.
-use Rattle.std.proofs.Common.{◌≡◌, Some, [], sym, subst, arith}
+use Rattle.std.proofs.Common.{◌≡◌, ◌∙◌, Some, [], sym, subst, arith}
 use Rattle.std.proofs.lemmas.List.{length-map}
 use Rattle.wire_core.specs.Journal.{BellsHold, QueuesFlow}
 use Rattle.sdf_plan.specs.declared.plan.Plan.{Plan}
@@ -18,14 +18,15 @@ use Rattle.net_quiet.proofs.Receiving.{arrives_all, sends_all}
 use Rattle.blk_law.specs.Sheets.Numbers.{BlkPlace}
 use Rattle.blk_quiet.specs.Still.{HasBlkRooms, IsBlock, AnswersAll}
 use Rattle.blk_quiet.proofs.Answering.{answers_all}
-use Rattle.actor_set.specs.Laws.Kinds.{scene_of}
-use Rattle.wired_law.specs.Wiring.{HasWhole, HasBlk}
+use Rattle.wired_law.specs.Wiring.{HasWhole, HasWholeIn, HasBlkIn}
 use Rattle.wired_law.proofs.QuietLemmas.Quieting.{network_there}
 use Rattle.wired_law.proofs.QuietLemmas.Answering.{block_there}
 use Rattle.cast_core.specs.Casts.{net_place, blk_place}
 use Rattle.cast_law.proofs.QuietLemmas.Rooms.{pools_are, rooms_are}
 use Rattle.cast_law.proofs.QuietLemmas.Blocks.{blk_pools_are, blk_rooms_are}
-use Rattle.system_core.specs.Shows.{Shown, manner_in, hostile_in, sheet_in, moved_in, RowsStand}
+use Rattle.system_core.specs.Shows.{Shown, manner_in, hostile_in, moved_in, RowsStand}
+use Rattle.system_core.proofs.Telling.{rows_plain, runs_plain}
+use Rattle.actor_set.specs.Laws.Kinds.{sheet}
 use Rattle.system_core.specs.Plays.{runnable_now}
 use Rattle.system_core.specs.Lawful.{StandsLawful}
 use Rattle.system_core.specs.Builds.{IsCastOf}
@@ -35,14 +36,14 @@ use Rattle.system_core.proofs.Replying.{shows_all_replies}
 
 module _ (s : Shown) (stands : StandsLawful s) (quiet : runnable_now s ≡ []) where
   abbrev actors : Needful
-  actors = needful (sheet_in s.setting) s.setting.cast (moved_in s.setting s.journal)
+  actors = needful (sheet s.setting.scene) s.setting.cast (moved_in s.setting s.journal)
 
   pub still_now : IsStill (hostile_in s.setting) s.setting.history s.setting.rows actors s.journal
   still_now = quiet_still (manner_in s.setting) s.setting.history s.setting.rows actors s.journal (record {
     bells_hold = last_moment (BellsHold (hostile_in s.setting) s.setting.history s.setting.rows) s.journal stands.lawful.bells_hold;
     flows = last_moment (QueuesFlow s.setting.history s.setting.rows) s.journal stands.lawful.flows;
-    peopled = λ n row at r. let lt = stands.fitted.peopled n row at r in let size = length-map s.setting.cast (λ p. (sheet_in s.setting p).wants (moved_in s.setting s.journal)) in omega (arith, lt, size);
-    quiet = quiet;
+    peopled = λ n row at r. let lt = stands.fitted.peopled n row at r in let size = length-map s.setting.cast (λ p. (sheet s.setting.scene p).wants (moved_in s.setting s.journal)) in omega (arith, lt, size);
+    quiet = sym (runs_plain s.setting s.journal) ∙ quiet;
   })
 
   -- the network of a plan
@@ -50,37 +51,37 @@ module _ (s : Shown) (stands : StandsLawful s) (quiet : runnable_now s ≡ []) w
     abbrev place : NetPlace
     place = net_place plan trace
 
-    whole : HasWhole s.setting.rows place s.setting.cast
+    whole : HasWholeIn s.setting.scene s.setting.rows place s.setting.cast
     whole = cast.whole net has
 
     rooms : HasRooms (hostile_in s.setting) s.setting.rows place
-    rooms = subst (λ rows. HasRooms (hostile_in s.setting) rows place) (sym cast.rows) (rooms_are plan trace net has valid s.setting.cast (subst (λ rows. HasWhole rows place s.setting.cast) cast.rows whole))
+    rooms = subst (λ rows. HasRooms (hostile_in s.setting) rows place) (sym cast.rows) (rooms_are plan trace net has valid s.setting.cast (subst (λ rows. HasWhole rows place s.setting.cast) cast.rows (subst (λ z. HasWholeIn z s.setting.rows place s.setting.cast) stands.fitted.scene_is whole)))
 
-    network : IsNetwork (hostile_in s.setting) (scene_of s.setting.cast) s.setting.rows actors place (moved_in s.setting s.journal)
-    network = network_there s.setting.rows s.setting.cast (moved_in s.setting s.journal) place whole (pools_are plan trace net has valid) rooms (last_moment (RowsStand s.setting) s.journal stands.lawful.rows_hold)
+    network : IsNetwork (hostile_in s.setting) s.setting.scene s.setting.rows actors place (moved_in s.setting s.journal)
+    network = network_there s.setting.rows s.setting.cast (moved_in s.setting s.journal) place whole (pools_are plan trace net has valid) rooms (rows_plain s.setting s.journal (last_moment (RowsStand s.setting) s.journal stands.lawful.rows_hold))
 
     pub shows_whole_net : ShowsAllFrames place trace.frames s.state
     shows_whole_net =
         shows_all_frames plan net trace s cast has stands.told
-        (arrives_all (hostile_in s.setting) s.setting.history s.setting.rows actors s.journal (scene_of s.setting.cast) place still_now network)
-        (sends_all (hostile_in s.setting) s.setting.history s.setting.rows actors s.journal (scene_of s.setting.cast) place still_now network)
+        (arrives_all (hostile_in s.setting) s.setting.history s.setting.rows actors s.journal s.setting.scene place still_now network)
+        (sends_all (hostile_in s.setting) s.setting.history s.setting.rows actors s.journal s.setting.scene place still_now network)
 
   -- the block class of a plan
   module _ (plan : Plan) (valid : Valid plan) (blk : Blk) (has : plan.blk ≡ Some blk) (trace : Trace) (cast : IsCastOf plan trace s.setting) where
     abbrev disk_place : BlkPlace
     disk_place = blk_place plan trace
 
-    blk_whole : HasBlk s.setting.rows disk_place s.setting.cast
+    blk_whole : HasBlkIn s.setting.scene s.setting.rows disk_place s.setting.cast
     blk_whole = cast.whole_block blk has
 
     blk_rooms : HasBlkRooms (hostile_in s.setting) s.setting.rows disk_place
     blk_rooms = subst (λ rows. HasBlkRooms (hostile_in s.setting) rows disk_place) (sym cast.rows) (blk_rooms_are plan trace valid blk has s.setting.cast)
 
-    block : IsBlock (hostile_in s.setting) (scene_of s.setting.cast) s.setting.rows actors disk_place (moved_in s.setting s.journal)
-    block = block_there s.setting.rows s.setting.cast (moved_in s.setting s.journal) disk_place blk_whole (blk_pools_are plan trace valid blk has) blk_rooms (last_moment (RowsStand s.setting) s.journal stands.lawful.rows_hold)
+    block : IsBlock (hostile_in s.setting) s.setting.scene s.setting.rows actors disk_place (moved_in s.setting s.journal)
+    block = block_there s.setting.rows s.setting.cast (moved_in s.setting s.journal) disk_place blk_whole (blk_pools_are plan trace valid blk has) blk_rooms (rows_plain s.setting s.journal (last_moment (RowsStand s.setting) s.journal stands.lawful.rows_hold))
 
-    answers : AnswersAll (scene_of s.setting.cast) disk_place (moved_in s.setting s.journal)
-    answers = answers_all (hostile_in s.setting) s.setting.history s.setting.rows actors s.journal (scene_of s.setting.cast) disk_place still_now block
+    answers : AnswersAll s.setting.scene disk_place (moved_in s.setting s.journal)
+    answers = answers_all (hostile_in s.setting) s.setting.history s.setting.rows actors s.journal s.setting.scene disk_place still_now block
 
     pub shows_whole_blk : ShowsAllReplies disk_place s.state
     shows_whole_blk = shows_all_replies plan blk trace s cast has stands.told answers.answered

@@ -14,7 +14,6 @@ seated_start rows actors s = record {
   fits = λ k x at. new_fits rows k x (s.new k x at) (s.apart k x at) (s.seats k x at);
   stands = λ k x at. new_stands x (s.new k x at);
   owners = λ k x at r n own row there. let seat = s.seats k x at r n own in ap (λ q. owner_of q r) (some_is (sym there ∙ seat.there)) ∙ seat.owner;
-  wired = s.wired;
   rounds = λ k x at. start_round x (s.apart k x at) (s.split k x at);
   peers = s.peers;
   few = s.few;

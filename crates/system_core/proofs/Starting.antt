@@ -1,6 +1,7 @@
 use Rattle.std.proofs.Common.{◌≡◌, ◌<◌, ◌≤◌, ◌+◌, ℕ, Bool, true, false, not, Some, List, [], ◌∷◌, ◌++◌, length, map, take, slice_get, slice_index_or, length-append, length-take, refl, sym, ap, ◌∙◌, subst, arith, zero, suc, min}
 use Rattle.std.proofs.lemmas.List.{take_all, length-map, append-nil}
 use Rattle.std.proofs.lemmas.Option.{slice_get_read}
+use Rattle.wire_core.specs.declared.names.PoolRow.{PoolRow}
 use Rattle.wire_core.specs.declared.names.QueueRow.{QueueRow}
 use Rattle.wire_core.specs.Lists.{nothing_passed}
 use Rattle.wire_core.specs.Queues.{Queue, starts, queue_at, end_at, is_pending}
@@ -18,9 +19,10 @@ use Rattle.actor_set.specs.Parts.{Part}
 use Rattle.play_core.specs.Manners.{Manner}
 use Rattle.actor_set.specs.Laws.Kinds.{sheet, scene_of, manner_of, manners, idles}
 use Rattle.actor_set.proofs.LawsLemmas.Calm.{manner_at}
-use Rattle.wired_law.proofs.Wiring.{in_turn, nothing_sent}
+use Rattle.wired_law.proofs.Wiring.{nothing_sent}
 use Rattle.owner_law.proofs.PoolsLemmas.Handing.{carry_start}
-use Rattle.cast_law.specs.Pools.Places.{cast_naming}
+use Rattle.cast_law.specs.Pools.Places.{IsInPlace, cast_naming}
+use Rattle.cast_law.proofs.TurnsLemmas.{calm_turns}
 use Rattle.system_core.specs.Runnings.{with_number}
 use Rattle.system_core.specs.Starts.{AreStarting}
 use Rattle.system_core.specs.Systems.{Holds}
@@ -47,8 +49,8 @@ none_stored (a ∷ rows) zero = refl
 none_stored (a ∷ rows) (suc n) = none_stored rows n
 
 -- a start state holds
-pub start_holds : (rows : List QueueRow) (actors : List Actor) → AreStarting rows actors → Holds (start_history rows) rows (starts rows) actors []
-start_holds rows actors s = record {
+pub start_holds : (rows : List QueueRow) (pools : List PoolRow) (actors : List Actor) → IsInPlace rows pools (map part_of actors) → AreStarting rows actors → Holds (start_history rows) rows (starts rows) actors []
+start_holds rows pools actors in_place s = record {
   passed = nothing_passed;
   stands_there = λ n. sym (nothing_there rows n);
   shows_taken = λ n. ap (λ t. t.taken) (sym (start_is rows n));
@@ -60,7 +62,7 @@ start_holds rows actors s = record {
   stands = s.stands;
   carry = λ place placed. carry_start (cast_naming (scene_of (map part_of actors)) place) rows;
   sends = nothing_sent rows (map part_of actors);
-  in_turn = in_turn (end_at (starts rows)) rows actors nothing_passed s.wired (record { fits = s.fits; stands = s.stands; hands_over = λ n. ([], refl); kinds = λ n row at k c there. cc }) (nothing_sent rows (map part_of actors));
+  in_turn = calm_turns (end_at (starts rows)) rows pools actors nothing_passed in_place (record { fits = s.fits; stands = s.stands; hands_over = λ n. ([], refl); kinds = λ n row at k c there. cc }) (nothing_sent rows (map part_of actors));
   owners = s.owners;
   unstored = λ n row at calm. none_stored rows n;
   paced = λ k x at calm. paced_anew (pendings (start_history rows) []) (actor_round x) (s.rounds k x at);

@@ -40,7 +40,9 @@ use Rattle.system_core.proofs.RunsNow.{idle_here, not_not, rests_here}
 use Rattle.actor_set.proofs.LawsLemmas.PartEnds.{from_part, seat_end}
 use Rattle.actor_set.proofs.LawsLemmas.Paces.{called_end}
 use Rattle.actor_set.proofs.LawsLemmas.Rounds.{rests_is}
-use Rattle.wired_law.specs.Wiring.{IsWired}
+use Rattle.cast_law.specs.Pools.Places.{IsInPlace}
+use Rattle.system_core.proofs.Fitting.{fitted_place}
+use Rattle.system_core.proofs.Telling.{plain_runs, rows_told, runs_plain}
 use Rattle.wire_core.proofs.Sinces.{eqb_apart, eqb_refl}
 use Rattle.wire_core.specs.declared.names.Op.{Op}
 use Rattle.system_core.proofs.Places.{places_kept, places_clear, places_so, places_below, places_few}
@@ -96,7 +98,7 @@ module _ (history : History) (rows : List QueueRow) (cast : List Part) where
   running_few room le j = let f : length (places_from 0 (flags j)) ≤ length (flags j) = places_few 0 (flags j) in let g : length (flags j) ≡ length cast = flags_count j in omega arith
 
 -- actor k, which is x, makes the call of event e on a queue of this row, and is then x'
-module _ (history : History) (rows : List QueueRow) (w v : List Queue) (actors : List Actor) (journal : List Entry) (k : ℕ) (x x' : Actor) (e : Event) (row : QueueRow) (here : slice_get actors k ≡ Some x) (old : Holds history rows w actors journal) (seated : AreSeated (sheet (scene_of (map part_of actors))) rows (map part_of actors)) (wired : IsWired rows (map part_of actors)) (split : (n : ℕ) (row_ : QueueRow) → slice_get rows n ≡ Some row_ → row_.producer.0 ≡ row_.consumer.0 → ⊥) (own : ActorEnd x (role_of e.op) e.queue.0) (st : Stepped ActorStandsFor Happens w v x x' e) (turned : ActorTurned x e x') (pressed : is_at_rest (actor_round x) ≡ true → IsCalled (pendings history journal) (actor_round x).posts) (fits : FitsActor (end_at v) x') (part : part_of x' ≡ part_of x) (there : slice_get rows e.queue.0 ≡ Some row) where
+module _ (history : History) (rows : List QueueRow) (w v : List Queue) (actors : List Actor) (journal : List Entry) (k : ℕ) (x x' : Actor) (e : Event) (row : QueueRow) (here : slice_get actors k ≡ Some x) (old : Holds history rows w actors journal) (pools : List PoolRow) (in_place : IsInPlace rows pools (map part_of actors)) (split : (n : ℕ) (row_ : QueueRow) → slice_get rows n ≡ Some row_ → row_.producer.0 ≡ row_.consumer.0 → ⊥) (own : ActorEnd x (role_of e.op) e.queue.0) (st : Stepped ActorStandsFor Happens w v x x' e) (turned : ActorTurned x e x') (pressed : is_at_rest (actor_round x) ≡ true → IsCalled (pendings history journal) (actor_round x).posts) (fits : FitsActor (end_at v) x') (part : part_of x' ≡ part_of x) (there : slice_get rows e.queue.0 ≡ Some row) where
   abbrev cast : List Part
   cast = map part_of actors
 
@@ -107,7 +109,7 @@ module _ (history : History) (rows : List QueueRow) (w v : List Queue) (actors :
   flag j = flags history rows cast j
 
   then_holds : Holds history rows v (slice_set actors k x') after_
-  then_holds = step_holds history rows w v actors journal k x x' e here old own st turned pressed seated split wired fits part
+  then_holds = step_holds history rows w v actors journal k x x' e here old own st turned pressed pools in_place split fits part
 
   owner : owner_of row (role_of e.op) ≡ k
   owner = old.owners k x here (role_of e.op) e.queue.0 own row there
@@ -124,7 +126,7 @@ module _ (history : History) (rows : List QueueRow) (w v : List Queue) (actors :
       others_case : ((p : Part) × (slice_get cast i ≡ Some p)) ⊎ (length cast ≤ i) → slice_get (flag after_) i ≡ slice_get (flag journal) i
       others_case (inl p) =
           flag_of history rows cast after_ i p.0 p.1
-          ∙ (ap Some (others_run (sheet (scene_of cast)) (sheet_own (scene_of cast)) (manners cast) history rows cast seated journal k e row there may i p.0 p.1 away quiet)
+          ∙ (ap Some (others_run (sheet (scene_of cast)) (sheet_own (scene_of cast)) (manners cast) history rows cast in_place.seated journal k e row there may i p.0 p.1 away quiet)
           ∙ sym (flag_of history rows cast journal i p.0 p.1))
       others_case (inr past) =
           slice_get_past (flag after_) i (let n = flags_count history rows cast after_ in omega arith)
@@ -194,9 +196,9 @@ called_so false b e g = cc
 -- an actor that is runnable at rest has an end where a notification is pending
 module _ (history : History) (rows : List QueueRow) (pools : List PoolRow) (net serial blk : Crew) (w : List Queue) (actors : List Actor) (journal : List Entry) (k : ℕ) (x : Actor) (place : ℕ) where
   abbrev now_set : Setting
-  now_set = record { history = history; rows = rows; pools = pools; cast = map part_of actors; net = net; serial = serial; blk = blk }
+  now_set = record { history = history; rows = rows; pools = pools; cast = map part_of actors; scene = scene_of (map part_of actors); names = []; net = net; serial = serial; blk = blk }
 
-  runs_called : IsFitted now_set → Holds history rows w actors journal → slice_get actors k ≡ Some x → slice_get (runs now_set journal) place ≡ Some k → is_at_rest (actor_round x) ≡ true → IsCalled (pendings history journal) (actor_round x).posts
+  runs_called : IsFitted now_set → Holds history rows w actors journal → slice_get actors k ≡ Some x → slice_get (plain_runs now_set journal) place ≡ Some k → is_at_rest (actor_round x) ≡ true → IsCalled (pendings history journal) (actor_round x).posts
   runs_called fitted old here at rest =
       let part : slice_get (map part_of actors) k ≡ Some (part_of x) = map_get part_of actors k x here in
       let so = places_so 0 k k place (flags history rows (map part_of actors) journal) (omega arith) at in
@@ -233,31 +235,32 @@ pub record StepThen (setting : Setting) (v : List Queue) (actors : List Actor) (
 
 module _ (history : History) (rows : List QueueRow) (pools : List PoolRow) (net serial blk : Crew) (w v : List Queue) (actors : List Actor) (journal : List Entry) (k : ℕ) (x x' y : Actor) (e : Event) (row : QueueRow) (rung : Option ℕ) (woken idle : Bool) (place : ℕ) (list : List ℕ) (room : ℕ) where
   abbrev setting : Setting
-  setting = record { history = history; rows = rows; pools = pools; cast = map part_of actors; net = net; serial = serial; blk = blk }
+  setting = record { history = history; rows = rows; pools = pools; cast = map part_of actors; scene = scene_of (map part_of actors); names = []; net = net; serial = serial; blk = blk }
 
   pub system_then : IsFitted setting → Holds history rows w actors journal → EachMoment (RowsStand setting) journal → list ≡ runs setting journal → length actors ≤ room → Brisk (hostile_in setting) rows no_drops journal
       → slice_get list place ≡ Some k → x ≡ slice_index_or actors k x → ActorEnd x (role_of e.op) e.queue.0 → Stepped ActorStandsFor Happens w v x x' e → ActorTurned x e x' → FitsActor (end_at v) x' → part_of x' ≡ part_of x
       → y ≡ slice_index_or (slice_set actors k x') k y → row ≡ slice_index_or rows e.queue.0 row → idle ≡ idles (manner_of (part_of y)) (actor_rests y) (is_pending k v) → rung ≡ reach_of e.op row k → IsAsked (slice_set actors k x') v rung woken
       → StepThen setting v (slice_set actors k x') (journal ++ entry_of k e ∷ []) (with_option rung woken (removed_if idle list place)) room
   system_then fitted old rows_old running le brisk at x_is own st turned fits part y_is row_is idle_is rung_is asked =
-      let at' : slice_get (runs setting journal) place ≡ Some k = rw (← running) at in
+      let running' : list ≡ plain_runs setting journal = running ∙ runs_plain setting journal in
+      let at' : slice_get (plain_runs setting journal) place ≡ Some k = rw (← running') at in
       let size : length (map part_of actors) ≡ length actors = length-map actors part_of in
       let below : k < length (map part_of actors) = runs_below history rows (map part_of actors) journal place k at' in
       let lt : k < length actors = omega (arith, below, size) in
       let here : slice_get actors k ≡ Some x = slice_get_read actors _ k x refl lt x_is in
       let there : slice_get rows e.queue.0 ≡ Some row = slice_get_read rows _ e.queue.0 row refl (subst (λ n. e.queue.0 < n) old.size st.happened.there) row_is in
       let pressed = runs_called history rows pools net serial blk w actors journal k x place fitted old here at' in
-      let new = step_holds history rows w v actors journal k x x' e here old own st turned pressed fitted.seated fitted.split fitted.wired fits part in
+      let new = step_holds history rows w v actors journal k x x' e here old own st turned pressed pools (fitted_place setting fitted) fitted.split fits part in
       let cast_is = map_same part_of actors k x x' here part in
       let y_same : y ≡ x' = some_is (sym (slice_get_read (slice_set actors k x') _ k y refl (subst (λ n. k < n) (sym (length-set actors k x')) lt) y_is) ∙ slice_get_written actors k x x' here) in
-      let then_is = running_then history rows w v actors journal k x x' e row here old fitted.seated fitted.wired fitted.split own st turned pressed fits part there rung woken idle place (sym rung_is) asked (idle_is ∙ ap (λ a. idles (manner_of (part_of a)) (actor_rests a) (is_pending k v)) y_same) at' in
-      let list_is : with_option rung woken (removed_if idle list place) ≡ runs setting (journal ++ entry_of k e ∷ []) = ap (λ l. with_option rung woken (removed_if idle l place)) running ∙ sym then_is in
+      let then_is = running_then history rows w v actors journal k x x' e row here old pools (fitted_place setting fitted) fitted.split own st turned pressed fits part there rung woken idle place (sym rung_is) asked (idle_is ∙ ap (λ a. idles (manner_of (part_of a)) (actor_rests a) (is_pending k v)) y_same) at' in
+      let list_is : with_option rung woken (removed_if idle list place) ≡ plain_runs setting (journal ++ entry_of k e ∷ []) = ap (λ l. with_option rung woken (removed_if idle l place)) running' ∙ sym then_is in
       record {
         holds = new;
         cast_is = cast_is;
-        rows_hold = (rows_old.0, EachFrom-append _ [] journal _ rows_old.1 (subst (λ cast. RowsHold (sheet (scene_of (map part_of actors))) (hostiles (map part_of actors)) cast (moved history (journal ++ entry_of k e ∷ []))) cast_is (rows_now (scene_of (map part_of actors)) history rows v (slice_set actors k x') (journal ++ entry_of k e ∷ []) new (ap scene_of cast_is) (hostiles (map part_of actors)))));
+        rows_hold = (rows_old.0, EachFrom-append _ [] journal _ rows_old.1 (rows_told setting (journal ++ entry_of k e ∷ []) (subst (λ cast. RowsHold (sheet (scene_of (map part_of actors))) (hostiles (map part_of actors)) cast (moved history (journal ++ entry_of k e ∷ []))) cast_is (rows_now (scene_of (map part_of actors)) history rows v (slice_set actors k x') (journal ++ entry_of k e ∷ []) new (ap scene_of cast_is) (hostiles (map part_of actors))))));
         brisk = (brisk.0, EachFrom-append (λ b d. AreFew (hostile_in setting) rows no_drops (b ++ d ∷ [])) [] journal (entry_of k e) brisk.1 (subst (λ cast. AreFew (hostiles cast) rows no_drops (journal ++ entry_of k e ∷ [])) cast_is (few_holds history rows v (slice_set actors k x') (journal ++ entry_of k e ∷ []) new)));
-        running = list_is;
+        running = list_is ∙ sym (runs_plain setting (journal ++ entry_of k e ∷ []));
         room_is = rw length-set le;
         few = rw list_is (running_few history rows (map part_of actors) room (omega (arith, le, size)) (journal ++ entry_of k e ∷ []));
       }

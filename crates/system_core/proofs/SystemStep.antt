@@ -7,6 +7,7 @@ use Rattle.std.proofs.lemmas.Bool.Decides.{eqb_tells}
 use Rattle.cargo_core.specs.Items.{kind_of}
 use Rattle.cargo_core.specs.declared.item.Item.{Item}
 use Rattle.cargo_core.specs.declared.item.QueueKind.TheVariants as Kind
+use Rattle.wire_core.specs.declared.names.PoolRow.{PoolRow}
 use Rattle.wire_core.specs.declared.names.QueueRow.{QueueRow}
 use Rattle.wire_core.specs.declared.names.Event.{Event}
 use Rattle.wire_core.specs.declared.names.Entry.{Entry}
@@ -33,7 +34,7 @@ use Rattle.actor_set.specs.Actors.{FitsActor, ActorStandsFor, ActorEnd, ActorTur
 use Rattle.actor_set.proofs.LawsLemmas.Rounds.{turned_is}
 use Rattle.actor_set.specs.Parts.{Part}
 use Rattle.play_core.specs.Moved.{moved}
-use Rattle.play_core.specs.Sheets.{AreSeated, RowsHold}
+use Rattle.play_core.specs.Sheets.{RowsHold}
 use Rattle.owner_law.specs.Pages.{CarryPages}
 use Rattle.actor_set.specs.Laws.Kinds.{sheet, scene_of, hostiles}
 use Rattle.actor_set.specs.Laws.Turning.{InTurn}
@@ -44,9 +45,10 @@ use Rattle.actor_set.proofs.LawsLemmas.PartEnds.{same_part}
 use Rattle.actor_set.proofs.LawsLemmas.Starts.{fits_whole}
 use Rattle.play_core.specs.Rests.Showing.{HaveItems}
 use Rattle.wired_law.specs.Wiring.{IsWired, AreAtWork, ClientsSend}
-use Rattle.cast_law.specs.Pools.Places.{PoolPlace, IsPlaced, cast_naming}
+use Rattle.cast_law.specs.Pools.Places.{PoolPlace, IsInPlace, IsPlaced, cast_naming}
+use Rattle.cast_law.proofs.TurnsLemmas.{calm_turns, wired_place}
 use Rattle.cast_law.proofs.PoolsLemmas.Playing.{carry_call, rows_at}
-use Rattle.wired_law.proofs.Wiring.{in_turn, sends_on}
+use Rattle.wired_law.proofs.Wiring.{sends_on}
 use Rattle.play_core.proofs.Lists.{some_is, map_get}
 
 pub no_row : QueueRow
@@ -291,21 +293,25 @@ module _ (history : History) (rows : List QueueRow) (w v : List Queue) (actors :
   unfolding passed'
   sends' wired new part = sends_on (end_at w) (end_at v) rows actors (slice_set actors k x') old.passed deed wired (all_parts part) works old.sends (works' new)
 
+  -- nothing comes out of turn after it
+  turns' : (pools : List PoolRow) → IsInPlace rows pools (map part_of actors) → FitsActor (end_at v) x' → part_of x' ≡ part_of x → (j : ℕ) (y : Actor) → slice_get (slice_set actors k x') j ≡ Some y → InTurn (scene_of (map part_of (slice_set actors k x'))) y passed'
+  turns' pools in_place new part = calm_turns (end_at v) rows pools (slice_set actors k x') passed' (subst (IsInPlace rows pools) (sym (all_parts part)) in_place) (works' new) (sends' (wired_place rows pools (map part_of actors) in_place) new part)
+
   -- rows hold before the call, and after it
   rows_before : RowsHold (sheet (scene_of (map part_of actors))) (hostiles (map part_of actors)) (map part_of actors) (moved history journal)
   rows_before = rows_at rows actors old.passed (moved history journal) (record { taken = old.shows_taken; sent = old.shows_sent }) old.in_turn old.stands
 
-  carry' : AreSeated (sheet (scene_of (map part_of actors))) rows (map part_of actors) → ((n : ℕ) (row : QueueRow) → slice_get rows n ≡ Some row → row.producer.0 ≡ row.consumer.0 → ⊥) → IsWired rows (map part_of actors) → FitsActor (end_at v) x' → part_of x' ≡ part_of x → (place : PoolPlace) → IsPlaced rows place (map part_of (slice_set actors k x')) → CarryPages (cast_naming (scene_of (map part_of (slice_set actors k x'))) place) (moved history (journal ++ entry_of k e ∷ [])) passed'
+  carry' : (pools : List PoolRow) → IsInPlace rows pools (map part_of actors) → ((n : ℕ) (row : QueueRow) → slice_get rows n ≡ Some row → row.producer.0 ≡ row.consumer.0 → ⊥) → FitsActor (end_at v) x' → part_of x' ≡ part_of x → (place : PoolPlace) → IsPlaced rows place (map part_of (slice_set actors k x')) → CarryPages (cast_naming (scene_of (map part_of (slice_set actors k x'))) place) (moved history (journal ++ entry_of k e ∷ [])) passed'
   unfolding passed' deed
-  carry' seated split wired new part place placed =
+  carry' pools in_place split new part place placed =
       let placed_old : IsPlaced rows place (map part_of actors) = subst (IsPlaced rows place) (all_parts part) placed in
-      let turns = in_turn (end_at v) rows (slice_set actors k x') passed' (subst (IsWired rows) (sym (all_parts part)) wired) (works' new) (sends' wired new part) in
+      let turns = turns' pools in_place new part in
       let items : HaveItems passed' (moved history (journal ++ entry_of k e ∷ [])) = record { taken = shows_taken'; sent = shows_sent' } in
       let rows_new = rows_at rows (slice_set actors k x') passed' (moved history (journal ++ entry_of k e ∷ [])) items turns (λ j y at. stands' j y at (eqb_tells j k)) in
       subst (λ c. CarryPages (cast_naming (scene_of c) place) (moved history (journal ++ entry_of k e ∷ [])) passed') (sym (all_parts part))
       (carry_call rows place (map part_of actors) (moved history journal) (moved history (journal ++ entry_of k e ∷ [])) old.passed deed k x' (record {
         placed = placed_old;
-        seated = seated;
+        seated = in_place.seated;
         split = split;
         carried = old.carry place placed_old;
         rows_before = rows_before;
@@ -322,8 +328,8 @@ module _ (history : History) (rows : List QueueRow) (w v : List Queue) (actors :
       }))
 
   -- all goes on to hold
-  pub step_holds : AreSeated (sheet (scene_of (map part_of actors))) rows (map part_of actors) → ((n : ℕ) (row : QueueRow) → slice_get rows n ≡ Some row → row.producer.0 ≡ row.consumer.0 → ⊥) → IsWired rows (map part_of actors) → FitsActor (end_at v) x' → part_of x' ≡ part_of x → Holds history rows v (slice_set actors k x') (journal ++ entry_of k e ∷ [])
-  step_holds seated split wired new part = record {
+  pub step_holds : (pools : List PoolRow) → IsInPlace rows pools (map part_of actors) → ((n : ℕ) (row : QueueRow) → slice_get rows n ≡ Some row → row.producer.0 ≡ row.consumer.0 → ⊥) → FitsActor (end_at v) x' → part_of x' ≡ part_of x → Holds history rows v (slice_set actors k x') (journal ++ entry_of k e ∷ [])
+  step_holds pools in_place split new part = record {
     passed = passed';
     stands_there = λ n. there_after n (eqb_tells e.queue.0 n);
     shows_taken = shows_taken';
@@ -333,9 +339,9 @@ module _ (history : History) (rows : List QueueRow) (w v : List Queue) (actors :
     queues = queues';
     fits = λ j y at. fits' new j y at (eqb_tells j k);
     stands = λ j y at. stands' j y at (eqb_tells j k);
-    carry = carry' seated split wired new part;
-    sends = sends' wired new part;
-    in_turn = in_turn (end_at v) rows (slice_set actors k x') passed' (subst (IsWired rows) (sym (all_parts part)) wired) (works' new) (sends' wired new part);
+    carry = carry' pools in_place split new part;
+    sends = sends' (wired_place rows pools (map part_of actors) in_place) new part;
+    in_turn = turns' pools in_place new part;
     owners = λ j y at. owners' part (fits_whole (end_at v) x' new) j y at (eqb_tells j k);
     unstored = λ n row at calm. unstored' n row at (subst (λ cast. is_calm (hostiles cast) row ≡ true) (map_same part_of actors k x x' here part) calm) (eqb_tells e.queue.0 n);
     paced = λ j y at calm. paced' j y at (subst (λ cast. HasCalmQueues (hostiles cast) rows j) (map_same part_of actors k x x' here part) calm) (eqb_tells j k);

@@ -18,8 +18,9 @@ use Rattle.serial_law.specs.Parts.{SerialPart}
 use Rattle.serial_law.specs.Table.{serial_sheet}
 use Rattle.serial_law.specs.Serial.{SerialClass, IsSerial, ArrivesInPart, ArrivesWhole}
 use Rattle.serial_law.proofs.Arrivals.{as_there, RowAt}
-use Rattle.actor_set.specs.Laws.Kinds.{serial_part, scene_of}
-use Rattle.system_core.specs.Shows.{Setting, Shown, hostile_in, sheet_in, moved_in, runs, RowsStand}
+use Rattle.actor_set.specs.Laws.Kinds.{serial_part, sheet}
+use Rattle.system_core.specs.Shows.{Setting, Shown, hostile_in, moved_in, runs, RowsStand}
+use Rattle.system_core.proofs.Telling.{rows_plain}
 use Rattle.system_core.specs.Plays.{Played, IsSpent, runnable_now}
 use Rattle.system_core.specs.declared.system.Ending.{Ending}
 use Rattle.system_core.specs.declared.system.Ending.TheVariants as Ends
@@ -39,8 +40,8 @@ use Rattle.system_core.proofs.Replying.{shows_replies}
 use Rattle.system_core.proofs.PoolsLemmas.Showing.{tells_owners}
 use Rattle.system_core.proofs.Begun.{There, serial_there, shows_in_part, shows_whole}
 
-plays_as : (s : Setting) (hostile : Hostiles) (actors : Needful) (m : Moved) (p : SerialPart) → Plays hostile actors m (sheet_in s (serial_part p)) → Plays hostile actors m (serial_sheet p)
-plays_as s hostile actors m p = subst (Plays hostile actors m) (sheet_is (scene_of s.cast) p)
+plays_as : (s : Setting) (hostile : Hostiles) (actors : Needful) (m : Moved) (p : SerialPart) → Plays hostile actors m (sheet s.scene (serial_part p)) → Plays hostile actors m (serial_sheet p)
+plays_as s hostile actors m p = subst (Plays hostile actors m) (sheet_is s.scene p)
 
 -- the law of the serial class
 abbrev pub LawInPart : Type 0
@@ -58,7 +59,7 @@ module _ (s : Shown) (stands : StandsLawful s) (class : SerialClass) (there : Is
   arrives_at : LawInPart → (j : List Entry) → RowsStand s.setting j → QueuesFlow s.setting.history s.setting.rows j → ArrivesInPart class (moved_in s.setting j)
   arrives_at law j rows flows =
       law (hostile_in s.setting) s.setting.history s.setting.rows j class flows
-      (as_there (There s.setting) (RowAt (moved_in s.setting j)) (λ p at. row_as s.setting (moved_in s.setting j) p (rows at.0 (serial_part p) (calm_actor s.setting.cast at.0) at.1)) (hostile_in s.setting) s.setting.rows class there)
+      (as_there (There s.setting) (RowAt (moved_in s.setting j)) (λ p at. row_as s.setting (moved_in s.setting j) p (rows_plain s.setting j rows at.0 (serial_part p) (calm_actor s.setting.cast at.0) at.1)) (hostile_in s.setting) s.setting.rows class there)
 
   arrives : LawInPart → EachMoment (λ j. ArrivesInPart class (moved_in s.setting j)) s.journal
   arrives law = each_moment (RowsStand s.setting) (QueuesFlow s.setting.history s.setting.rows) (λ j. ArrivesInPart class (moved_in s.setting j)) (arrives_at law) s.journal stands.lawful.rows_hold stands.lawful.flows
@@ -67,13 +68,13 @@ module _ (s : Shown) (stands : StandsLawful s) (class : SerialClass) (there : Is
   arrives_now law = last_moment (λ j. ArrivesInPart class (moved_in s.setting j)) s.journal (arrives law)
 
   abbrev actors : Needful
-  actors = needful (sheet_in s.setting) s.setting.cast (moved_in s.setting s.journal)
+  actors = needful (sheet s.setting.scene) s.setting.cast (moved_in s.setting s.journal)
 
   arrives_whole : LawWhole → runnable_now s ≡ [] → ArrivesWhole class (moved_in s.setting s.journal)
   arrives_whole law quiet =
       law (hostile_in s.setting) s.setting.history s.setting.rows actors s.journal class (still_now s stands quiet)
       (as_there (There s.setting) (λ p. Plays (hostile_in s.setting) actors (moved_in s.setting s.journal) (serial_sheet p))
-      (λ p at. plays_as s.setting (hostile_in s.setting) actors (moved_in s.setting s.journal) p (plays_there (sheet_in s.setting) (hostile_in s.setting) s.setting.cast (moved_in s.setting s.journal) (last_moment (RowsStand s.setting) s.journal stands.lawful.rows_hold) at.0 (serial_part p) (calm_actor s.setting.cast at.0) at.1))
+      (λ p at. plays_as s.setting (hostile_in s.setting) actors (moved_in s.setting s.journal) p (plays_there (sheet s.setting.scene) (hostile_in s.setting) s.setting.cast (moved_in s.setting s.journal) (rows_plain s.setting s.journal (last_moment (RowsStand s.setting) s.journal stands.lawful.rows_hold)) at.0 (serial_part p) (calm_actor s.setting.cast at.0) at.1))
       (hostile_in s.setting) s.setting.rows class there)
 
 -- a system of a plan and a trace, whatever its queues had before its journal begins

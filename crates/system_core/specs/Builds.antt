@@ -8,8 +8,7 @@ use Rattle.trace_text.specs.declared.trace.Trace.{Trace}
 use Rattle.region_layout.specs.Rows.{queues_of, actors_of, pools_of}
 use Rattle.serial_law.specs.Serial.{SerialClass}
 use Rattle.layout_laws.specs.Jobs.Jobs.{Job, HasJob}
-use Rattle.actor_set.specs.Laws.Kinds.{scene_of}
-use Rattle.wired_law.specs.Wiring.{HasWhole, HasBlk}
+use Rattle.wired_law.specs.Wiring.{HasWholeIn, HasBlkIn}
 use Rattle.cast_core.specs.Casts.{job_part, net_place, blk_place, scene_for}
 use Rattle.cast_core.specs.Sources.{every_second}
 use Rattle.system_core.specs.Shows.{Setting, Shown}
@@ -36,14 +35,15 @@ pub record IsCastOf (plan : Plan) (trace : Trace) (s : Setting) : Type 0 where
   pub pools : s.pools ≡ pools_of plan
   pub count : length s.cast ≡ length (actors_of plan)
   -- the scene in which their needs and rows are said
-  pub scene : scene_of s.cast ≡ scene_for plan trace
+  pub scene : s.scene ≡ scene_for plan trace
   -- the actor of each job has the part of that job
   pub parts : (job : Job) (k : ℕ) → HasJob plan job k
       → slice_get s.cast k ≡ job_part plan trace job
   -- the network class is there as a whole, and the block class
-  pub whole : (net : Net) → plan.net ≡ Some net → HasWhole s.rows (net_place plan trace) s.cast
+  pub whole : (net : Net) → plan.net ≡ Some net
+      → HasWholeIn s.scene s.rows (net_place plan trace) s.cast
   pub whole_block : (blk : Blk) → plan.blk ≡ Some blk
-      → HasBlk s.rows (blk_place plan trace) s.cast
+      → HasBlkIn s.scene s.rows (blk_place plan trace) s.cast
   -- the devices and the clients are those of the plan
   pub net : s.net ≡ net_crew plan
   pub serial : s.serial ≡ serial_crew plan

@@ -28,30 +28,34 @@ use Rattle.owner_law.specs.Owners.{Table, replay}
 use Rattle.owner_law.specs.Keeping.{start_table}
 use Rattle.cast_law.specs.PoolLines.PoolLines.{table_lines}
 use Rattle.actor_set.specs.Parts.{Part, NetworkPart, BlockPart}
-use Rattle.actor_set.specs.Laws.Kinds.{scene_of}
+use Rattle.actor_set.specs.Laws.Kinds.{scene_of, sheet}
 use Rattle.actor_set.specs.Laws.Records.{record_by}
-use Rattle.wired_law.specs.Wiring.{HasWhole, HasNoNetwork, HasBlk, HasNoBlock, IsWired}
+use Rattle.wired_law.specs.Wiring.{HasWholeIn, HasNoNetwork, HasBlkIn, HasNoBlock, IsWiredIn}
 use Rattle.cast_law.specs.Pages.Paging.{part_pools, pools_weigh}
 use Rattle.cast_law.specs.Pools.Places.{PoolPlace, IsPlaced, HasPools, ArePooled, cast_naming}
 use Rattle.cast_law.specs.Pools.Places.{place_sizes}
 use Rattle.cast_law.specs.Pools.Pooling.{keepers_at, BeginsWith, HasOwners, AreKindly}
-use Rattle.system_core.specs.Shows.{Setting, Shown, hostile_in, sheet_in, moved_in, RowsStand}
+use Rattle.system_core.specs.Shows.{Setting, Shown, hostile_in, moved_in, RowsStand}
 
 -- the rows and the actors fit one another
 pub record IsFitted (s : Setting) : Type 0 where
+  -- the scene is what these actors' parts give
+  pub scene_is : s.scene ≡ scene_of s.cast
+  -- no names are kept yet, as nobody is hostile
+  pub names_are : s.names ≡ []
   -- each queue's owners are among the actors
   pub peopled : IsPeopled s.rows (length s.cast)
   -- each end of an actor is one that the rows give it
-  pub seated : AreSeated (sheet_in s) s.rows s.cast
+  pub seated : AreSeated (sheet s.scene) s.rows s.cast
   -- and each that they give it is one of its ends
   pub ends : (k : ℕ) (p : Part) → slice_get s.cast k ≡ Some p → (x : Seat) → IsSeat s.rows k x
-      → (i : ℕ) × (slice_get (sheet_in s p).ends i ≡ Some x)
+      → (i : ℕ) × (slice_get (sheet s.scene p).ends i ≡ Some x)
   -- no actor has both ends of a queue
   pub split : (n : ℕ) (row : QueueRow) → slice_get s.rows n ≡ Some row
       → row.producer.0 ≡ row.consumer.0 → ⊥
   -- the actors of the network, if there are any, are the whole class at the layout's queues, and so
   -- are those of the block class
-  pub wired : IsWired s.rows s.cast
+  pub wired : IsWiredIn s.scene s.rows s.cast
   -- its pools are those of these classes, where it has them, and none else; and what was put and
   -- taken before the journal begins shows a table of owners, in which each of their buffers has its
   -- place
@@ -81,7 +85,7 @@ record_at s k = option_map_or (record_by (moved_in s.setting s.journal))
 
 -- the frames on the wire as the journal tells them: those of the items that the device took
 abbrev pub wire_of : Shown → NetPlace → List (List ℕ)
-wire_of s net = wire_at net (scene_of s.setting.cast).frames
+wire_of s net = wire_at net s.setting.scene.frames
     ((moved_in s.setting s.journal).taken (net.first + 2))
 
 -- at a place of the network the record of a client that has buffers is a beginning of the frames
@@ -93,14 +97,14 @@ pub record TellsFrames (s : Shown) (net : NetPlace) : Type 0 where
       → slice_get s.setting.cast k
       ≡ Some (NetworkPart (client_at net.first j program mac pools))
       → 1 ≤ pools.rx.buffers → slice_get net.macs j ≡ Some mac → slice_get s.state.net c ≡ Some got
-      → IsPrefix got (frames_for mac (scene_of s.setting.cast).frames)
+      → IsPrefix got (frames_for mac s.setting.scene.frames)
       × (length got
       ≡ length ((moved_in s.setting s.journal).taken (client_first net.first j + 2)))
   pub wire : (k : ℕ) → s.setting.net.device ≡ Some k
       → slice_get s.setting.cast k
-      ≡ Some (NetworkPart (device_at net.first (scene_of s.setting.cast).frames))
+      ≡ Some (NetworkPart (device_at net.first s.setting.scene.frames))
       → (s.state.wire ≡ Some (wire_of s net))
-      × PrefixMerge (sends_at net.programs net.macs (scene_of s.setting.cast).frames)
+      × PrefixMerge (sends_at net.programs net.macs s.setting.scene.frames)
       (wire_of s net)
 
 -- at a place of the block class a client's record is a beginning of what it must get, a reply for
@@ -115,8 +119,8 @@ TellsReplies s blk = (c k j : ℕ) (asks : List Ask) (pool : PoolAt) (entry : �
     → length got ≡ length ((moved_in s.setting s.journal).taken (blk.first + 5 + 2 * j)))
 
 -- what stands in queues, in hands and is lent are the buffers of the cast's pools, one by one:
--- whatever is counted of them by pool, number and length, it is what all buffers of the pools weigh,
--- each with its pool's length
+-- whatever is counted of them by pool, number and length, it is what all buffers of the pools
+-- weigh, each with its pool's length
 pub record TellsBuffers (place : PoolPlace) (s : Shown) : Type 0 where
   pub all : (f : Count) → counted f s.state.bodies ≡ pools_weigh f s.setting.cast
   -- so each buffer of each pool is there once
@@ -134,21 +138,23 @@ pub record IsTold (s : Shown) : Type 0 where
   pub serial : s.state.serial ≡ map (record_at s) s.setting.serial.clients
   pub wire : is_some s.state.wire ≡ is_some s.setting.net.device
   pub net : length s.state.net ≡ length s.setting.net.clients
-  pub frames : (net : NetPlace) → HasWhole s.setting.rows net s.setting.cast → TellsFrames s net
+  pub frames : (net : NetPlace)
+      → HasWholeIn s.setting.scene s.setting.rows net s.setting.cast → TellsFrames s net
   pub blk : length s.state.blk ≡ length s.setting.blk.clients
-  pub replies : (blk : BlkPlace) → HasBlk s.setting.rows blk s.setting.cast → TellsReplies s blk
+  pub replies : (blk : BlkPlace)
+      → HasBlkIn s.setting.scene s.setting.rows blk s.setting.cast → TellsReplies s blk
   -- the lines of the pools are those of the table of owners after the journal, from any table on
   -- with which it begins
   pub pools : (place : PoolPlace) → IsPlaced s.setting.rows place s.setting.cast
       → HasPools s.setting.pools place → (start : Table)
       → BeginsWith s.setting.history s.setting.rows place s.setting.cast start → s.state.pools
-      ≡ table_lines (replay (cast_naming (scene_of s.setting.cast) place) s.setting.history start
+      ≡ table_lines (replay (cast_naming s.setting.scene place) s.setting.history start
       s.journal) 0 s.setting.pools
   -- so they are from the start state on, from the table on in which each pool's buffers are in the
   -- hand of the actor that owns it
   pub pools_anew : s.setting.history ≡ start_history s.setting.rows → (place : PoolPlace)
       → IsPlaced s.setting.rows place s.setting.cast → HasPools s.setting.pools place
-      → s.state.pools ≡ table_lines (replay (cast_naming (scene_of s.setting.cast) place)
+      → s.state.pools ≡ table_lines (replay (cast_naming s.setting.scene place)
       (start_history s.setting.rows) (start_table (keepers_at s.setting.cast)) s.journal) 0
       s.setting.pools
   -- without a network and a block class there are none

@@ -10,7 +10,6 @@ use Rattle.owner_law.specs.Census.{IsPool}
 use Rattle.cast_law.specs.PoolLines.PoolLines.{table_lines}
 use Rattle.sdf_plan.specs.declared.plan.Plan.{Plan}
 use Rattle.region_layout.specs.Rows.{pools_of}
-use Rattle.actor_set.specs.Laws.Kinds.{scene_of}
 use Rattle.cast_law.specs.Pools.Places.{PoolPlace, cast_naming, place_sizes}
 use Rattle.cast_law.specs.Pools.Pooling.{keepers_at, BeginsWith}
 use Rattle.system_core.specs.Shows.{Shown}
@@ -30,7 +29,7 @@ owners_table s = start_table (keepers_at s.setting.cast)
 -- the table of owners of such a system after a journal, from this one on
 abbrev pub table_after : PoolPlace → (first : Table) → Shown → List Entry → Table
 table_after place first s journal =
-    replay (cast_naming (scene_of s.setting.cast) place) s.setting.history first journal
+    replay (cast_naming s.setting.scene place) s.setting.history first journal
 
 -- after a journal each buffer of a pool has its one place in that table; each move so far found its
 -- buffer or lease in the place that it leaves, and a lent buffer has as many receivers as there are
@@ -38,7 +37,7 @@ table_after place first s journal =
 pub record HaveOneOwner (place : PoolPlace) (first : Table) (s : Shown) (journal : List Entry)
     : Type 0 where
   pub pools : (k : ℕ) → IsPool (table_after place first s journal) k (place_sizes place k)
-  pub moves : OneOwner (cast_naming (scene_of s.setting.cast) place) s.setting.history first journal
+  pub moves : OneOwner (cast_naming s.setting.scene place) s.setting.history first journal
 
 -- of each line the buffers in queues and in hands and the lent ones are all that the pool has
 abbrev pub AllAdd : List Census → Type 0

@@ -10,11 +10,13 @@ use Rattle.wire_core.specs.declared.names.Entry.{Entry}
 use Rattle.wire_core.specs.Journal.{History, Hostiles}
 use Rattle.cargo_core.specs.declared.census.Census.{Census}
 use Rattle.play_core.specs.Moved.{Moved, moved}
-use Rattle.play_core.specs.Sheets.{Sheet, needful, RowsHold}
+use Rattle.play_core.specs.Sheets.{Scene, Sheet, needful, RowsHold}
 use Rattle.play_core.specs.Manners.{Manners}
+use Rattle.play_core.specs.Names.{Noted, told_by, wild_in}
 use Rattle.play_core.specs.Runs.{runnable}
 use Rattle.actor_set.specs.Parts.{Part}
-use Rattle.actor_set.specs.Laws.Kinds.{sheet, scene_of, manners, hostiles}
+use Rattle.actor_set.specs.Laws.Kinds.{manners, hostiles}
+use Rattle.actor_set.specs.Laws.Scenes.{told_sheet}
 
 -- which of the actors are the device and the clients of a class, these in their order
 pub record Crew : Type 0 where
@@ -22,12 +24,16 @@ pub record Crew : Type 0 where
   pub clients : List ℕ
 
 -- what stays the same while a system is played: what its queues had before its journal begins, its
--- queues, its pools by their numbers, its actors' parts, and who is who in the classes
+-- queues, its pools by their numbers, its actors' parts, the scene in which needs and rows are
+-- said, with the names that are kept of entries of queues with a hostile end (none yet, as nobody
+-- is hostile), and who is who in the classes
 pub record Setting : Type 0 where
   pub history : History
   pub rows : List QueueRow
   pub pools : List PoolRow
   pub cast : List Part
+  pub scene : Scene
+  pub names : List Noted
   pub net : Crew
   pub serial : Crew
   pub blk : Crew
@@ -59,9 +65,9 @@ manner_in s = manners s.cast
 abbrev pub hostile_in : Setting → Hostiles
 hostile_in s = hostiles s.cast
 
--- what is said of each part there
+-- what is said of each part there, by these names
 abbrev pub sheet_in : Setting → Part → Sheet
-sheet_in s = sheet (scene_of s.cast)
+sheet_in s = told_sheet s.scene (wild_in (hostile_in s) s.rows) (told_by s.names)
 
 -- what went through the queues, by a journal
 abbrev pub moved_in : Setting → List Entry → Moved

@@ -12,6 +12,7 @@ use Rattle.spsc_queue.specs.Known.Ends.{EndedIs}
 use Rattle.cast_law.specs.PoolLines.PoolLines.{counted_lines}
 use Rattle.actor_set.specs.Actors.{part_of, bad_of, actor_hand, actor_lent}
 use Rattle.actor_set.specs.declared.actor.Actor.{Actor}
+use Rattle.actor_set.specs.Laws.Kinds.{scene_of}
 use Rattle.order_law.specs.Ended.Tracks.{track_of}
 use Rattle.actor_set.specs.Laws.Records.{record_of, frames_got, replies_got}
 use Rattle.cast_law.specs.Pools.Holders.{holders_of}
@@ -61,7 +62,8 @@ abbrev pub history_of : List QueueRow → List EndedIs → History
 history_of rows [] = start_history rows
 history_of rows (ring ∷ rings) = map track_of (ring ∷ rings)
 
--- these queues, pools and actors, with what the queues had before the journal begins
+-- these queues, pools and actors, in the scene of these and with no names kept, with what the
+-- queues had before the journal begins
 abbrev pub begun : History → List QueueRow → List PoolRow → List Actor → (net serial blk : Crew)
     → Setting
 begun history rows pools actors net serial blk = record {
@@ -69,6 +71,8 @@ begun history rows pools actors net serial blk = record {
   rows = rows;
   pools = pools;
   cast = map part_of actors;
+  scene = scene_of (map part_of actors);
+  names = [];
   net = net;
   serial = serial;
   blk = blk;

@@ -1,5 +1,5 @@
 -- A wired cast has the whole network at the layout's queues, at which nothing comes out of turn.
-use Rattle.std.proofs.Common.{◌≡◌, ◌⊎◌, ◌+◌, ◌*◌, ◌<◌, ◌≤◌, ℕ, false, Some, List, [], length, map, slice_get, inl, inr, sym, ap, ◌∙◌, subst, arith}
+use Rattle.std.proofs.Common.{◌≡◌, ◌⊎◌, ◌+◌, ◌*◌, ◌<◌, ◌≤◌, ℕ, zero, suc, true, false, Some, List, [], ◌∷◌, length, map, slice_get, inl, inr, sym, ap, ◌∙◌, subst, arith}
 use Rattle.std.proofs.lemmas.List.{append-nil}
 use Rattle.cargo_core.specs.Lists.{IsPrefix, PrefixMerge}
 use Rattle.frame_core.specs.declared.mac.Mac.{Mac}
@@ -8,7 +8,7 @@ use Rattle.wire_core.specs.Deeds.{Cargo, Deed}
 use Rattle.wire_core.specs.Ends.{Role, End}
 use Rattle.wire_core.specs.Lists.{Passed, nothing_passed, with_deed}
 use Rattle.wire_core.specs.Queues.{items_of}
-use Rattle.play_core.proofs.Lists.{map_get, map_from, prefix_trans, there_is, there_below}
+use Rattle.play_core.proofs.Lists.{map_get, map_from, prefix_trans, some_is, there_is, there_below}
 use Rattle.net_law.proofs.Beginnings.{begins_map}
 use Rattle.net_virt_tx.specs.Sending.{TxRow}
 use Rattle.device_model.specs.declared.ethernet.EthDevice.{EthDevice}
@@ -29,7 +29,8 @@ use Rattle.owner_law.specs.Pools.Places.{PoolAt}
 use Rattle.net_law.specs.Parts.Parts.{NetClient as ClientPart}
 use Rattle.net_law.specs.Parts.Numbers.{device_at, driver_at, client_first, receiver_at, copier_at, client_at}
 use Rattle.net_law.specs.Parts.Playing.{device_part, receiver_part, copier_part, client_part, stock_pool, AreLeases, ReceivesInTurn}
-use Rattle.net_law.specs.TxParts.Numbers.{NetPlace, own_pools, sender_at}
+use Rattle.net_law.specs.TxParts.Numbers.{NetPlace, own_pools, sender_at, shippers_from}
+use Rattle.net_law.specs.TxParts.Parts.{SendPart, Shipper}
 use Rattle.net_law.specs.TxParts.Playing.{send_part}
 use Rattle.net_law.specs.TxScene.Playing.{CalmGood}
 use Rattle.net_quiet.specs.Cast.Casting.{IsCast, IsReceiverAt, IsCopierAt, IsClientAt}
@@ -47,11 +48,11 @@ use Rattle.actor_set.specs.Laws.Records.{frames_got}
 use Rattle.actor_set.specs.Laws.Turning.{InTurn}
 use Rattle.actor_set.specs.Laws.Scenes.{ToldInTurn}
 use Rattle.actor_set.proofs.LawsLemmas.NetRows.{device_row_of}
-use Rattle.play_core.specs.Names.{GrowsTo, Names, Wild, name_of, names_at, names_of, wild_in}
+use Rattle.play_core.specs.Names.{Names, Wild, name_of, names_at, names_of, wild_in}
 use Rattle.play_core.specs.Sheets.{Scene}
 use Rattle.actor_set.specs.Laws.Kinds.{hostiles, scene_of}
 use Rattle.actor_set.proofs.LawsLemmas.Told.{none_wild}
-use Rattle.wired_law.specs.Wiring.{IsOfNetwork, HasWholeIn, HasNoNetwork, HasBlkIn, HasNoBlock, HasPart, IsWired, IsWiredIn, NetClientsSendIn, ClientsAsk, ClientsSend, ClientsSendIn, AreAtWork, AreInTurn}
+use Rattle.wired_law.specs.Wiring.{IsOfNetwork, HasWholeIn, HasNoNetwork, HasBlkIn, HasNoBlock, HasPart, IsWired, IsWiredIn, NetClientsSendIn, ClientsAsk, ClientsSend, ClientsSendIn, AreAtWork, AreInTurn, TellsKept}
 use Rattle.wired_law.proofs.Acting.{device_actor, driver_actor, receiver_actor, sender_actor, copier_actor, client_actor}
 use Rattle.wired_law.proofs.Deeds.{puts_or_takes}
 use Rattle.wired_law.proofs.Blocks.{disk_by, virt_by, client_by, nothing_asked, asks_by}
@@ -81,6 +82,19 @@ copier_is net frames c (inr (inr (inr (inl e)))) = absurd cc
 copier_is net frames c (inr (inr (inr (inr (inl k))))) = let e = k.2 in (k.0, k.1, cc)
 copier_is net frames c (inr (inr (inr (inr (inr k))))) = let e = k.5 in absurd cc
 
+-- the queues of a client of the sending virtualiser
+shipper_is : (first most k : ℕ) (qs : List ClientPools) (j : ℕ) (c : Shipper) → slice_get (shippers_from first most k qs) j ≡ Some c → (c.active ≡ client_first first (k + j) + 4) × (c.free ≡ client_first first (k + j) + 5) × (j < length qs)
+shipper_is first most k [] j c at = cc
+shipper_is first most k (q ∷ qs) zero c at =
+    let plus : k ≡ k + 0 = omega arith in
+    let same = some_is at in
+    (ap (λ (s : Shipper). s.active) (sym same) ∙ ap (λ n. client_first first n + 4) plus, ap (λ (s : Shipper). s.free) (sym same) ∙ ap (λ n. client_first first n + 5) plus, omega arith)
+shipper_is first most k (q ∷ qs) (suc j) c at =
+    let rest = shipper_is first most (k + 1) qs j c at in
+    let below = rest.2 in
+    let shift : k + 1 + j ≡ k + suc j = omega arith in
+    (rest.0 ∙ ap (λ n. client_first first n + 4) shift, rest.1 ∙ ap (λ n. client_first first n + 5) shift, omega (arith, below))
+
 pub sender_is : (net : NetPlace) (frames : List (List ℕ)) (v : NetVirtTx) → IsOfNetwork net frames (SendingPart (send_part v)) → send_part v ≡ sender_at net.first net.most net.pools
 sender_is net frames v (inl e) = absurd cc
 sender_is net frames v (inr (inl e)) = absurd cc
@@ -104,8 +118,8 @@ module _ (scene : Scene) (ends : Role → ℕ → End) (rows : List QueueRow) (a
   actor_of p has = let x = map_from part_of actors has.0 p has.1 in (x.0, x.2, work.fits has.0 x.0 x.1, work.stands has.0 x.0 x.1)
 
   -- the names of what was taken are told
-  told_at : (names : Names) → GrowsTo (names_at passed) names → (n : ℕ) → IsPrefix (names_of (passed.taken n)) (names n)
-  told_at names grown n = prefix_trans (names_of (passed.taken n)) (names_of (passed.sent n)) (names n) (begins_map (λ (c : Cargo). name_of c.1) (passed.taken n) (passed.sent n) (work.hands_over n)) (grown n)
+  told_at : (names : Names) → TellsKept wild names passed → (n : ℕ) → wild n ≡ true → IsPrefix (names_of (passed.taken n)) (names n)
+  told_at names kept n is_wild = prefix_trans (names_of (passed.taken n)) (names_of (passed.sent n)) (names n) (begins_map (λ (c : Cargo). name_of c.1) (passed.taken n) (passed.sent n) (work.hands_over n)) (kept n is_wild)
 
   module _ (net : NetPlace) (whole : HasWholeIn scene rows net cast) where
     receiver_at_work : (v : NetVirtRx) → receiver_part v ≡ receiver_at net.first net.pool net.macs → FitsActor ends (Kinds.NetVirtRx v) → ActorStandsFor (Kinds.NetVirtRx v) passed → IsReceiverAt net.first net.pool net.macs v passed
@@ -244,37 +258,48 @@ module _ (scene : Scene) (ends : Role → ℕ → End) (rows : List QueueRow) (a
         by (inl e) = e
         by (inr (j, q, q_at, e, is_wild)) = let calm = none q.0 in absurd cc
 
-    whole_turns : CalmSend wild net passed → HasNoBlock cast ⊎ ((place : BlkPlace) × HasBlkIn scene rows place cast) → ClientsAsk cast passed → (names : Names) → GrowsTo (names_at passed) names → AreInTurn wild actors passed → (k : ℕ) (x : Actor) → slice_get actors k ≡ Some x → FitsActor ends x → ActorStandsFor x passed → ToldInTurn scene wild names x passed
-    whole_turns sends block ask names grown turn k (Kinds.UartDevice x) at fits stands = tt
-    whole_turns sends block ask names grown turn k (Kinds.UartDriver x) at fits stands = tt
-    whole_turns sends block ask names grown turn k (Kinds.SerialVirtRx x) at fits stands = tt
-    whole_turns sends block ask names grown turn k (Kinds.SerialVirtTx x) at fits stands = tt
-    whole_turns sends block ask names grown turn k (Kinds.SerialClient x) at fits stands = tt
-    whole_turns sends block ask names grown turn k (Kinds.EthDevice x) at fits stands = tt
-    whole_turns sends block ask names grown turn k (Kinds.EthDriver x) at fits stands = tt
-    whole_turns sends block ask names grown turn k (Kinds.NetVirtRx v) at fits stands = receiver_turns v (receiver_at_work v (receiver_is net frames v (whole.only k (receiver_part v) (map_get part_of actors k (Kinds.NetVirtRx v) at))) fits stands)
-    whole_turns sends block ask names grown turn k (Kinds.NetCopier c) at fits stands =
+    -- a hostile client has both its queues for sending
+    free_wild : (v : NetVirtTx) → send_part v ≡ sender_at net.first net.most net.pools → (j : ℕ) (c : Shipper) → slice_get (send_part v).clients j ≡ Some c → wild c.active ≡ true → wild c.free ≡ true
+    free_wild v part j c c_at is_wild =
+        let is = shipper_is net.first net.most 0 net.pools j c (ap (λ (p : SendPart). slice_get p.clients j) (sym part) ∙ c_at) in
+        let below = is.2 in
+        let pools_many = whole.pools_many in
+        let plus : 0 + j ≡ j = omega arith in
+        let active : c.active ≡ client_first net.first j + 4 = is.0 ∙ ap (λ n. client_first net.first n + 4) plus in
+        let free : c.free ≡ client_first net.first j + 5 = is.1 ∙ ap (λ n. client_first net.first n + 5) plus in
+        ap wild free ∙ (sym (whole.both j (omega (arith, below, pools_many))) ∙ (ap wild (sym active) ∙ is_wild))
+
+    whole_turns : CalmSend wild net passed → HasNoBlock cast ⊎ ((place : BlkPlace) × HasBlkIn scene rows place cast) → ClientsAsk cast passed → (names : Names) → TellsKept wild names passed → AreInTurn wild actors passed → (k : ℕ) (x : Actor) → slice_get actors k ≡ Some x → FitsActor ends x → ActorStandsFor x passed → ToldInTurn scene wild names x passed
+    whole_turns sends block ask names kept turn k (Kinds.UartDevice x) at fits stands = tt
+    whole_turns sends block ask names kept turn k (Kinds.UartDriver x) at fits stands = tt
+    whole_turns sends block ask names kept turn k (Kinds.SerialVirtRx x) at fits stands = tt
+    whole_turns sends block ask names kept turn k (Kinds.SerialVirtTx x) at fits stands = tt
+    whole_turns sends block ask names kept turn k (Kinds.SerialClient x) at fits stands = tt
+    whole_turns sends block ask names kept turn k (Kinds.EthDevice x) at fits stands = tt
+    whole_turns sends block ask names kept turn k (Kinds.EthDriver x) at fits stands = tt
+    whole_turns sends block ask names kept turn k (Kinds.NetVirtRx v) at fits stands = receiver_turns v (receiver_at_work v (receiver_is net frames v (whole.only k (receiver_part v) (map_get part_of actors k (Kinds.NetVirtRx v) at))) fits stands)
+    whole_turns sends block ask names kept turn k (Kinds.NetCopier c) at fits stands =
         let is = copier_is net frames c (whole.only k (copier_part c) (map_get part_of actors k (Kinds.NetCopier c) at)) in
         let own = copier_queues net.first is.0 c is.2 in
         subst (λ n. AreLeases (passed.taken n)) (sym own.0) (cast_leases net.first frames net.pool net.macs passed half_there is.0 is.1)
-    whole_turns sends block ask names grown turn k (Kinds.NetClient c) at fits stands =
+    whole_turns sends block ask names kept turn k (Kinds.NetClient c) at fits stands =
         let is = client_of k c at in
         let part = is.5 in
         let own : c.program.mac ≡ is.2 = cc in
         let records = client_records is.0 is.1 is.2 (own_pools is.3) c part (whole.some is.0 is.3 is.4.pools) (whole.fits_client is.0 is.3 is.4.pools).0 is.4.address fits stands in
         (fits.1, λ echo. subst (λ m. IsPrefix c.frames.tape.shown (frames_for m frames)) (sym own) records)
-    whole_turns sends block ask names grown turn k (Kinds.NetVirtTx v) at fits stands =
+    whole_turns sends block ask names kept turn k (Kinds.NetVirtTx v) at fits stands =
         record {
-          tells = λ j c c_at is_wild. told_at names grown c.active;
-          backs = λ j c c_at is_wild. grown c.free;
+          tells = λ j c c_at is_wild. told_at names kept c.active is_wild;
+          backs = λ j c c_at is_wild. kept c.free (free_wild v (sender_here k v at).part j c c_at is_wild);
           good = sender_good sends v (sender_here k v at);
           returns = turn.returns k v at;
           in_turn = turn.sends k v at;
         }
-    whole_turns sends block ask names grown turn k (Kinds.DiskDevice x) at fits stands = turn.disk k x at
-    whole_turns sends block ask names grown turn k (Kinds.BlkDriver x) at fits stands = tt
-    whole_turns sends block ask names grown turn k (Kinds.BlkVirt x) at fits stands = (virt_by scene ends rows actors passed work block ask k x at, λ j q q_at is_wild. told_at names grown q.0)
-    whole_turns sends block ask names grown turn k (Kinds.BlkClient x) at fits stands = client_by scene ends rows actors passed work block k x at
+    whole_turns sends block ask names kept turn k (Kinds.DiskDevice x) at fits stands = turn.disk k x at
+    whole_turns sends block ask names kept turn k (Kinds.BlkDriver x) at fits stands = tt
+    whole_turns sends block ask names kept turn k (Kinds.BlkVirt x) at fits stands = (virt_by scene ends rows actors passed work block ask k x at, λ j q q_at is_wild. told_at names kept q.0 is_wild)
+    whole_turns sends block ask names kept turn k (Kinds.BlkClient x) at fits stands = client_by scene ends rows actors passed work block k x at
 
     pub recorded_here : (k c : ℕ) (x : Actor) (program : Program) (mac : Mac) (pools : ClientPools) → slice_get actors k ≡ Some x → part_of x ≡ NetworkPart (client_at net.first c program mac pools) → 1 ≤ pools.rx.buffers → net.most ≤ pools.rx.size → slice_get net.macs c ≡ Some mac → IsPrefix (frames_got x) (frames_for mac frames)
     recorded_here k c x program mac pools at part some enough address =
@@ -317,26 +342,26 @@ module _ (scene : Scene) (ends : Role → ℕ → End) (rows : List QueueRow) (a
     pub wire_calm_here : NoneHostile wild net → wire_beside wild net frames passed ≡ wire_at net frames (items_of (passed.taken (net.first + 2)))
     wire_calm_here = wire_calm wild net frames passed whole_there
 
-  none_turns : HasNoNetwork cast → HasNoBlock cast ⊎ ((place : BlkPlace) × HasBlkIn scene rows place cast) → ClientsAsk cast passed → (names : Names) → GrowsTo (names_at passed) names → AreInTurn wild actors passed → (k : ℕ) (x : Actor) → slice_get actors k ≡ Some x → ToldInTurn scene wild names x passed
-  none_turns empty block ask names grown turn k (Kinds.UartDevice x) at = tt
-  none_turns empty block ask names grown turn k (Kinds.UartDriver x) at = tt
-  none_turns empty block ask names grown turn k (Kinds.SerialVirtRx x) at = tt
-  none_turns empty block ask names grown turn k (Kinds.SerialVirtTx x) at = tt
-  none_turns empty block ask names grown turn k (Kinds.SerialClient x) at = tt
-  none_turns empty block ask names grown turn k (Kinds.EthDevice x) at = tt
-  none_turns empty block ask names grown turn k (Kinds.EthDriver x) at = tt
-  none_turns empty block ask names grown turn k (Kinds.NetVirtRx v) at = absurd (empty.none k (receiver_part v) (map_get part_of actors k (Kinds.NetVirtRx v) at))
-  none_turns empty block ask names grown turn k (Kinds.NetCopier c) at = absurd (empty.none k (copier_part c) (map_get part_of actors k (Kinds.NetCopier c) at))
-  none_turns empty block ask names grown turn k (Kinds.NetClient c) at = absurd (empty.none k (client_part c) (map_get part_of actors k (Kinds.NetClient c) at))
-  none_turns empty block ask names grown turn k (Kinds.NetVirtTx v) at = absurd (empty.no_sender k (send_part v) (map_get part_of actors k (Kinds.NetVirtTx v) at))
-  none_turns empty block ask names grown turn k (Kinds.DiskDevice x) at = turn.disk k x at
-  none_turns empty block ask names grown turn k (Kinds.BlkDriver x) at = tt
-  none_turns empty block ask names grown turn k (Kinds.BlkVirt x) at = (virt_by scene ends rows actors passed work block ask k x at, λ j q q_at is_wild. told_at names grown q.0)
-  none_turns empty block ask names grown turn k (Kinds.BlkClient x) at = client_by scene ends rows actors passed work block k x at
+  none_turns : HasNoNetwork cast → HasNoBlock cast ⊎ ((place : BlkPlace) × HasBlkIn scene rows place cast) → ClientsAsk cast passed → (names : Names) → TellsKept wild names passed → AreInTurn wild actors passed → (k : ℕ) (x : Actor) → slice_get actors k ≡ Some x → ToldInTurn scene wild names x passed
+  none_turns empty block ask names kept turn k (Kinds.UartDevice x) at = tt
+  none_turns empty block ask names kept turn k (Kinds.UartDriver x) at = tt
+  none_turns empty block ask names kept turn k (Kinds.SerialVirtRx x) at = tt
+  none_turns empty block ask names kept turn k (Kinds.SerialVirtTx x) at = tt
+  none_turns empty block ask names kept turn k (Kinds.SerialClient x) at = tt
+  none_turns empty block ask names kept turn k (Kinds.EthDevice x) at = tt
+  none_turns empty block ask names kept turn k (Kinds.EthDriver x) at = tt
+  none_turns empty block ask names kept turn k (Kinds.NetVirtRx v) at = absurd (empty.none k (receiver_part v) (map_get part_of actors k (Kinds.NetVirtRx v) at))
+  none_turns empty block ask names kept turn k (Kinds.NetCopier c) at = absurd (empty.none k (copier_part c) (map_get part_of actors k (Kinds.NetCopier c) at))
+  none_turns empty block ask names kept turn k (Kinds.NetClient c) at = absurd (empty.none k (client_part c) (map_get part_of actors k (Kinds.NetClient c) at))
+  none_turns empty block ask names kept turn k (Kinds.NetVirtTx v) at = absurd (empty.no_sender k (send_part v) (map_get part_of actors k (Kinds.NetVirtTx v) at))
+  none_turns empty block ask names kept turn k (Kinds.DiskDevice x) at = turn.disk k x at
+  none_turns empty block ask names kept turn k (Kinds.BlkDriver x) at = tt
+  none_turns empty block ask names kept turn k (Kinds.BlkVirt x) at = (virt_by scene ends rows actors passed work block ask k x at, λ j q q_at is_wild. told_at names kept q.0 is_wild)
+  none_turns empty block ask names kept turn k (Kinds.BlkClient x) at = client_by scene ends rows actors passed work block k x at
 
-  turns_by : HasNoNetwork cast ⊎ ((net : NetPlace) × HasWholeIn scene rows net cast) → HasNoBlock cast ⊎ ((place : BlkPlace) × HasBlkIn scene rows place cast) → ClientsSendIn scene rows cast passed → (names : Names) → GrowsTo (names_at passed) names → AreInTurn wild actors passed → (k : ℕ) (x : Actor) → slice_get actors k ≡ Some x → ToldInTurn scene wild names x passed
-  turns_by (inl empty) block sends names grown turn k x at = none_turns empty block sends.requests names grown turn k x at
-  turns_by (inr net) block sends names grown turn k x at = whole_turns net.0 net.1 (sends.frames net.0 net.1) block sends.requests names grown turn k x at (work.fits k x at) (work.stands k x at)
+  turns_by : HasNoNetwork cast ⊎ ((net : NetPlace) × HasWholeIn scene rows net cast) → HasNoBlock cast ⊎ ((place : BlkPlace) × HasBlkIn scene rows place cast) → ClientsSendIn scene rows cast passed → (names : Names) → TellsKept wild names passed → AreInTurn wild actors passed → (k : ℕ) (x : Actor) → slice_get actors k ≡ Some x → ToldInTurn scene wild names x passed
+  turns_by (inl empty) block sends names kept turn k x at = none_turns empty block sends.requests names kept turn k x at
+  turns_by (inr net) block sends names kept turn k x at = whole_turns net.0 net.1 (sends.frames net.0 net.1) block sends.requests names kept turn k x at (work.fits k x at) (work.stands k x at)
 
   -- where nobody is hostile nothing comes out of turn from a hostile client
   calm_turns : HasNoNetwork cast ⊎ ((net : NetPlace) × HasWholeIn scene rows net cast) → HasNoBlock cast ⊎ ((place : BlkPlace) × HasBlkIn scene rows place cast) → ClientsSendIn scene rows cast passed → ((n : ℕ) → wild n ≡ false) → AreInTurn wild actors passed
@@ -351,11 +376,11 @@ module _ (scene : Scene) (ends : Role → ℕ → End) (rows : List QueueRow) (a
       by (inr net) k v at row = sends_in_turn net.0 net.1 (sends.frames net.0 net.1) none k v at row
 
 -- beside hostile clients
-pub turns_beside : (scene : Scene) (ends : Role → ℕ → End) (rows : List QueueRow) (actors : List Actor) (passed : Passed) (names : Names) → IsWiredIn scene rows (map part_of actors) → AreAtWork ends rows actors passed → ClientsSendIn scene rows (map part_of actors) passed → GrowsTo (names_at passed) names → AreInTurn (wild_in (hostiles (map part_of actors)) rows) actors passed → (k : ℕ) (x : Actor) → slice_get actors k ≡ Some x → ToldInTurn scene (wild_in (hostiles (map part_of actors)) rows) names x passed
-turns_beside scene ends rows actors passed names wired work sends grown turn = turns_by scene ends rows actors passed work wired.network wired.block sends names grown turn
+pub turns_beside : (scene : Scene) (ends : Role → ℕ → End) (rows : List QueueRow) (actors : List Actor) (passed : Passed) (names : Names) → IsWiredIn scene rows (map part_of actors) → AreAtWork ends rows actors passed → ClientsSendIn scene rows (map part_of actors) passed → TellsKept (wild_in (hostiles (map part_of actors)) rows) names passed → AreInTurn (wild_in (hostiles (map part_of actors)) rows) actors passed → (k : ℕ) (x : Actor) → slice_get actors k ≡ Some x → ToldInTurn scene (wild_in (hostiles (map part_of actors)) rows) names x passed
+turns_beside scene ends rows actors passed names wired work sends kept turn = turns_by scene ends rows actors passed work wired.network wired.block sends names kept turn
 
 -- where nobody is hostile no name is asked
-turns_calm : (scene : Scene) (wild : Wild) (names : Names) (x : Actor) (passed : Passed) → ((n : ℕ) → wild n ≡ false) → ToldInTurn scene wild names x passed → InTurn scene x passed
+pub turns_calm : (scene : Scene) (wild : Wild) (names : Names) (x : Actor) (passed : Passed) → ((n : ℕ) → wild n ≡ false) → ToldInTurn scene wild names x passed → InTurn scene x passed
 turns_calm scene wild names (Kinds.UartDevice x) passed none is = is
 turns_calm scene wild names (Kinds.UartDriver x) passed none is = is
 turns_calm scene wild names (Kinds.SerialVirtRx x) passed none is = is
@@ -379,7 +404,7 @@ in_turn {scene} ends rows actors passed wired work sends k x at =
     let cast = map part_of actors in
     let none = none_wild cast rows in
     let turn = calm_turns scene ends rows actors passed work wired.network wired.block sends none in
-    turns_calm scene (wild_in (hostiles cast) rows) (names_at passed) x passed none (turns_beside scene ends rows actors passed (names_at passed) wired work sends (λ n. ([], append-nil (names_at passed n))) turn k x at)
+    turns_calm scene (wild_in (hostiles cast) rows) (names_at passed) x passed none (turns_beside scene ends rows actors passed (names_at passed) wired work sends (λ n is_wild. ([], append-nil (names_at passed n))) turn k x at)
 
 pub recorded : {scene : Scene} (ends : Role → ℕ → End) (rows : List QueueRow) (actors : List Actor) (passed : Passed) (net : NetPlace) → HasWholeIn scene rows net (map part_of actors) → AreAtWork ends rows actors passed → (k c : ℕ) (x : Actor) (program : Program) (mac : Mac) (pools : ClientPools) → slice_get actors k ≡ Some x → part_of x ≡ NetworkPart (client_at net.first c program mac pools) → 1 ≤ pools.rx.buffers → net.most ≤ pools.rx.size → slice_get net.macs c ≡ Some mac
     → IsPrefix (frames_got x) (frames_for mac scene.frames)

@@ -1,9 +1,10 @@
 -- The actors of the network and of the block class in a cast: of either there are none, or they are
 -- the whole class at the layout's queues.
-use Rattle.std.specs.Prelude.{◌≡◌, ◌⊎◌, ◌+◌, ◌*◌, ◌<◌, ◌≤◌, ℕ, false, Some, List, [], length}
-use Rattle.std.specs.Prelude.{slice_get}
+use Rattle.std.specs.Prelude.{◌≡◌, ◌⊎◌, ◌+◌, ◌*◌, ◌<◌, ◌≤◌, ℕ, true, false, Some, List, []}
+use Rattle.std.specs.Prelude.{length, slice_get}
 use Rattle.cargo_core.specs.Blocks.{block_bytes}
 use Rattle.cargo_core.specs.Items.{kind_of}
+use Rattle.cargo_core.specs.Lists.{IsPrefix}
 use Rattle.cargo_core.specs.declared.item.Ask.{Ask}
 use Rattle.cargo_core.specs.declared.item.QueueKind.TheVariants as Kind
 use Rattle.frame_core.specs.declared.mac.Mac.{Mac}
@@ -11,7 +12,7 @@ use Rattle.wire_core.specs.declared.names.QueueRow.{QueueRow}
 use Rattle.wire_core.specs.Deeds.{Cargo}
 use Rattle.wire_core.specs.Ends.{Role, End}
 use Rattle.wire_core.specs.Lists.{Passed}
-use Rattle.play_core.specs.Names.{Wild, wild_in}
+use Rattle.play_core.specs.Names.{Names, Wild, names_at, wild_in}
 use Rattle.play_core.specs.Sheets.{Scene}
 use Rattle.net_law.specs.Receiving.{HandsOver}
 use Rattle.net_expect.specs.Expecting.{Program, Source}
@@ -56,9 +57,10 @@ IsOfNetwork net frames p =
     × (p ≡ NetworkPart (client_at net.first k program mac (own_pools q))))
 
 -- a cast has the whole network, in a scene, and no other actor of it, each client where no hostile
--- actor has an end of its queue; each client has buffers to receive in, and an address of six
--- bytes; the class's queues carry entries of the network; each frame, received or of a script, has
--- 14 bytes to the most; and no frame is longer than a buffer of any pool, or than an entry can say
+-- actor has an end of its queue; a client's two queues for sending both have a hostile end or
+-- neither; each client has buffers to receive in, and an address of six bytes; the class's queues
+-- carry entries of the network; each frame, received or of a script, has 14 bytes to the most; and
+-- no frame is longer than a buffer of any pool, or than an entry can say
 pub record HasWholeIn (scene : Scene) (rows : List QueueRow) (net : NetPlace) (cast : List Part) :
     Type 0 where
   pub pools_many : length net.pools ≡ length net.macs
@@ -72,6 +74,9 @@ pub record HasWholeIn (scene : Scene) (rows : List QueueRow) (net : NetPlace) (c
       → IsClientOf net k program mac q
       → wild_in (hostiles cast) rows (client_first net.first k + 4) ≡ false
       → HasPart cast (NetworkPart (client_at net.first k program mac (own_pools q)))
+  pub both : (k : ℕ) → k < length net.macs
+      → wild_in (hostiles cast) rows (client_first net.first k + 4)
+      ≡ wild_in (hostiles cast) rows (client_first net.first k + 5)
   pub only : (k : ℕ) (p : NetPart) → slice_get cast k ≡ Some (NetworkPart p)
       → IsOfNetwork net scene.frames (NetworkPart p)
   pub only_sender : (k : ℕ) (p : SendPart) → slice_get cast k ≡ Some (SendingPart p)
@@ -185,6 +190,10 @@ pub record AreAtWork (ends : Role → ℕ → End) (rows : List QueueRow) (actor
   pub stands : (k : ℕ) (x : Actor) → slice_get actors k ≡ Some x → ActorStandsFor x passed
   pub hands_over : HandsOver passed
   pub kinds : AreOfKind rows passed
+
+-- the names tell of all that was put to the queues of which they are kept, and perhaps of more
+abbrev pub TellsKept : Wild → Names → Passed → Type 0
+TellsKept wild names passed = (n : ℕ) → wild n ≡ true → IsPrefix (names_at passed n) (names n)
 
 -- nothing comes out of turn, whatever hostile clients put, where what they put may do so: at the
 -- network's sending virtualiser, to which good descriptors alone come back, and at the disk

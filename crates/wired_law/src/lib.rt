@@ -13,7 +13,7 @@ ghost use Rattle.wire_core.specs.Ends.{Role, End};
 ghost use Rattle.wire_core.specs.Lists.{Passed, nothing_passed, with_deed};
 ghost use Rattle.wire_core.specs.Queues.{items_of};
 ghost use Rattle.net_expect.specs.Expecting.{Program, frames_for};
-ghost use Rattle.play_core.specs.Names.{GrowsTo, Names, names_at, wild_in};
+ghost use Rattle.play_core.specs.Names.{Names, wild_in};
 ghost use Rattle.play_core.specs.Sheets.{Scene};
 ghost use Rattle.net_law.specs.Owners.Names.{ClientPools};
 ghost use Rattle.net_law.specs.Parts.Numbers.{device_at, client_at};
@@ -27,7 +27,7 @@ ghost use Rattle.actor_set.specs.Laws.Records.{frames_got};
 ghost use Rattle.actor_set.specs.Laws.Scenes.{ToldInTurn};
 ghost use Rattle.actor_set.specs.Laws.Turning.{InTurn};
 ghost use Rattle.wired_law.specs.Wiring.{HasWholeIn, IsWiredIn, ClientsSendIn, AreAtWork};
-ghost use Rattle.wired_law.specs.Wiring.{AreInTurn};
+ghost use Rattle.wired_law.specs.Wiring.{AreInTurn, TellsKept};
 
 pub mod blk_replies;
 pub mod quiet;
@@ -36,11 +36,11 @@ pub mod turning;
 /// Nothing comes out of turn at any actor of a cast that is wired in a scene, where those of its
 /// clients that aren't hostile put good descriptors and requests alone (nobody is hostile yet): so
 /// they did when nothing had passed yet, and whatever hostile ones put, after one more call they
-/// still have. Beside hostile clients nothing does by the names that are told, where what those put
-/// isn't out of turn. A network client with buffers of its own recorded a beginning of the frames
-/// that are for its address; and the device a merge of beginnings of what the clients send, each by
-/// its program, a hostile one the frames of its good descriptors: which is what the items tell that
-/// it took.
+/// still have. Beside hostile clients nothing does by the names that are told, those of all that
+/// was put to the queues with a hostile end, where what those put isn't out of turn. A network
+/// client with buffers of its own recorded a beginning of the frames that are for its address; and
+/// the device a merge of beginnings of what the clients send, each by its program, a hostile one
+/// the frames of its good descriptors: which is what the items tell that it took.
 pub fn wired_law()
     ensures turns { (scene : Scene) (ends : Role → ℕ → End) (rows : List QueueRow)
         (actors : List Actor) (passed : Passed) → IsWiredIn scene rows (map part_of actors)
@@ -51,7 +51,7 @@ pub fn wired_law()
         (actors : List Actor) (passed : Passed) (names : Names)
         → IsWiredIn scene rows (map part_of actors) → AreAtWork ends rows actors passed
         → ClientsSendIn scene rows (map part_of actors) passed
-        → GrowsTo (names_at passed) names
+        → TellsKept (wild_in (hostiles (map part_of actors)) rows) names passed
         → AreInTurn (wild_in (hostiles (map part_of actors)) rows) actors passed
         → (k : ℕ) (x : Actor) → slice_get actors k ≡ Some x
         → ToldInTurn scene (wild_in (hostiles (map part_of actors)) rows) names x passed }

@@ -77,10 +77,11 @@ post_end x k p at = (post_stands x k p at).0
 pub post_waits : (x : Actor) (e : Event) (k : ℕ) (p : Post) → slice_get (actor_round x).posts k ≡ Some p → false ≡ is_drop p e
 post_waits x e k p at = sym (ap (λ d. d && is_vain_look e.op e.answer) (post_stands x k p at).1)
 
-abbrev EndPost : Actor → Side → ℕ → Type 0
+-- an end on this side is one of its posts
+abbrev pub EndPost : Actor → Side → ℕ → Type 0
 EndPost x s n = (k : ℕ) × (p : Post) × (slice_get (actor_round x).posts k ≡ Some p) × (p.queue ≡ n) × (p.side ≡ s)
 
-end_post : (x : Actor) (s : Side) (n : ℕ) → ActorEnd x (waiting_role s) n → EndPost x s n
+pub end_post : (x : Actor) (s : Side) (n : ℕ) → ActorEnd x (waiting_role s) n → EndPost x s n
 end_post (Kinds.UartDevice x) Forward n h = (0, intake_post x.terminal.input, refl, sym h, refl)
 end_post (Kinds.UartDevice x) Backward n h = (1, outlet_post x.terminal.output, refl, sym h, refl)
 end_post (Kinds.SerialClient x) Forward n h = (0, intake_post x.terminal.input, refl, sym h, refl)

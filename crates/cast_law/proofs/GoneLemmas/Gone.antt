@@ -173,8 +173,8 @@ module _ (rows : List QueueRow) (rings : List RingIs) (olds news : List Apart) (
 
   ready : AreReady rows (actors_apart olds)
   ready = record {
-    wired = gone.wired;
-    seated = gone.seated;
+    pools = gone.pools;
+    in_place = gone.in_place;
     split = gone.split;
     ends = λ k. option_map_or apart_end (slice_get olds k) no_ends;
     fits = λ k x at. (

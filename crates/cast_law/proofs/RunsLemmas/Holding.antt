@@ -1,4 +1,4 @@
--- All that holds of a wired cast goes on to hold, turn by turn.
+-- All that holds of a cast in place goes on to hold, turn by turn.
 use Rattle.std.proofs.Common.{◌≡◌, ◌≢◌, ◌∙◌, ℕ, zero, suc, List, [], ◌∷◌, ◌++◌, map, refl, sym, ap, subst, append-nil, Option, Some, slice_get, slice_set, Bool, if◌then◌else◌, ⊎_elim}
 use Rattle.std.specs.Option.{option_map_or}
 use mathlib.Core.Logic.{dite}
@@ -6,6 +6,7 @@ use native.Mathlib.Decide.{ℕ_discrete}
 use Rattle.std.proofs.Math.Dec.{eqb}
 use Rattle.std.proofs.lemmas.Bool.Decides.{eqb_tells}
 use Rattle.cargo_core.specs.Lists.{IsPrefix}
+use Rattle.wire_core.specs.declared.names.PoolRow.{PoolRow}
 use Rattle.wire_core.specs.declared.names.QueueRow.{QueueRow}
 use Rattle.wire_core.specs.Deeds.{Cargo}
 use Rattle.wire_core.specs.Ends.{Role, Consumer, Producer, End, role_of}
@@ -26,8 +27,9 @@ use Rattle.actor_set.proofs.LawsLemmas.Beside.{fits_beside, stands_beside}
 use Rattle.actor_set.proofs.LawsLemmas.PartEnds.{to_part, end_seat, same_part}
 use Rattle.actor_set.proofs.LawsLemmas.Starts.{fits_whole}
 use Rattle.wired_law.specs.Wiring.{IsWired, AreAtWork, AreOfKind, ClientsSend}
-use Rattle.wired_law.proofs.Wiring.{in_turn, sends_on, nothing_sent}
-use Rattle.cast_law.specs.Pools.Places.{PoolPlace, IsPlaced, cast_naming}
+use Rattle.wired_law.proofs.Wiring.{sends_on, nothing_sent}
+use Rattle.cast_law.specs.Pools.Places.{PoolPlace, IsInPlace, IsPlaced, cast_naming}
+use Rattle.cast_law.proofs.TurnsLemmas.{calm_turns, wired_place}
 use Rattle.cast_law.proofs.PoolsLemmas.Playing.{carry_call, rows_at}
 use Rattle.order_law.specs.Orders.{Turn, IsTurn, InOrder}
 use Rattle.order_law.proofs.Lists.{same_some, set_there, set_beside, get_front}
@@ -62,7 +64,13 @@ record Stands (rows : List QueueRow) (cast : List Part) (actors : List Actor) (p
   pub sends : ClientsSend rows cast passed
   pub carry : (place : PoolPlace) → IsPlaced rows place cast → CarryPages (cast_naming (scene_of cast) place) (moved_of passed) passed
 
-module _ (rows : List QueueRow) (cast : List Part) (wired : IsWired rows cast) (seated : AreSeated (sheet (scene_of cast)) rows cast) (split : (n : ℕ) (row : QueueRow) → slice_get rows n ≡ Some row → row.producer.0 ≡ row.consumer.0 → ⊥) where
+module _ (rows : List QueueRow) (pools : List PoolRow) (cast : List Part) (in_place : IsInPlace rows pools cast) (split : (n : ℕ) (row : QueueRow) → slice_get rows n ≡ Some row → row.producer.0 ≡ row.consumer.0 → ⊥) where
+  wired : IsWired rows cast
+  wired = wired_place rows pools cast in_place
+
+  seated : AreSeated (sheet (scene_of cast)) rows cast
+  seated = in_place.seated
+
   module _ (actors : List Actor) (passed : Passed) (st : Stands rows cast actors passed) where
     -- an end of an actor is its own by the rows
     own_row : (k : ℕ) (x : Actor) → slice_get actors k ≡ Some x → (r : Role) (n : ℕ) → ActorEnd x r n → (row : QueueRow) × (slice_get rows n ≡ Some row) × (owner_of row r ≡ k)
@@ -90,7 +98,7 @@ module _ (rows : List QueueRow) (cast : List Part) (wired : IsWired rows cast) (
     }
 
     turns_of : AreOfKind rows passed → (k : ℕ) (x : Actor) → slice_get actors k ≡ Some x → InTurn (scene_of (map part_of actors)) x passed
-    turns_of kinds k x at = in_turn ends rows actors passed (subst (IsWired rows) (sym st.parts) wired) (work kinds) (subst (λ (c : List Part). ClientsSend rows c passed) (sym st.parts) st.sends) k x at
+    turns_of kinds k x at = calm_turns ends rows pools actors passed (subst (IsInPlace rows pools) (sym st.parts) in_place) (work kinds) (subst (λ (c : List Part). ClientsSend rows c passed) (sym st.parts) st.sends) k x at
 
     rows_of : AreOfKind rows passed → RowsHold (sheet (scene_of cast)) (hostiles cast) cast (moved_of passed)
     rows_of kinds = subst (λ (c : List Part). RowsHold (sheet (scene_of c)) (hostiles c) c (moved_of passed)) st.parts (rows_at rows actors passed (moved_of passed) (have_items passed) (turns_of kinds) st.stands)
@@ -159,7 +167,7 @@ module _ (rows : List QueueRow) (cast : List Part) (wired : IsWired rows cast) (
     sends' = subst (λ (c : List Part). ClientsSend rows c passed') (parts' ∙ st.parts) (sends_on (ends actors passed st) ends' rows actors actors' passed t.deed (subst (IsWired rows) (sym st.parts) wired) parts' (work actors passed st kinds) (subst (λ (c : List Part). ClientsSend rows c passed) (sym st.parts) st.sends) work')
 
     turns' : (j : ℕ) (y : Actor) → slice_get actors' j ≡ Some y → InTurn (scene_of cast) y passed'
-    turns' j y at = subst (λ (c : List Part). InTurn (scene_of c) y passed') (parts' ∙ st.parts) (in_turn ends' rows actors' passed' (subst (IsWired rows) (sym (parts' ∙ st.parts)) wired) work' (subst (λ (c : List Part). ClientsSend rows c passed') (sym (parts' ∙ st.parts)) sends') j y at)
+    turns' j y at = subst (λ (c : List Part). InTurn (scene_of c) y passed') (parts' ∙ st.parts) (calm_turns ends' rows pools actors' passed' (subst (IsInPlace rows pools) (sym (parts' ∙ st.parts)) in_place) work' (subst (λ (c : List Part). ClientsSend rows c passed') (sym (parts' ∙ st.parts)) sends') j y at)
 
     rows' : RowsHold (sheet (scene_of cast)) (hostiles cast) cast (moved_of passed')
     rows' = subst (λ (c : List Part). RowsHold (sheet (scene_of c)) (hostiles c) c (moved_of passed')) (parts' ∙ st.parts) (rows_at rows actors' passed' (moved_of passed') (have_items passed') (λ j y at. subst (λ (c : List Part). InTurn (scene_of c) y passed') (sym (parts' ∙ st.parts)) (turns' j y at)) stands')
@@ -207,10 +215,10 @@ have_held rows olds news turns passed ready order kinds =
       sends = nothing_sent rows cast;
       carry = λ place placed. record { sent = λ n. refl; taken = λ n. refl; bodies = λ n k c at. cc };
     } in
-    let st = held rows cast ready.wired ready.seated ready.split turns olds news nothing_passed passed begin order kinds in record {
+    let st = held rows ready.pools cast ready.in_place ready.split turns olds news nothing_passed passed begin order kinds in record {
       parts = st.parts;
       stands = st.stands;
-      in_turn = turns_of rows cast ready.wired ready.seated ready.split news passed st kinds;
+      in_turn = turns_of rows ready.pools cast ready.in_place ready.split news passed st kinds;
       sends = subst (λ (c : List Part). ClientsSend rows c passed) (sym st.parts) st.sends;
       carry = λ place placed m items. (
           let has = st.carry place (subst (IsPlaced rows place) st.parts placed) in

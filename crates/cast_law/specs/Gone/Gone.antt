@@ -2,16 +2,15 @@
 use Rattle.std.specs.Prelude.{◌≡◌, ℕ, Some, List, [], length, map, slice_get}
 use Rattle.std.specs.Option.{option_map_or}
 use Rattle.wire_core.specs.declared.names.Event.{Event}
+use Rattle.wire_core.specs.declared.names.PoolRow.{PoolRow}
 use Rattle.wire_core.specs.declared.names.QueueRow.{QueueRow}
 use Rattle.wire_core.specs.Deeds.{Cargo}
 use Rattle.wire_core.specs.Lists.{Passed}
 use Rattle.spsc_queue.specs.Known.Ends.{RingIs, EndedIs}
-use Rattle.play_core.specs.Sheets.{AreSeated}
 use Rattle.play_core.specs.Still.{IsPeopled}
 use Rattle.actor_set.specs.Actors.{part_of}
 use Rattle.actor_set.specs.declared.actor.Actor.{Actor}
-use Rattle.actor_set.specs.Laws.Kinds.{sheet, scene_of}
-use Rattle.wired_law.specs.Wiring.{IsWired}
+use Rattle.cast_law.specs.Pools.Places.{IsInPlace}
 use Rattle.order_law.specs.ActorParts.Parting.{Apart, AreApart}
 use Rattle.order_law.specs.ActorParts.Opened.{HaveNothing}
 use Rattle.order_law.specs.ActorParts.Going.{HasGone}
@@ -32,13 +31,12 @@ passed_of ended calls = record {
 abbrev pub actors_apart : List Apart → List Actor
 actors_apart parts = map (λ (p : Apart). p.actor) parts
 
--- the actors of a wired cast stood apart over rings, each with just the ends that the rows give it,
--- and nothing passed there; each is now what it became by the calls that it made at its ends
+-- the actors of a cast in place stood apart over rings, and nothing passed there; each is now what
+-- it became by the calls that it made at its ends
 pub record HaveGone (rows : List QueueRow) (rings : List RingIs) (olds news : List Apart)
     : Type 0 where
-  pub wired : IsWired rows (map part_of (actors_apart olds))
-  pub seated : AreSeated (sheet (scene_of (map part_of (actors_apart olds)))) rows
-      (map part_of (actors_apart olds))
+  pub pools : List PoolRow
+  pub in_place : IsInPlace rows pools (map part_of (actors_apart olds))
   -- no actor has both ends of a queue
   pub split : (n : ℕ) (row : QueueRow) → slice_get rows n ≡ Some row
       → row.producer.0 ≡ row.consumer.0 → ⊥

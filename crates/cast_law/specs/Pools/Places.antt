@@ -1,9 +1,11 @@
--- Where the classes that have pools stand in a cast, what items name at its queues, and its pools.
+-- Where the classes that have pools stand in a cast, what items name at its queues, and its pools;
+-- and a cast in place.
 use Rattle.std.specs.Prelude.{◌≡◌, ◌++◌, ℕ, nat_lt, if◌then◌else◌, Option, None, Some, List, []}
 use Rattle.std.specs.Prelude.{length}
 use Rattle.wire_core.specs.declared.names.PoolRow.{PoolRow}
 use Rattle.wire_core.specs.declared.names.QueueRow.{QueueRow}
-use Rattle.play_core.specs.Sheets.{Scene}
+use Rattle.play_core.specs.Sheets.{AreFilled, AreSeated, Scene}
+use Rattle.play_core.specs.Still.{IsPeopled}
 use Rattle.owner_law.specs.Things.{NoBuffers, Naming}
 use Rattle.cast_law.specs.PoolLines.PoolLines.{AreSized}
 use Rattle.owner_law.specs.Pools.Places.{PoolAt, sizes_of, AreNumbered}
@@ -12,6 +14,7 @@ use Rattle.net_law.specs.TxParts.Numbers.{NetPlace}
 use Rattle.net_quiet.specs.Pools.Sizes.{net_pools}
 use Rattle.blk_law.specs.Sheets.Numbers.{BlkPlace}
 use Rattle.blk_quiet.specs.Pools.Naming.{blk_naming, blk_pools, HasApartPools}
+use Rattle.actor_set.specs.Laws.Kinds.{scene_of, sheet}
 use Rattle.actor_set.specs.Parts.{Part}
 use Rattle.wired_law.specs.Wiring.{HasWhole, HasNoNetwork, HasBlk, HasNoBlock}
 
@@ -79,3 +82,12 @@ pub record HasPools (pools : List PoolRow) (place : PoolPlace) : Type 0 where
 abbrev pub ArePooled : List QueueRow → List PoolRow → List Part → Type 0
 ArePooled rows pools cast =
     (place : PoolPlace) × IsPlaced rows place cast × HasPools pools place
+
+-- a cast is in place: the owners of all queues are among its actors, each has just the ends that
+-- the rows give it, and these are its pools
+pub record IsInPlace (rows : List QueueRow) (pools : List PoolRow) (cast : List Part) :
+    Type 0 where
+  pub peopled : IsPeopled rows (length cast)
+  pub seated : AreSeated (sheet (scene_of cast)) rows cast
+  pub filled : AreFilled (sheet (scene_of cast)) rows cast
+  pub pooled : ArePooled rows pools cast

@@ -1,24 +1,23 @@
 -- Actors before they were at work over rings, and after.
 use Rattle.std.specs.Prelude.{◌≡◌, ℕ, Some, List, map, slice_get}
+use Rattle.wire_core.specs.declared.names.PoolRow.{PoolRow}
 use Rattle.wire_core.specs.declared.names.QueueRow.{QueueRow}
 use Rattle.wire_core.specs.Ends.{Role, End}
 use Rattle.wire_core.specs.Lists.{Passed, nothing_passed}
 use Rattle.play_core.specs.Moved.{Moved}
-use Rattle.play_core.specs.Sheets.{AreSeated}
 use Rattle.play_core.specs.Rests.Showing.{HaveItems}
 use Rattle.owner_law.specs.Pages.{CarryPages}
 use Rattle.actor_set.specs.Actors.{FitsActor, ActorStandsFor, part_of}
 use Rattle.actor_set.specs.declared.actor.Actor.{Actor}
-use Rattle.actor_set.specs.Laws.Kinds.{sheet, scene_of}
+use Rattle.actor_set.specs.Laws.Kinds.{scene_of}
 use Rattle.actor_set.specs.Laws.Turning.{InTurn}
-use Rattle.wired_law.specs.Wiring.{IsWired, ClientsSend}
-use Rattle.cast_law.specs.Pools.Places.{PoolPlace, IsPlaced, cast_naming}
+use Rattle.wired_law.specs.Wiring.{ClientsSend}
+use Rattle.cast_law.specs.Pools.Places.{PoolPlace, IsInPlace, IsPlaced, cast_naming}
 
--- the actors of a wired cast, each with just the ends that the rows give it, fit their ends, and
--- nothing passed there
+-- the actors of a cast in place fit their ends, and nothing passed there
 pub record AreReady (rows : List QueueRow) (actors : List Actor) : Type 0 where
-  pub wired : IsWired rows (map part_of actors)
-  pub seated : AreSeated (sheet (scene_of (map part_of actors))) rows (map part_of actors)
+  pub pools : List PoolRow
+  pub in_place : IsInPlace rows pools (map part_of actors)
   -- no actor has both ends of a queue
   pub split : (n : ℕ) (row : QueueRow) → slice_get rows n ≡ Some row
       → row.producer.0 ≡ row.consumer.0 → ⊥

@@ -4,7 +4,8 @@ use Rattle.std.specs.Option.{option_map, option_map_or}
 use Rattle.std.proofs.lemmas.Bool.{and_parts, leb-true, ltb-true, cases_lt}
 use Rattle.wire_core.specs.declared.names.PoolRow.{PoolRow}
 use Rattle.wire_core.specs.declared.names.QueueRow.{QueueRow}
-use Rattle.play_core.specs.Sheets.{Scene, AreApart}
+use Rattle.play_core.specs.Sheets.{Scene, AreApart, AreFilled, AreSeated, RowsHold}
+use Rattle.play_core.specs.Moved.{moved}
 use Rattle.owner_law.specs.Things.{Naming}
 use Rattle.owner_law.proofs.Replays.{owners_hold}
 use Rattle.net_law.specs.Owners.Names.{ClientPools}
@@ -28,6 +29,7 @@ use Rattle.cast_core.specs.Casts.{client_pools, net_place}
 use Rattle.cast_core.specs.Sources.{pool_at, first_blk_pool}
 use Rattle.cast_core.proofs.Listing.{value_is}
 use Rattle.cast_core.proofs.Rooms.{pools_apart, has_pools}
+use Rattle.system_core.proofs.Telling.{each_plain}
 use Rattle.system_core.specs.Shows.{Shown}
 use Rattle.system_core.specs.Lawful.{StandsLawful}
 use Rattle.system_core.specs.Builds.{IsCastOf}
@@ -158,12 +160,24 @@ module _ (plan : Plan) (trace : Trace) (s : Shown) (valid : Valid plan) (cast_is
   abbrev hostile : Hostiles
   hostile = hostiles cast
 
+  scene_is : s.setting.scene ≡ scene
+  scene_is = stands.fitted.scene_is
+
   here : IsPlaced rows place cast
-  here = placed plan trace s valid cast_is
+  here = placed plan trace s valid cast_is scene_is
+
+  seated : AreSeated (sheet scene) rows cast
+  seated = subst (λ z. AreSeated (sheet z) rows cast) scene_is stands.fitted.seated
+
+  filled : AreFilled (sheet scene) rows cast
+  filled = subst (λ z. AreFilled (sheet z) rows cast) scene_is stands.fitted.ends
+
+  rows_hold : EachMoment (λ j. RowsHold (sheet scene) hostile cast (moved s.setting.history j)) s.journal
+  rows_hold = subst (λ z. EachMoment (λ j. RowsHold (sheet z) hostile cast (moved s.setting.history j)) s.journal) scene_is (each_plain s.setting s.journal stands.lawful.rows_hold)
 
   -- each part is that of a job
   ends_apart : (k : ℕ) (p : Part) → slice_get cast k ≡ Some p → AreApart (sheet scene p).ends
-  ends_apart k p at = let job = job_at plan trace s valid cast_is k p at in job_apart plan trace scene job.0 p job.2
+  ends_apart k p at = let job = job_at plan trace s valid cast_is scene_is k p at in job_apart plan trace scene job.0 p job.2
 
   -- each may put only what was in its hand
   sender_is : (net : NetPlace) → net.first ≡ 0 → (p : SendPart) → IsOfNetwork net scene.frames (SendingPart p) → sender_at 0 net.most net.pools ≡ p
@@ -191,12 +205,16 @@ module _ (plan : Plan) (trace : Trace) (s : Shown) (valid : Valid plan) (cast_is
   -- each move finds its buffer in the place that it leaves
   moves : (first : Table) → BeginsWith s.setting.history rows place cast first → EachMoment (OneOwner naming s.setting.history first) s.journal
   moves first is = owners_hold naming is.lender hostile s.setting.history rows (keepers_at cast) first s.journal
-      (owned rows cast stands.fitted.seated place.net place.blk here.net here.blk is.lender is.naming_is s.setting.history first s.journal stands.fitted.ends stands.fitted.peopled ends_apart
-      (λ k p at. puts_own k p at (names_at rows cast stands.fitted.seated place.net place.blk here.net here.blk k p at))
-      stands.lawful.legal stands.lawful.flows stands.lawful.rows_hold stands.lawful.kinds is.counted is.shown)
+      (owned rows cast seated place.net place.blk here.net here.blk is.lender is.naming_is s.setting.history first s.journal filled stands.fitted.peopled ends_apart
+      (λ k p at. puts_own k p at (names_at rows cast seated place.net place.blk here.net here.blk k p at))
+      stands.lawful.legal stands.lawful.flows rows_hold stands.lawful.kinds is.counted is.shown)
 
   -- from a table on with which it begins
   pub one_owner : (first : Table) → IsFirstTable place s first → EachMoment (HaveOneOwner place first s) s.journal
   one_owner first is =
-      each_follows (OneOwner naming s.setting.history first) (HaveOneOwner place first s)
-      (λ j now. record { pools = λ k. pool_stays naming s.setting.history first k (place_sizes place k) (is.pools k) j; moves = now }) s.journal (moves first is.begins)
+      subst (λ (q : Shown). EachMoment (HaveOneOwner place first q) s.journal) (sym in_scene)
+      (each_follows (OneOwner naming s.setting.history first) (HaveOneOwner place first (record s { setting = record s.setting { scene = scene } }))
+      (λ j now. record { pools = λ k. pool_stays naming s.setting.history first k (place_sizes place k) (is.pools k) j; moves = now }) s.journal (moves first is.begins))
+    where
+      in_scene : s ≡ record s { setting = record s.setting { scene = scene } }
+      in_scene = ap (λ (z : Scene). record s { setting = record s.setting { scene = z } }) scene_is

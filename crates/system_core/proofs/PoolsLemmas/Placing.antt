@@ -1,5 +1,7 @@
 -- The classes of a plan that have pools stand at its place in a system.
 use Rattle.std.proofs.Common.{◌≡◌, ◌+◌, ◌<◌, ℕ, Option, None, Some, List, length, slice_get, refl, sym, ◌∙◌, subst, arith}
+use Rattle.actor_set.specs.Laws.Kinds.{scene_of}
+use Rattle.wired_law.specs.Wiring.{HasWholeIn, HasBlkIn}
 use Rattle.std.specs.Option.{option_map}
 use Rattle.play_core.proofs.Lists.{there_below}
 use Rattle.sdf_plan.specs.declared.plan.Plan.{Plan}
@@ -74,7 +76,7 @@ blk_job plan trace DiskDriver q e of = of
 blk_job plan trace BlkVirtualiser q e of = of
 blk_job plan trace (BlkClient c) q e of = of.0
 
-module _ (plan : Plan) (trace : Trace) (s : Shown) (valid : Valid plan) (cast_is : IsCastOf plan trace s.setting) where
+module _ (plan : Plan) (trace : Trace) (s : Shown) (valid : Valid plan) (cast_is : IsCastOf plan trace s.setting) (scene_is : s.setting.scene ≡ scene_of s.setting.cast) where
   abbrev cast : List Part
   cast = s.setting.cast
 
@@ -99,8 +101,8 @@ module _ (plan : Plan) (trace : Trace) (s : Shown) (valid : Valid plan) (cast_is
         none = λ k p at. (let job = job_at k (NetworkPart p) at in no_net none (net_job plan trace job.0 p job.2 (job_is_of plan job.0 k job.1)));
         no_sender = λ k p at. (let job = job_at k (SendingPart p) at in no_net none (send_job plan trace job.0 p job.2 (job_is_of plan job.0 k job.1)));
       }
-      first (Some net) is = (cast_is.whole net is, refl)
+      first (Some net) is = (subst (λ z. HasWholeIn z s.setting.rows (net_place plan trace) cast) scene_is (cast_is.whole net is), refl)
 
       behind : (b : Option Blk) → plan.blk ≡ b → HasBlkAt s.setting.rows (option_map (λ blk. blk_place plan trace) b) cast
       behind None none = λ k p at. (let job = job_at k (BlockPart p) at in no_blk none (blk_job plan trace job.0 p job.2 (job_is_of plan job.0 k job.1)))
-      behind (Some blk) is = (cast_is.whole_block blk is, apart_pools plan trace valid blk is)
+      behind (Some blk) is = (subst (λ z. HasBlkIn z s.setting.rows (blk_place plan trace) cast) scene_is (cast_is.whole_block blk is), apart_pools plan trace valid blk is)

@@ -3,6 +3,7 @@
 use Rattle.std.proofs.Common.{◌≡◌, ◌+◌, ◌<◌, ◌≤◌, ℕ, zero, suc, Some, List, [], ◌∷◌, length, slice_get, refl, sym, ap, ◌∙◌, subst, arith}
 use Rattle.wire_core.specs.declared.names.PoolRow.{PoolRow}
 use Rattle.cargo_core.specs.declared.census.Census.{Census}
+use Rattle.play_core.specs.Sheets.{AreSeated}
 use Rattle.play_core.proofs.Lists.{some_is}
 use Rattle.owner_law.specs.Owners.{Table}
 use Rattle.owner_law.specs.Census.{census, IsPool}
@@ -12,7 +13,7 @@ use Rattle.sdf_plan.specs.declared.plan.Plan.{Plan}
 use Rattle.sdf_check.specs.Valid.{Valid}
 use Rattle.region_layout.specs.Rows.{pools_of}
 use Rattle.trace_text.specs.declared.trace.Trace.{Trace}
-use Rattle.actor_set.specs.Laws.Kinds.{scene_of}
+use Rattle.actor_set.specs.Laws.Kinds.{sheet, scene_of}
 use Rattle.cast_law.specs.Pools.Places.{PoolPlace, IsPlaced, HasPools, cast_naming, place_sizes}
 use Rattle.cast_law.specs.Pools.Pooling.{BeginsWith, HasOwners}
 use Rattle.cast_law.proofs.PoolsLemmas.Playing.{begins_anew, all_there}
@@ -44,7 +45,10 @@ module _ (plan : Plan) (trace : Trace) (s : Shown) (valid : Valid plan) (cast_is
   pools = pooled plan trace
 
   here : IsPlaced s.setting.rows place s.setting.cast
-  here = placed plan trace s valid cast_is
+  here = placed plan trace s valid cast_is stands.fitted.scene_is
+
+  seated : AreSeated (sheet (scene_of s.setting.cast)) s.setting.rows s.setting.cast
+  seated = subst (λ z. AreSeated (sheet z) s.setting.rows s.setting.cast) stands.fitted.scene_is stands.fitted.seated
 
   numbered : HasPools s.setting.pools place
   numbered = subst (λ ps. HasPools ps place) (sym cast_is.pools) pools
@@ -59,8 +63,8 @@ module _ (plan : Plan) (trace : Trace) (s : Shown) (valid : Valid plan) (cast_is
   -- at the start state with the one in which each pool's buffers are in its owner's hand
   first_anew : BeginsAnew s.setting → IsFirstTable place s (owners_table s)
   first_anew anew = record {
-    begins = subst (λ h. BeginsWith h s.setting.rows place s.setting.cast (owners_table s)) (sym anew) (begins_anew s.setting.rows s.setting.cast stands.fitted.seated place here pools.numbered);
-    pools = all_there s.setting.rows s.setting.cast stands.fitted.seated place here pools.numbered;
+    begins = subst (λ h. BeginsWith h s.setting.rows place s.setting.cast (owners_table s)) (sym anew) (begins_anew s.setting.rows s.setting.cast seated place here pools.numbered);
+    pools = all_there s.setting.rows s.setting.cast seated place here pools.numbered;
   }
 
   shows_lines : (first : Table) → IsFirstTable place s first → s.state.pools ≡ table_lines (table_after place first s s.journal) 0 (pools_of plan)
@@ -70,7 +74,7 @@ module _ (plan : Plan) (trace : Trace) (s : Shown) (valid : Valid plan) (cast_is
   lines_add k l at =
       let x = line_from (table_after place owners.table s s.journal) 0 (pools_of plan) k l (ap (λ ls. slice_get ls k) (sym (shows_lines owners.table first_table)) ∙ at) in
       let size : place_sizes place (0 + k) ≡ x.0.buffers = pools.sized k x.0 x.1 in
-      let whole = census_whole (cast_naming (scene_of s.setting.cast) place) s.setting.history owners.table (0 + k) x.0.buffers (subst (IsPool owners.table (0 + k)) size (owners.pools (0 + k))) s.journal in
+      let whole = census_whole (cast_naming s.setting.scene place) s.setting.history owners.table (0 + k) x.0.buffers (subst (IsPool owners.table (0 + k)) size (owners.pools (0 + k))) s.journal in
       subst (λ (y : Census). y.queues + y.hands + y.lent ≡ y.buffers) (sym x.2) whole
 
   pub tells_owners : TellsOwners plan place s

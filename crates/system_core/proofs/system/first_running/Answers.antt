@@ -1,8 +1,9 @@
-use Rattle.std.proofs.Common.{arith, map, refl}
+use Rattle.std.proofs.Common.{[], ◌∙◌, arith, map, refl, sym}
 use Rattle.actor_set.specs.Actors.{part_of}
 use Rattle.actor_set.specs.Laws.Kinds.{scene_of}
-use Rattle.system_core.specs.States.{history_of}
+use Rattle.system_core.specs.States.{begun, history_of, nobody}
 use Rattle.system_core.proofs.Starting.{flag_start, flags_many, list_added, list_skipped, list_room, list_whole}
+use Rattle.system_core.proofs.Telling.{runs_plain}
 use Rattle.system_core.proofs.system.first_running.Goals as goal
 use Rattle.system_core.proofs.system.first_running.Goals.{then-not-is_idle, else-not-is_idle}
 
@@ -21,4 +22,4 @@ loop-k-preserved c =
     ]
 
 pub returns-clause-list : goal.returns-clause-list
-returns-clause-list c = let n = flags_many (history_of c.args.rows.now c.args.past.now.value.items) c.args.rows.now c.args.actors.now (scene_of (map part_of c.args.actors.now)) in list_whole _ c.loop-k.k c.loop-k.running.list (omega arith) c.loop-k.invariant.list
+returns-clause-list c = let n = flags_many (history_of c.args.rows.now c.args.past.now.value.items) c.args.rows.now c.args.actors.now (scene_of (map part_of c.args.actors.now)) in list_whole _ c.loop-k.k c.loop-k.running.list (omega arith) c.loop-k.invariant.list ∙ sym (runs_plain (begun (history_of c.args.rows.now c.args.past.now.value.items) c.args.rows.now [] c.args.actors.now nobody nobody nobody) [])

@@ -3,6 +3,7 @@ use Rattle.std.specs.Vec.{vec_len}
 use Rattle.std.proofs.lemmas.Option.{slice_get_read, slice_get_within}
 use Rattle.wire_core.specs.Journal.{EachMoment}
 use Rattle.wire_core.specs.Marks.{no_drops, Brisk}
+use Rattle.actor_set.specs.Laws.Kinds.{scene_of}
 use Rattle.system_core.specs.Shows.{Shown, hostile_in, runs, RowsStand}
 use Rattle.system_core.specs.States.{history_of, begun}
 use Rattle.system_core.specs.Lawful.{IsFitted}
@@ -68,7 +69,7 @@ pub invariant_of-self-2 : goal.invariant_of-self-2
 invariant_of-self-2 c =
     let s = system_then (history_of c.self.inside.rows.items c.self.inside.past.value.items) c.self.inside.rows.items c.self.inside.pools.items c.self.inside.net c.self.inside.serial c.self.inside.blk c.self.inside.world c.step.new.wires c.self.inside.actors.items c.self.inside.journal.items c.at-number.result c.index_mut-actor.result.now c.step.new.self c.index-actor.result.now c.in_ok-event.event c.index-row.result.now c.reach-other.result c.is_runnable-runs.result c.is_idle-idle.result c.args.place c.self.inside.running.list c.self.inside.running.room
     c.self.invariant.fitted c.self.invariant.holds c.self.invariant.rows_hold c.self.invariant.running c.self.invariant.room c.self.invariant.brisk c.at-number.ensures c.index_mut-actor.ensures.value c.in_ok-event.ensures.own c.in_ok-event.ensures.stepped c.in_ok-event.ensures.turned c.step.ensures.fits c.step.ensures.part c.index-actor.ensures c.index-row.ensures c.is_idle-idle.ensures c.reach-other.ensures (subst (λ xs. IsAsked xs c.step.new.wires c.reach-other.result c.is_runnable-runs.result) c.deref.ensures.value c.is_runnable-runs.ensures) in
-    let same : begun (history_of c.self.inside.rows.items c.self.inside.past.value.items) c.self.inside.rows.items c.self.inside.pools.items (slice_set c.self.inside.actors.items c.at-number.result c.step.new.self) c.self.inside.net c.self.inside.serial c.self.inside.blk ≡ setting_of c.self.inside = ap (λ cast. record { history = history_of c.self.inside.rows.items c.self.inside.past.value.items; rows = c.self.inside.rows.items; pools = c.self.inside.pools.items; cast = cast; net = c.self.inside.net; serial = c.self.inside.serial; blk = c.self.inside.blk }) s.cast_is in
+    let same : begun (history_of c.self.inside.rows.items c.self.inside.past.value.items) c.self.inside.rows.items c.self.inside.pools.items (slice_set c.self.inside.actors.items c.at-number.result c.step.new.self) c.self.inside.net c.self.inside.serial c.self.inside.blk ≡ setting_of c.self.inside = ap (λ cast. record { history = history_of c.self.inside.rows.items c.self.inside.past.value.items; rows = c.self.inside.rows.items; pools = c.self.inside.pools.items; cast = cast; scene = scene_of cast; names = []; net = c.self.inside.net; serial = c.self.inside.serial; blk = c.self.inside.blk }) s.cast_is in
     record {
       fitted = subst IsFitted (sym same) c.self.invariant.fitted;
       before = subst HoldsBefore (sym same) c.self.invariant.before;
@@ -88,7 +89,7 @@ returns-clause-ok c =
       there = subst (λ (s : Shown). slice_get (runnable_now s) c.args.place ≡ Some c.at-number.result) c.self.view_is (rw (← c.self.invariant.running) c.at-number.ensures);
       appends = record {
         event = c.in_ok-event.event;
-        setting = ap (λ cast. record { history = history_of c.self.inside.rows.items c.self.inside.past.value.items; rows = c.self.inside.rows.items; pools = c.self.inside.pools.items; cast = cast; net = c.self.inside.net; serial = c.self.inside.serial; blk = c.self.inside.blk }) s.cast_is ∙ ap (λ (s : Shown). s.setting) c.self.view_is;
+        setting = ap (λ cast. record { history = history_of c.self.inside.rows.items c.self.inside.past.value.items; rows = c.self.inside.rows.items; pools = c.self.inside.pools.items; cast = cast; scene = scene_of cast; names = []; net = c.self.inside.net; serial = c.self.inside.serial; blk = c.self.inside.blk }) s.cast_is ∙ ap (λ (s : Shown). s.setting) c.self.view_is;
         journal = c.push_reserved.ensures.items ∙ rw (c.in_ok-reserve.ensures.items, ap (λ (s : Shown). s.journal) c.self.view_is) refl;
       };
     }
