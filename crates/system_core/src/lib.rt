@@ -6,6 +6,7 @@
 
 mod crew;
 mod crews;
+mod isolation;
 mod lines;
 mod records;
 mod running;
@@ -13,5 +14,6 @@ mod system;
 
 pub use actor_set::Actor;
 pub use crew::Crew;
+pub use isolation::isolation_law;
 pub use order_law::actor_parts::Parts;
 pub use system::{Ending, System};
