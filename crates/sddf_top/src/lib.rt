@@ -1,7 +1,7 @@
 //! The program as one call, over a shelf of texts and a sink for the answer, with a run of its own
 //! for a trace that is run in threads.
 //!
-//! An example of its calls: `crates/program_rows/src/examples/program.rt`.
+//! An example of its calls: `crates/program_rows/src/example.rt`.
 #![tactic(auto)]
 
 mod answering;

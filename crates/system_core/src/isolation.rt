@@ -20,8 +20,8 @@ ghost use Rattle.system_core.specs.Isolation.{AgreeOnNet, AgreeOnSerial, AgreeOn
 /// and by how many blocks its partition has, with which bytes. All else may differ: other classes
 /// and clients with their programs, scripts and partitions, buffers and capacities, what the queues
 /// had before, seeds, limits and journals; of a network or a block client its number too, and of a
-/// block client where its partition begins. Hostile clients don't play: where a plan has one, no
-/// system of it plays what a trace has it do.
+/// block client where its partition begins. It is of systems as they are: hostile clients don't
+/// play yet, so none stands beside the client.
 pub fn isolation_law()
     ensures net { (plan other : Plan) (trace told : Trace) (s t : Shown) (c d : ℕ)
         (got seen : List (List ℕ)) → IsSystemOf plan trace s → IsSystemOf other told t
