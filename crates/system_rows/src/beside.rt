@@ -21,6 +21,7 @@ use trace_text::{Trace, TraceFault, read_trace};
 const STEPS: u64 = 268_435_456;
 
 /// The texts of a description and of a trace for it.
+#[derive(Drop)]
 struct Texts {
     description: String,
     trace: String,
