@@ -1,7 +1,7 @@
 use Rattle.std.proofs.Common.{◌∙◌}
 use Rattle.system_core.proofs.Built.{layout_queues, are_seated}
 use Rattle.small_rows.proofs.Seats.{wrapped_begin}
-use Rattle.small_rows.proofs.compared.Goals as goal
+use Rattle.small_rows.proofs.playing.small_of.Goals as goal
 
 pub new-requires : goal.new-requires
 new-requires c =
