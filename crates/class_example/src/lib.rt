@@ -7,7 +7,7 @@
 //! each with its step (`source`, `joiner`: 300 lines); what each must fit, stands for, and which
 //! turn it is at (`specs/Sources`, `specs/Joiners`: 150); the one type of them all with the meanings
 //! and their laws (`member`, `specs/Members`, `specs/MemberLaws`: 250); what each wants of its ends,
-//! and the theorem (`class`, `specs/Pairs`: 130). The proofs are the rest: 290 lines of them draw
+//! and the theorem (`class`, `specs/Pairs`: 150). The proofs are the rest: 290 lines of them draw
 //! the theorem from the clauses of `tale_law`, `rest_law` and `quiet_law`.
 #![tactic(auto)]
 
