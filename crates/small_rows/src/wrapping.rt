@@ -19,10 +19,12 @@ pub struct Wrapped {
 impl SmallActor for Wrapped {
     ghost means = { wrapped_means };
 
+    #[inline(always)]
     fn step(&mut self, world: &mut World) -> Result<Event, Memory> {
         self.actor.step(world)
     }
 
+    #[inline(always)]
     fn at_rest(&self) -> bool {
         self.actor.at_rest()
     }
