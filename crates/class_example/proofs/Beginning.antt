@@ -18,7 +18,6 @@ use Rattle.play_core.proofs.Lists.{some_is}
 use Rattle.serial_switch.specs.Carried.{byte_cargo}
 use Rattle.small_system.specs.Meanings.{Own}
 use Rattle.small_system.specs.Standing.{Begins}
-use Rattle.small_system.specs.Shows.{Shown, Played}
 use Rattle.class_example.specs.declared.source.Source.{Source}
 use Rattle.class_example.specs.declared.joiner.Joiner.{Joiner}
 use Rattle.class_example.specs.declared.member.Member.{Member}
@@ -26,7 +25,7 @@ use Rattle.class_example.specs.declared.member.Member.TheVariants as Members
 use Rattle.class_example.specs.Sources.{IsNewSource}
 use Rattle.class_example.specs.Joiners.{IsNewJoiner, joiner_round}
 use Rattle.class_example.specs.Members.{made_of, member_round, MemberStandsFor, FitsMember, member_means}
-use Rattle.class_example.specs.Pairs.{IsRow, pair_of, at_start, IsPairPlay}
+use Rattle.class_example.specs.Pairs.{IsRow, pair_of}
 
 -- Two sources and a joiner in their start state may begin.
 
@@ -205,7 +204,3 @@ module _ (a b : QueueRow) (s t : Source) (j : Joiner) (one other : List ℕ) (ra
   -- what they are made of
   pub pair_made : map made_of actors ≡ pair_of one other
   pair_made = rw (at_zero, ns.script_is, at_one, nt.script_is, first_at, second_at) refl
-
-  -- a play of them from the start state on is one of the pair
-  pub pair_played : (seed limit : ℕ) (after : Shown Member) → Played member_means (at_start rows actors) after seed limit → IsPairPlay one other seed limit after
-  pair_played seed limit after p = record { first = a; second = b; actors = actors; from_one = ra; from_other = rb; made = pair_made; begins = pair_begins; played = p }

@@ -73,7 +73,6 @@ fn copies(alloc: Global, rows: &[QueueRow]) -> Result<Vec<QueueRow>, Memory>
 }
 
 // The actor whose pending word a call on a queue of this row sets, if it sets one.
-#[inline(always)]
 fn rung_at(op: Op, row: &QueueRow) -> Option<u16>
     ensures { result ≡ rung_at op row.now }
 {
@@ -85,7 +84,6 @@ fn rung_at(op: Op, row: &QueueRow) -> Option<u16>
 }
 
 // Whether the actor at a place isn't runnable.
-#[inline(always)]
 fn is_idle<A: SmallActor>(actor: &A, world: &World, place: ActorId) -> bool
     requires { IsFit A.means actor.now }
     ensures { result ≡ not (is_runnable A.means world.now place.0 actor.now) }
