@@ -1,10 +1,13 @@
 -- Two sources and a joiner: what each of them wants, and what their play comes to.
-use Rattle.std.specs.Prelude.{◌≡◌, ℕ, zero, suc, nat_lt, Some, List, [], ◌∷◌, length, slice_get}
+use Rattle.std.specs.Prelude.{◌≡◌, ℕ, zero, suc, nat_lt, Some, List, [], ◌∷◌, length, map}
+use Rattle.std.specs.Prelude.{slice_get}
 use Rattle.cargo_core.specs.Lists.{IsPrefix}
 use Rattle.cargo_core.specs.declared.item.QueueKind.TheVariants as Kind
 use Rattle.wire_core.specs.declared.names.QueueRow.{QueueRow}
+use Rattle.wire_core.specs.Queues.{starts}
 use Rattle.play_core.specs.Wants.{intake_want, outlet_want}
-use Rattle.small_system.specs.Shows.{Shown, IsQuiet}
+use Rattle.small_system.specs.Standing.{Begins}
+use Rattle.small_system.specs.Shows.{Shown, shown, Played, IsQuiet}
 use Rattle.small_system.specs.Wants.{Wanting, calls_in}
 use Rattle.class_example.specs.declared.joiner.Claim.{Claim}
 use Rattle.class_example.specs.declared.joiner.Claim.TheVariants.{Open, First, Second}
@@ -12,7 +15,7 @@ use Rattle.class_example.specs.declared.joiner.Joiner.{Joiner}
 use Rattle.class_example.specs.declared.member.Member.{Member}
 use Rattle.class_example.specs.declared.member.Member.TheVariants as Members
 use Rattle.class_example.specs.Joiners.{wants_first, wants_second, claim_by}
-use Rattle.class_example.specs.Members.{Made, Says, Joins, member_means}
+use Rattle.class_example.specs.Members.{Made, Says, Joins, made_of, member_means}
 
 -- a queue of bytes from a source to the joiner
 pub record IsRow (source : ℕ) (row : QueueRow) : Type 0 where
@@ -51,3 +54,19 @@ pub record Keeps (s : Shown Member) (one other : List ℕ) : Type 0 where
   pub begins : IsPrefix joiner.recorded.shown (said_by one other joiner.claim)
   pub whole : IsQuiet member_means s → joiner.recorded.shown ≡ said_by one other joiner.claim
   pub silent : IsQuiet member_means s → joiner.claim ≡ Open → (one ≡ []) × (other ≡ [])
+
+-- actors at queues in their start state, before the first step
+abbrev pub at_start : List QueueRow → List Member → Shown Member
+at_start rows actors = shown rows actors (starts rows) actors []
+
+-- what came of the pair by a play: from the start state on, in which these actors stand at the two
+-- queues, it was played by turns that the seed picks, at most so many
+pub record IsPairPlay (one other : List ℕ) (seed limit : ℕ) (s : Shown Member) : Type 0 where
+  pub first : QueueRow
+  pub second : QueueRow
+  pub actors : List Member
+  pub from_one : IsRow 0 first
+  pub from_other : IsRow 1 second
+  pub made : map made_of actors ≡ pair_of one other
+  pub begins : Begins member_means (first ∷ second ∷ []) actors
+  pub played : Played member_means (at_start (first ∷ second ∷ []) actors) s seed limit

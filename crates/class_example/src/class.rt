@@ -1,8 +1,8 @@
 //! The class: two sources and a joiner at play.
-ghost use Rattle.std.specs.Prelude.{◌≡◌, ℕ, true, false, List, map, IfOk};
+ghost use Rattle.std.specs.Prelude.{◌≡◌, ℕ, true, false, List, length, map, IfOk};
 ghost use Rattle.small_system.specs.Shows.{Shown, IsTold, IsQuiet};
 ghost use Rattle.class_example.specs.Members.{made_of, member_means};
-ghost use Rattle.class_example.specs.Pairs.{IsRow, pair_of, Keeps};
+ghost use Rattle.class_example.specs.Pairs.{IsRow, pair_of, Keeps, IsPairPlay};
 
 use crate::joiner::Joiner;
 use crate::member::Member;
@@ -43,7 +43,8 @@ fn row(alloc: Global, name: &str, source: u16) -> Result<QueueRow, Memory>
 }
 
 /// Plays the sources of two scripts with a joiner by a seed, until nobody is runnable or so many
-/// steps were made, and gives the player as it is then, and whether nobody is runnable.
+/// steps were made, and gives the player as it is then, and whether nobody is runnable. Where
+/// somebody is, its journal has as many entries as were allowed.
 pub fn play_pair(
     alloc: Global,
     one: Bytes,
@@ -51,9 +52,11 @@ pub fn play_pair(
     seed: u64,
     limit: u64,
 ) -> Result<(Small<Member>, bool), Memory>
+    ensures played { IfOk result (λ r. IsPairPlay one other seed limit r.0) }
     ensures keeps { IfOk result (λ r. Keeps r.0 one other) }
     ensures quiet { IfOk result (λ r. r.1 ≡ true → IsQuiet member_means r.0) }
     ensures goes_on { IfOk result (λ r. r.1 ≡ false → IsQuiet member_means r.0 → ⊥) }
+    ensures spent { IfOk result (λ r. r.1 ≡ false → length r.0.journal ≡ limit) }
 {
     let from_first = row(alloc, "one", 0)?;
     let from_second = row(alloc, "other", 1)?;

@@ -5,10 +5,10 @@
 //!
 //! Who brings a class writes, in this order, with some 1,700 lines in all: the kinds of actors,
 //! each with its step (`source`, `joiner`: 300 lines); what each must fit, stands for, and which
-//! turn it is at (`specs/Sources`, `specs/Joiners`: 150); the one type of them all with the meanings
-//! and their laws (`member`, `specs/Members`, `specs/MemberLaws`: 250); what each wants of its ends,
-//! and the theorem (`class`, `specs/Pairs`: 130). The proofs are the rest: 290 lines of them draw
-//! the theorem from the clauses of `tale_law`, `rest_law` and `quiet_law`.
+//! turn it is at (`specs/Sources`, `specs/Joiners`: 150); the one type of them all with the
+//! meanings and their laws (`member`, `specs/Members`, `specs/MemberLaws`: 250); what each wants of
+//! its ends, and the theorem (`class`, `specs/Pairs`: 150). The proofs are the rest: 290 lines of
+//! them draw the theorem from the clauses of `tale_law`, `rest_law` and `quiet_law`.
 #![tactic(auto)]
 
 mod class;

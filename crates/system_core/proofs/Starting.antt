@@ -31,7 +31,7 @@ use Rattle.player_kit.proofs.Rising.{with_above}
 use Rattle.player_kit.proofs.Places.{places_few}
 use Rattle.play_core.proofs.Flags.{flag_at, flags_length}
 use Rattle.system_core.proofs.RunsNow.{idle_here}
-use Rattle.player_kit.proofs.Listing.{take_with, not_not}
+use Rattle.player_kit.proofs.Listing.{not_not}
 use Rattle.player_kit.proofs.Showing.{starts_shown, nothing_there, none_stored}
 
 -- a start state holds

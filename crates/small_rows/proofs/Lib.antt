@@ -1,2 +1,0 @@
--- The proofs on actors in their wrappings.
-pub mod Seats
