@@ -8,8 +8,6 @@ mod line;
 mod lists;
 mod number;
 mod read;
-#[cfg(test)]
-mod read_tests;
 mod reader;
 mod report;
 mod text;
