@@ -1,0 +1,6 @@
+pub mod Rows
+pub mod Numbers
+pub mod Pieces
+pub mod Words
+pub mod Grown
+pub mod SoFar
