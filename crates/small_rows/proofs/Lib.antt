@@ -1,0 +1,2 @@
+-- The proofs on actors in their wrappings.
+pub mod Seats

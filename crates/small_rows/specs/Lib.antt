@@ -1,0 +1,3 @@
+-- What the actors of the plans mean to the player of any kind.
+pub mod Wrappings
+pub mod WrappingLaws

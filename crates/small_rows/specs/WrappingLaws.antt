@@ -1,0 +1,66 @@
+-- The laws of these meanings.
+use Rattle.std.proofs.Common.{◌≡◌, ◌++◌, ℕ, zero, suc, false, Some, List, [], ◌∷◌, slice_get}
+use Rattle.std.proofs.Common.{refl, subst, sym, ap, ◌∙◌}
+use Rattle.std.specs.List.{AllByRecursion}
+use Rattle.std.proofs.lemmas.List.{append-nil}
+use Rattle.wire_core.specs.declared.names.Side.TheVariants.{Forward, Backward}
+use Rattle.wire_core.specs.Ends.{Role, Consumer, Producer, End, role_of, waiting_role}
+use Rattle.wire_core.specs.Deeds.{Deed, Cargo}
+use Rattle.wire_core.specs.Lists.{Passed, with_deed}
+use Rattle.wire_core.proofs.Beside.{take_beside, put_beside}
+use Rattle.turn_kit.specs.Turns.{Post}
+use Rattle.actor_set.specs.Actors.{FitsActor, ActorStandsFor, ActorEnd, actor_round}
+use Rattle.actor_set.proofs.LawsLemmas.Beside.{fits_beside, stands_beside}
+use Rattle.actor_set.proofs.LawsLemmas.Paces.{post_stands, end_post}
+use Rattle.actor_set.proofs.LawsLemmas.Starts.{fits_whole}
+use Rattle.small_system.specs.Meanings.{Own, Lawful}
+use Rattle.small_rows.specs.declared.wrapping.Wrapped.{Wrapped}
+use Rattle.small_rows.specs.Wrappings.{wrapped_means}
+
+-- an end of an actor is one of its posts
+pub own_end : (x : Wrapped) (r : Role) (n : ℕ) → ActorEnd x.actor r n → Own wrapped_means x r n
+own_end x Consumer n h =
+    let p = end_post x.actor Forward n h in
+    record { place = p.0; post = p.1; there = p.2; queue = p.3; role = ap waiting_role p.4 }
+own_end x Producer n h =
+    let p = end_post x.actor Backward n h in
+    record { place = p.0; post = p.1; there = p.2; queue = p.3; role = ap waiting_role p.4 }
+
+still : (xs more : List Cargo) → more ≡ [] → xs ++ more ≡ xs
+still xs more none = ap (λ c. xs ++ c) none ∙ append-nil xs
+
+-- the end at which a call is made
+called_at : (x : Wrapped) (d : Deed) (r : Role) (n : ℕ) → role_of d.event.op ≡ r
+    → d.event.queue.0 ≡ n → ActorEnd x.actor r n
+    → Own wrapped_means x (role_of d.event.op) d.event.queue.0
+called_at x d r n a b own =
+    own_end x (role_of d.event.op) d.event.queue.0
+    (subst (λ q. ActorEnd x.actor q d.event.queue.0) (sym a)
+    (subst (ActorEnd x.actor r) (sym b) own))
+
+beside : (ends : Role → ℕ → End) (p : Passed) (d : Deed) (x : Wrapped) → FitsActor ends x.actor
+    → (Own wrapped_means x (role_of d.event.op) d.event.queue.0 → ⊥) → ActorStandsFor x.actor p
+    → ActorStandsFor x.actor (with_deed p d)
+beside ends p d x f off st =
+    stands_beside p (with_deed p d) x.actor (fits_whole ends x.actor f)
+    (λ n own. still (p.taken n) _
+    (take_beside d n (λ a b. off (called_at x d Consumer n a b own))))
+    (λ n own. still (p.sent n) _
+    (put_beside d n (λ a b. off (called_at x d Producer n a b own))))
+    st
+
+-- what holds of each holds of all
+all_from : (ps : List Post)
+    → ((k : ℕ) (p : Post) → slice_get ps k ≡ Some p → p.drops ≡ false)
+    → AllByRecursion (λ (p : Post). p.drops ≡ false) ps
+all_from [] h = tt
+all_from (p ∷ ps) h = (h zero p refl, all_from ps (λ k q. h (suc k) q))
+
+-- the laws of the meanings of actors in their wrappings
+pub wrapped_lawful : Lawful wrapped_means
+wrapped_lawful = record {
+  fits_beside = λ a b x same f.
+      fits_beside a b x.actor (λ r n own. same r n (own_end x r n own)) f;
+  stands_beside = beside;
+  waits = λ x. all_from (actor_round x.actor).posts (λ k p at. (post_stands x.actor k p at).1);
+}

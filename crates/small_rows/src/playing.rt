@@ -1,0 +1,96 @@
+//! A plan played by both players.
+ghost use Rattle.trace_text.specs.Traces.{IsReadFor};
+ghost use Rattle.sdf_check.specs.Valid.{Valid};
+
+use crate::order::Player;
+use crate::wrapping::{Wrapped, wrap};
+use cargo_core::Memory;
+use cast_core::cast;
+use region_layout::lay_out;
+use sdf_plan::Plan;
+use small_system::Small;
+use std::alloc::Global;
+use system_core::{Ending, System};
+use trace_text::Trace;
+
+/// How many steps a play makes at most.
+const LIMIT: u64 = 1 << 40;
+
+/// How many seeds are tried.
+const SEEDS: u64 = 20;
+
+// The system of a plan in its start state.
+fn system_of(alloc: Global, plan: &Plan, trace: &Trace) -> Result<System, Memory>
+    requires valid { Valid plan.now }
+    requires read { IsReadFor plan.now trace.now }
+{
+    let layout = lay_out(alloc, plan)?;
+    System::build(alloc, plan, &layout, trace)
+}
+
+// The actors of a plan, each in its wrapping, at the queues of its layout.
+fn small_of(alloc: Global, plan: &Plan, trace: &Trace) -> Result<Small<Wrapped>, Memory>
+    requires valid { Valid plan.now }
+    requires read { IsReadFor plan.now trace.now }
+{
+    let layout = lay_out(alloc, plan)?;
+    let cast = cast(alloc, plan, &layout, trace)?;
+    let actors = wrap(alloc, cast)?;
+    Small::new(alloc, layout.queues(), actors)
+}
+
+// Plays a plan by a seed in both ways: how many steps `Small` made, and whether both journals are
+// one and both are quiet.
+fn compared(alloc: Global, plan: &Plan, trace: &Trace, seed: u64) -> Result<(usize, bool), Memory>
+    requires valid { Valid plan.now }
+    requires read { IsReadFor plan.now trace.now }
+{
+    let mut system = system_of(alloc, plan, trace)?;
+    let ending = system.play(seed, LIMIT)?;
+    let mut small = small_of(alloc, plan, trace)?;
+    let quiet = small.play(seed, LIMIT)?;
+    let both = quiet && ending == Ending::Quiet;
+    Ok((
+        small.journal().len(),
+        both && small.journal() == system.journal(),
+    ))
+}
+
+/// A line for each seed: how many steps were made, and whether both players made the same and got
+/// quiet.
+pub(crate) fn table(alloc: Global, plan: &Plan, trace: &Trace) -> Result<String, Memory>
+    requires valid { Valid plan.now }
+    requires read { IsReadFor plan.now trace.now }
+{
+    let mut text = String::new(alloc);
+    for seed in 0..SEEDS {
+        let (steps, same) = compared(alloc, plan, trace, seed)?;
+        write!(text, "seed {seed}: {steps} steps, one journal: {same}\n")?;
+    }
+    Ok(text)
+}
+
+/// How many steps one of the players makes.
+pub(crate) fn steps_by(
+    alloc: Global,
+    plan: &Plan,
+    trace: &Trace,
+    player: Player,
+) -> Result<String, Memory>
+    requires valid { Valid plan.now }
+    requires read { IsReadFor plan.now trace.now }
+{
+    let steps = match player {
+        Player::Small => {
+            let mut small = small_of(alloc, plan, trace)?;
+            small.play(0, LIMIT)?;
+            small.journal().len()
+        }
+        Player::System => {
+            let mut system = system_of(alloc, plan, trace)?;
+            system.play(0, LIMIT)?;
+            system.journal().len()
+        }
+    };
+    Ok(format!(in alloc; "{steps} steps\n")?)
+}
