@@ -1,2 +1,3 @@
 -- The proofs on actors in their wrappings.
 pub mod Seats
+pub mod Acting
