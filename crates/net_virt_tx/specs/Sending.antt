@@ -168,13 +168,14 @@ pub record IsNewTraffic (ss : List Sender) (w : Traffic) : Type 0 where
   pub none_stray : w.stray ≡ None
 
 -- a virtualiser in its start state
-pub record IsNewTx (active free : QueueId) (clients : List TxEnds) (most : ℕ) (v : NetVirtTx) : Type 0 where
+pub record IsNewTx (active free : QueueId) (clients : List TxEnds) (most : ℕ) (v : NetVirtTx)
+    : Type 0 where
   pub ends : IsNewVirt free active (map (λ (c : TxEnds). c.active) clients)
       (map (λ (c : TxEnds). c.free) clients) v.ends
   pub work : IsNewTraffic (map (sender_of most) clients) v.work
 
--- these are the ranges of the clients' buffers, no buffer is empty, each range ends at most at 2^62,
--- and all clients together have few
+-- these are the ranges of the clients' buffers, no buffer is empty, each range ends at most at
+-- 2^62, and all clients together have few
 pub record FitsClients (clients : List TxEnds) (ranges : List Range) : Type 0 where
   pub ranges_are : ranges ≡ map tx_range clients
   pub sized : All (λ (c : TxEnds). 1 ≤ c.size) clients

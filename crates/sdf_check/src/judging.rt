@@ -205,9 +205,9 @@ fn refusal_of(alloc: Global, plan: &Plan) -> Result<Option<Refusal>, Memory>
     Ok(None)
 }
 
-/// Judges a plan by the rules on names, sizes, ranges, permissions, ids and classes, 5 to 32. `Refused` has
-/// the least rule that an element breaks, and the first element that breaks it, in the order of the
-/// walk over a description. Want of memory may come at any plan.
+/// Judges a plan by the rules on names, sizes, ranges, permissions, ids and classes, 5 to 32.
+/// `Refused` has the least rule that an element breaks, and the first element that breaks it, in
+/// the order of the walk over a description. Want of memory may come at any plan.
 pub fn check(alloc: Global, plan: &Plan) -> Result<(), SdfFault>
     requires { IsNumbered plan.now }
     ensures valid { OnOk result (Valid plan.now) }

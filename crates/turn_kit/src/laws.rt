@@ -84,7 +84,8 @@ pub fn pace_law()
         → HasCalmQueues hostile rows e.actor.0 → (old new : Round) → Paced
         (pendings history before) (since drops e.actor.0 before) old
         → (t : Turned old e.event new) → drops e ≡ is_drop t.posted.post e.event
-        → (is_at_rest old ≡ true → IsCalled (pendings history before) old.posts) → Paced (pendings history (before ++ e ∷ []))
+        → (is_at_rest old ≡ true → IsCalled (pendings history before) old.posts)
+        → Paced (pendings history (before ++ e ∷ []))
         (since drops e.actor.0 (before ++ e ∷ [])) new }
     ensures beside { (hostile : Hostiles) (drops : Drops) (history : History)
         (rows : List QueueRow) (before : List Entry) (e : Entry) →
