@@ -18,8 +18,8 @@ mod calls;
 mod laws;
 
 use calls::{answer_of, held_of, item_for, kept_pages, makes_call, place_after};
-pub use laws::{act_law, hand_law};
 use cargo_core::{Act, Body, Memory, Page, PoolId, QueueKind, Word};
+pub use laws::{act_law, hand_law};
 use std::alloc::Global;
 use std::snapshot::Snapshot;
 use wire_core::{Answer, Event, Op, QueueId, WildWires};
@@ -128,7 +128,6 @@ impl Rogue {
     /// Begins the act in hand anew: its look is forgotten, and no act is left out. A journal begins
     /// here.
     pub fn forget(&mut self)
-        requires { self.old.next ≤ length self.old.acts.items }
         ensures after { HasForgotten self.old self.new }
         ensures fits { (ends : Role → ℕ → End) → FitsRogue ends self.old
             → FitsRogue ends self.new }

@@ -18,12 +18,12 @@ use Rattle.client_programs.specs.Rogue.Acts.{makes_call, next_acts, act_op, act_
 use Rattle.client_programs.specs.Rogue.Clients.{IsRogue, IsActOf, IsOwnCall, RogueEnd, ends_of, left_of}
 
 -- what holds of all of a list holds of all from a place on, and of the acts that aren't left out
-all_drop : (P : Act → Type 0) (xs : List Act) (n : ℕ) → All P xs → All P (drop n xs)
+pub all_drop : (P : Act → Type 0) (xs : List Act) (n : ℕ) → All P xs → All P (drop n xs)
 all_drop P xs zero all = all
 all_drop P [] (suc n) all = all
 all_drop P (x ∷ xs) (suc n) all = all_drop P xs n (λ k d h. all (suc k) d (omega (arith, h)))
 
-all_next : (P : Act → Type 0) (kept : ℕ) (xs : List Act) → All P xs → All P (next_acts kept xs)
+pub all_next : (P : Act → Type 0) (kept : ℕ) (xs : List Act) → All P xs → All P (next_acts kept xs)
 all_next P kept [] all = all
 all_next P kept (x ∷ xs) all = decide (all_next P kept xs (λ k d h. all (suc k) d (omega (arith, h)))) (makes_call kept x)
   where
@@ -32,12 +32,12 @@ all_next P kept (x ∷ xs) all = decide (all_next P kept xs (λ k d h. all (suc 
     decide rest false = rest
 
 module _ (r : Rogue) where
-  an_input : (k n : ℕ) → k < length r.inputs.items → n ≡ queue_of (ends_of r) k → RogueEnd r Consumer n
+  pub an_input : (k n : ℕ) → k < length r.inputs.items → n ≡ queue_of (ends_of r) k → RogueEnd r Consumer n
   an_input k n h at =
       let q : QueueId = get_or r.inputs.items k (record { 0 = 0 }) in
       (k, q, slice_get-get_or r.inputs.items k (record { 0 = 0 }) h, at ∙ ap (λ (x : QueueId). x.0) (get_or_append_left r.inputs.items r.outputs.items (record { 0 = 0 }) k h))
 
-  an_output : (k n : ℕ) → length r.inputs.items ≤ k → k < length r.inputs.items + length r.outputs.items → n ≡ queue_of (ends_of r) k → RogueEnd r Producer n
+  pub an_output : (k n : ℕ) → length r.inputs.items ≤ k → k < length r.inputs.items + length r.outputs.items → n ≡ queue_of (ends_of r) k → RogueEnd r Producer n
   an_output k n l h at =
       let j = k - length r.inputs.items in
       let q : QueueId = get_or r.outputs.items j (record { 0 = 0 }) in
