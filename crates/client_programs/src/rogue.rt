@@ -129,6 +129,7 @@ impl Rogue {
     /// here.
     pub fn forget(&mut self)
         ensures after { HasForgotten self.old self.new }
+        ensures whole { IsRogue self.old → IsRogue self.new }
         ensures fits { (ends : Role → ℕ → End) → FitsRogue ends self.old
             → FitsRogue ends self.new }
         ensures lists { (passed : Passed) → RogueStandsFor self.old passed
