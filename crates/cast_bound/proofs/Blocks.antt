@@ -6,7 +6,7 @@ use Rattle.cargo_core.specs.declared.item.Ask.{Ask}
 use Rattle.wire_core.specs.declared.names.Entry.{Entry}
 use Rattle.wire_core.specs.Journal.{History, QueuesFlow}
 use Rattle.play_core.specs.Moved.{moved}
-use Rattle.play_core.specs.Sheets.{RowsHold}
+use Rattle.play_core.specs.Sheets.{RowsHold, Scene}
 use Rattle.play_core.proofs.Lists.{there_is}
 use Rattle.sdf_plan.specs.declared.plan.Plan.{Plan}
 use Rattle.sdf_plan.specs.declared.plan.Net.{Net}

@@ -12,18 +12,18 @@
 //! code; of many seeds or runs what the first one gives, and how many give the same; of runs how
 //! many actors waited in vain; and of a table how many cases it has, and how many are right.
 //!
-//! Behind the rows come the examples, and calls with other outsides.
+//! Behind the rows come an example, and calls with other outsides.
 #![tactic(auto)]
 
 mod arrivals;
-mod examples;
+mod example;
 mod failing;
 mod outside;
 mod row;
 mod words;
 
 use arrivals::Arrivals;
-use examples::print_examples;
+use example::print_example;
 use failing::print_cases;
 use outside::print_outsides;
 use sddf_top::{FileShelf, MemSink, Played, serve, serve_host};
@@ -218,6 +218,6 @@ fn main(rt: HostRuntime) -> io::Result<()> {
     for line in rt.lines(rt.alloc()) {
         print_row(&rt, line?.as_str(), &gate)?;
     }
-    print_examples(&rt)?;
+    print_example(&rt)?;
     print_outsides(&rt)
 }

@@ -1,11 +1,12 @@
 //! The program as one call, over a shelf of texts and a sink for the answer, with a run of its own
 //! for a trace that is run in threads.
 //!
-//! An example of its calls: `crates/program_rows/src/examples/program.rt`.
+//! An example of its calls: `crates/program_rows/src/example.rt`.
 #![tactic(auto)]
 
 mod answering;
 mod hosting;
+mod isolation;
 mod played;
 mod playing;
 mod serving;
@@ -15,6 +16,7 @@ pub mod system_run;
 pub use command_words::begins_run;
 pub use decision_core::{Asked, Showing, Status, judge};
 pub use hosting::serve_host;
+pub use isolation::isolation_law;
 pub use pd_runner::{Gate, OpenGate};
 pub use played::Played;
 pub use sdf_model::TEXT_MOST;

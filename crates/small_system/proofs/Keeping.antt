@@ -1,4 +1,4 @@
-use Rattle.std.proofs.Common.{◌≡◌, ◌≢◌, ◌⊎◌, ◌<◌, ◌≤◌, ◌+◌, ◌==◌, ◌||◌, ℕ, Bool, true, false, not, if◌then◌else◌, Option, Some, None, List, [], ◌∷◌, ◌++◌, length, length-set, slice_get, slice_set, slice_index_or, subst, refl, sym, ap, ◌∙◌, arith, inl, inr, zero, suc}
+use Rattle.std.proofs.Common.{◌≡◌, ◌≢◌, ◌⊎◌, ◌<◌, ◌≤◌, ◌+◌, ◌==◌, ◌||◌, ℕ, Bool, true, not, if◌then◌else◌, Option, Some, None, List, [], ◌∷◌, ◌++◌, length, length-set, slice_get, slice_set, slice_index_or, subst, refl, sym, ap, ◌∙◌, arith, inl, inr, zero, suc}
 use Rattle.std.proofs.lemmas.Option.{slice_get_past, slice_get_read}
 use Rattle.std.proofs.lemmas.Bool.{eq-eqb}
 use Rattle.wire_core.specs.declared.names.QueueRow.{QueueRow}
@@ -19,36 +19,18 @@ use Rattle.play_core.specs.Runs.{places_from, rung_at, reach_of}
 use Rattle.play_core.proofs.Lists.{some_is, there_is, there_below}
 use Rattle.play_core.proofs.Flags.{differs_at, differs_twice, reach_owns, runnable_apart}
 use Rattle.small_system.specs.Meanings.{Means, Steps, Acts, IsFit, Lawful}
-use Rattle.small_system.specs.Tales.{Moment, Turn, is_runnable, flags_in, running_in, start_of, world_after, moment_after, IsTurn, IsTale, after_tale, entry_of, journal_of}
+use Rattle.small_system.specs.Tales.{Moment, Turn, is_runnable, flags_in, running_in, start_of, moment_after, IsTale, after_tale, entry_of}
 use Rattle.small_system.specs.Standing.{Begins, Holds}
 use Rattle.small_system.specs.Shows.{Shown, shown, IsTold, IsAsked, StepsAt}
-use Rattle.small_system.specs.Runnings.{Ascending, removed_if, with_option, with_if}
+use Rattle.player_kit.specs.Runnings.{Ascending, removed_if, with_option, with_if}
 use Rattle.small_system.specs.Inside.{IsSmall}
-use Rattle.small_system.proofs.Places.{places_kept, places_clear, places_so, places_below, places_few}
+use Rattle.player_kit.proofs.Places.{places_kept, places_so, places_below, places_few}
 use Rattle.small_system.proofs.Posts.{own_call}
 use Rattle.small_system.proofs.Step.{step_holds, called_here}
 use Rattle.small_system.proofs.Telling.{after_join, tale_join, journal_join, stands_now}
+use Rattle.player_kit.proofs.Listing.{get_case, not_not, cleared}
 
 -- After a step the kept list is the runnable actors.
-
-pub set_same : {X : Type 0} (xs : List X) (k : ℕ) (b : X) → slice_get xs k ≡ Some b → slice_set xs k b ≡ xs
-set_same [] k b h = refl
-set_same (x ∷ xs) zero b h = ap (λ y. y ∷ xs) (sym (some_is h))
-set_same (x ∷ xs) (suc k) b h = ap (λ ys. x ∷ ys) (set_same xs k b h)
-
-pub get_case : {X : Type 0} (xs : List X) (i : ℕ) → ((y : X) × (slice_get xs i ≡ Some y)) ⊎ (length xs ≤ i)
-get_case [] i = inr (omega arith)
-get_case (x ∷ xs) zero = inl (x, refl)
-get_case (x ∷ xs) (suc i) = elim (get_case xs i) [ inl h ↦ inl h | inr h ↦ inr (omega arith) ]
-
-pub not_not : (b : Bool) → b ≡ not (not b)
-not_not true = refl
-not_not false = refl
-
--- the actors' places after one of them is idle or not
-cleared : (bs : List Bool) (k place : ℕ) (idle : Bool) → slice_get (places_from 0 bs) place ≡ Some k → places_from 0 (slice_set bs k (not idle)) ≡ removed_if idle (places_from 0 bs) place
-cleared bs k place true at = places_clear 0 k k place bs (omega arith) (let h = places_below 0 place k bs at in let lt : k < 0 + length bs = h.1 in omega arith) at
-cleared bs k place false at = ap (places_from 0) (set_same bs k true (places_so 0 k k place bs (omega arith) at))
 
 -- what is said of the actor at a place
 pub flag_at : {A : Type 0} (m : Means A) (w : List Queue) (k i n : ℕ) (xs : List A) (x : A) → n ≡ k + i → slice_get xs i ≡ Some x → slice_get (flags_in m w k xs) i ≡ Some (is_runnable m w n x)

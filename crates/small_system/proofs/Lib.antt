@@ -1,7 +1,4 @@
 -- The proofs on the player.
-pub mod Rising
-pub mod Places
-pub mod Taking
 pub mod Posts
 pub mod Step
 pub mod Telling

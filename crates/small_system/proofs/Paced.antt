@@ -13,8 +13,8 @@ use Rattle.small_system.specs.Meanings.{Means, Lawful}
 use Rattle.small_system.specs.Tales.{Moment, Turn, start_of, moment_after, IsTale, entry_of, journal_of}
 use Rattle.small_system.specs.Standing.{Begins, Holds, IsLawful}
 use Rattle.small_system.specs.Shows.{Shown, IsTold}
-use Rattle.small_system.proofs.Keeping.{get_case}
 use Rattle.small_system.proofs.Telling.{start_small, turn_holds, told_holds}
+use Rattle.player_kit.proofs.Listing.{get_case}
 
 -- A tale's journal is lawful: at each moment each actor made few calls since its last mark.
 

@@ -1,4 +1,4 @@
-use Rattle.std.proofs.Common.{◌≡◌, ◌+◌, ◌++◌, ◌<◌, ◌⊎◌, ◌≢◌, ℕ, true, false, get_or, inl, inr, List, [], ◌∷◌, Some, length, length-set, map, slice_get, slice_set, append_assoc, refl, sym, ap, ◌∙◌, subst, zero, suc, arith}
+use Rattle.std.proofs.Common.{◌≡◌, ◌+◌, ◌++◌, ◌<◌, ◌⊎◌, ◌≢◌, ℕ, true, false, get_or, inl, inr, List, [], ◌∷◌, Some, length, length-set, slice_get, slice_set, append_assoc, refl, sym, ap, ◌∙◌, subst, arith}
 use Rattle.std.proofs.Math.Dec.{eqb}
 use Rattle.std.proofs.lemmas.Bool.Decides.{eqb_tells}
 use Rattle.std.proofs.lemmas.List.{append-nil, map-append, length-map}
@@ -9,19 +9,18 @@ use Rattle.wire_core.proofs.Places.{slice_get_written, slice_get_beside}
 use Rattle.wire_core.specs.declared.names.QueueRow.{QueueRow}
 use Rattle.wire_core.specs.declared.names.Entry.{Entry}
 use Rattle.wire_core.specs.Lists.{Passed, with_deed, nothing_passed}
-use Rattle.wire_core.specs.Queues.{Queue, starts, queue_at, end_at}
-use Rattle.wire_core.specs.Journal.{start_track, start_history, nobody, IsShown, EachMoment, EachFrom, BellsHold, QueuesFlow}
-use Rattle.wire_core.specs.Marks.{no_drops, since, Brisk, AreFew}
-use Rattle.wire_core.specs.Picks.{PickedFrom, next_seed, place_of}
-use Rattle.wire_core.proofs.BellTheorem.{start_is, bells_hold, queues_flow, starts_hold, starts_flow}
+use Rattle.wire_core.specs.Queues.{starts, queue_at}
+use Rattle.wire_core.specs.Journal.{start_history, IsShown}
+use Rattle.wire_core.proofs.BellTheorem.{start_is}
 use Rattle.turn_kit.specs.Pace.{pendings}
 use Rattle.turn_kit.proofs.Pacing.{paced_anew}
 use Rattle.play_core.proofs.Lists.{some_is}
 use Rattle.small_system.specs.Meanings.{Means, Lawful}
-use Rattle.small_system.specs.Tales.{Moment, Turn, start_of, IsTurn, moment_after, IsTale, after_tale, entry_of, journal_of, passed_from, passed_by, PickedBy, Along, running_in}
+use Rattle.small_system.specs.Tales.{Moment, Turn, start_of, IsTurn, moment_after, IsTale, after_tale, entry_of, journal_of, passed_from, passed_by, Along}
 use Rattle.small_system.specs.Standing.{Begins, Holds}
 use Rattle.small_system.specs.Shows.{Shown, IsTold, Stands}
-use Rattle.small_system.proofs.Step.{step_holds, no_row}
+use Rattle.small_system.proofs.Step.{step_holds}
+use Rattle.player_kit.proofs.Showing.{no_row, starts_shown, nothing_there, none_stored}
 
 -- Tales go on, and at each moment of one all holds.
 
@@ -47,21 +46,6 @@ journal_join ts us = map-append entry_of ts us
 pub passed_join : {A : Type 0} (p : Passed) (ts us : List (Turn A)) → passed_from p (ts ++ us) ≡ passed_from (passed_from p ts) us
 passed_join p [] us = refl
 passed_join p (t ∷ ts) us = passed_join (with_deed p t.deed) ts us
-
-starts_shown : (rows : List QueueRow) (n : ℕ) (row : QueueRow) → slice_get rows n ≡ Some row → IsShown row (queue_at (starts rows) n) start_track
-starts_shown [] n row h = cc
-starts_shown (a ∷ rows) zero row h = let e : a ≡ row = some_is h in record { kind = ap (λ (r : QueueRow). r.kind) e; capacity = ap (λ (r : QueueRow). r.capacity) e; producer = ap (λ (r : QueueRow). r.producer.0) e; consumer = ap (λ (r : QueueRow). r.consumer.0) e; lists = refl; bells = refl }
-starts_shown (a ∷ rows) (suc n) row h = starts_shown rows n row h
-
-nothing_there : (rows : List QueueRow) (n : ℕ) → (queue_at (starts rows) n).entries ≡ []
-nothing_there [] n = refl
-nothing_there (a ∷ rows) zero = refl
-nothing_there (a ∷ rows) (suc n) = nothing_there rows n
-
-none_stored : (rows : List QueueRow) (n : ℕ) → (queue_at (starts rows) n).indices.stored ≡ false
-none_stored [] n = refl
-none_stored (a ∷ rows) zero = refl
-none_stored (a ∷ rows) (suc n) = none_stored rows n
 
 -- what begins holds
 pub start_small : {A : Type 0} (m : Means A) (rows : List QueueRow) (actors : List A) → Begins m rows actors → Holds m rows (start_of rows actors) nothing_passed []

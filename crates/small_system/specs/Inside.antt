@@ -3,7 +3,7 @@ use Rattle.std.specs.Prelude.{◌≡◌, ◌≤◌, length}
 use Rattle.small_system.specs.Meanings.{Means}
 use Rattle.small_system.specs.Tales.{running_in}
 use Rattle.small_system.specs.Shows.{Shown, IsTold}
-use Rattle.small_system.specs.Runnings.{Ascending}
+use Rattle.player_kit.specs.Runnings.{Ascending}
 
 -- a tale tells it, the runnable actors are kept, and there is room for them
 pub record IsSmall {A : Type 0} (m : Means A) (s : Shown A) (running : Ascending) : Type 0 where

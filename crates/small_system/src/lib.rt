@@ -4,7 +4,6 @@
 
 mod actor;
 mod laws;
-mod running;
 mod small;
 
 pub use actor::SmallActor;

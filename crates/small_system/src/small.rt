@@ -8,12 +8,12 @@ ghost use Rattle.small_system.specs.Tales.{start_of, is_runnable, running_in};
 ghost use Rattle.small_system.specs.Standing.{Begins, IsLawful};
 ghost use Rattle.small_system.specs.Shows.{shown, IsTold, Stands, IsQuiet, Played, IsSpent};
 ghost use Rattle.small_system.specs.Shows.{StepsAt, IsAsked};
-ghost use Rattle.small_system.specs.Runnings.{removed_if, with_option};
+ghost use Rattle.player_kit.specs.Runnings.{removed_if, with_option};
 
 use crate::SmallActor;
-use crate::running::Running;
 use cargo_core::{Memory, Text};
 use plain_wires::World;
+use player_kit::Running;
 use std::alloc::Global;
 use std::marker::Model;
 use std::snapshot::Snapshot;
@@ -103,27 +103,6 @@ fn is_woken<A: SmallActor>(actors: &[A], world: &World, rung: Option<u16>) -> bo
     }
 }
 
-// Takes out the actor at a place where it is idle, and keeps the one that a call rings where it is
-// runnable.
-fn note(running: &mut Running, place: usize, idle: bool, rung: Option<u16>, woken: bool)
-    requires there { place < length running.old.list }
-    requires room { length (with_option rung woken (removed_if idle running.old.list place))
-        ≤ running.old.room }
-    ensures { running.new ≡ record running.old {
-      list = with_option rung woken
-          (removed_if idle running.old.list place);
-    } }
-{
-    if idle {
-        running.remove(place);
-    }
-    match rung {
-        Some(actor) if woken => running.add(actor),
-        Some(actor) => running.take_out(actor),
-        None => {}
-    }
-}
-
 // The runnable actors before the first call.
 fn first_running<A: SmallActor>(
     alloc: Global,
@@ -205,7 +184,7 @@ impl<A: SmallActor> Small<A> {
         let row = &self.rows[event.queue.0 as usize];
         let rung = rung_at(event.op, row);
         let woken = is_woken(&self.actors, &self.world, rung);
-        note(&mut self.running, place, idle, rung, woken);
+        self.running.note(place, idle, rung, woken);
         Ok(())
     }
 

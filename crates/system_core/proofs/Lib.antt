@@ -1,11 +1,8 @@
 -- The proofs on a system at play.
-pub mod Rising
-pub mod Places
 pub mod Telling
 pub mod SystemStep
 pub mod Playing
 pub mod RunsNow
-pub mod Taking
 pub mod Starting
 pub mod Seating
 pub mod Fitting
@@ -27,3 +24,4 @@ pub mod PoolsLemmas
 pub mod Together
 pub mod Parting
 pub mod Adopting
+pub mod Isolating

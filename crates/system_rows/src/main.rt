@@ -12,36 +12,38 @@
 //! A row `network FILE | TRACE | FIRST | COUNT` stands for plays of a description with a network and
 //! a trace by so many seeds from the first on, a line for each; with `| pools` behind it the line
 //! has also where the buffers of each pool are.
+//!
+//! A row `beside FILE TRACE | FILE TRACE | FIRST | COUNT | STEPS` stands for pairs of plays of two
+//! descriptions, by so many seeds from the first on, a line for each pair: what client 0 of each
+//! class recorded in the first play, and in the second, which has so many steps at most, where
+//! these got quiet. Where the two records aren't of one list, the line says so.
 #![tactic(auto)]
 
-ghost use Rattle.std.specs.Prelude.{◌≡◌, ◌<◌, IfOk, length, []};
-ghost use Rattle.wire_core.specs.Journal.{LegalJournal};
+ghost use Rattle.std.specs.Prelude.{◌<◌, length};
 ghost use Rattle.sdf_check.specs.Valid.{Valid};
 ghost use Rattle.trace_text.specs.Events.{blk_clients};
 ghost use Rattle.trace_text.specs.Traces.{IsReadFor};
-ghost use Rattle.region_layout.specs.Layouts.{layout_of};
-ghost use Rattle.expect_core.specs.Budgets.{budget_of};
-ghost use Rattle.system_core.specs.Reports.{report_of};
-ghost use Rattle.system_core.specs.Shows.{Shown, hostile_in};
-ghost use Rattle.system_core.specs.Plays.{runnable_now};
-ghost use Rattle.system_core.specs.PlanPlays.{IsSystemOf, StaysOfItsPlan};
 
+mod beside;
 mod judging;
 mod naming;
 mod network;
 mod numbering;
+mod playing;
 
+use beside::print_beside;
 use cargo_core::{Memory, Reply};
 use expect_core::{Report, input_of, replies_of};
 use judging::judged;
 use network::print_network;
-use region_layout::{Layout, lay_out};
+use playing::{played_in_a_row, played_once};
+use region_layout::lay_out;
 use sdf_model::TEXT_MOST;
 use sdf_plan::{Plan, SdfFault};
 use std::alloc::Global;
 use std::rt::Files;
 use std::{fs, io};
-use system_core::{Ending, System};
+use system_core::Ending;
 use trace_text::{Trace, TraceFault, read_trace};
 
 // Bytes as runs of one value.
@@ -189,60 +191,6 @@ fn told(
     Ok(line)
 }
 
-// Plays a system several times in a row, by a seed each time and so many steps at most, and answers
-// how the last play ended.
-fn play_in_a_row(system: &mut System, seeds: &[u64], steps: u64) -> Result<Ending, Memory>
-    ensures system { StaysOfItsPlan system.old system.new }
-    ensures quiet { IfOk result (λ e. e ≡ Ending.Quiet → runnable_now system.new ≡ []) }
-{
-    let mut ending = Ending::Spent;
-    for seed in seeds {
-        ending = system.play(*seed, steps)?;
-    }
-    Ok(ending)
-}
-
-// How the last of several plays in a row of one system ended, and what is seen of it then: it is a
-// system of the plan and the trace, as after one play.
-fn played_in_a_row(
-    alloc: Global,
-    plan: &Plan,
-    layout: &Layout,
-    trace: &Trace,
-    seeds: &[u64],
-    steps: u64,
-) -> Result<(Ending, Report), Memory>
-    requires valid { Valid plan.now }
-    requires layout { layout.now ≡ layout_of plan.now }
-    requires trace { IsReadFor plan.now trace.now }
-    ensures { IfOk result (λ r. (s : Shown) × (r.1 ≡ report_of s) × IsSystemOf plan.now trace.now s
-        × LegalJournal (hostile_in s.setting) s.setting.history s.setting.rows s.journal
-        × (length s.journal < budget_of plan.now trace.now)
-        × (r.0 ≡ Ending.Quiet → runnable_now s ≡ [])) }
-{
-    let mut system = System::build(alloc, plan, layout, trace)?;
-    let ending = play_in_a_row(&mut system, seeds, steps);
-    let report = system.into_report()?;
-    Ok((ending?, report))
-}
-
-// The same of a single play.
-fn played_once(
-    alloc: Global,
-    plan: &Plan,
-    layout: &Layout,
-    trace: &Trace,
-    seed: u64,
-    steps: u64,
-) -> Result<(Ending, Report), Memory>
-    requires valid { Valid plan.now }
-    requires layout { layout.now ≡ layout_of plan.now }
-    requires trace { IsReadFor plan.now trace.now }
-{
-    let (system, ending) = System::played(alloc, plan, layout, trace, seed, steps)?;
-    Ok((ending, system.into_report()?))
-}
-
 // The seeds that a text has.
 fn seeds_of(alloc: Global, text: &str) -> Result<Vec<u64>, Memory> {
     let mut seeds = Vec::new(alloc);
@@ -325,6 +273,9 @@ fn trace_of(alloc: Global, lines: &str) -> Result<String, Memory> {
 fn print_row<R: Files + Print + AllocGlobal>(rt: &R, row: &str) -> io::Result<()> {
     if let Some(row) = row.strip_prefix("network ") {
         return print_network(rt, row);
+    }
+    if let Some(row) = row.strip_prefix("beside ") {
+        return print_beside(rt, row);
     }
     let Some((name, rest)) = row.split_once(" | ") else {
         return rt.println("no row");

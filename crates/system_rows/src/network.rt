@@ -8,6 +8,7 @@ ghost use Rattle.trace_text.specs.Traces.{IsReadFor};
 ghost use Rattle.region_layout.specs.Layouts.{layout_of};
 
 use crate::judging::judged;
+use crate::playing::played_once;
 use cargo_core::{FrameLog, Memory};
 use expect_core::{Report, frames_for};
 use frame_core::read_mac;
@@ -18,7 +19,7 @@ use sdf_plan::{Net, Plan, SdfFault};
 use std::alloc::Global;
 use std::rt::Files;
 use std::{fs, io};
-use system_core::{Ending, System};
+use system_core::Ending;
 use trace_text::{Trace, TraceFault, is_source, read_trace, runs};
 
 /// So many seeds from the first on, and whether the pools are to be told.
@@ -203,8 +204,7 @@ fn play(
     requires layout { layout.now ≡ layout_of plan.now }
     requires trace { IsReadFor plan.now trace.now }
 {
-    let (system, ending) = System::played(alloc, plan, layout, trace, seed, STEPS)?;
-    let report = system.into_report()?;
+    let (ending, report) = played_once(alloc, plan, layout, trace, seed, STEPS)?;
     told(alloc, plan, &report, trace, ending, pools)
 }
 

@@ -4,9 +4,10 @@ use Rattle.wire_core.specs.Queues.{end_at, starts}
 use Rattle.play_core.specs.Runs.{places_from}
 use Rattle.small_system.specs.Tales.{flags_in}
 use Rattle.small_system.proofs.Keeping.{flags_count}
-use Rattle.small_system.proofs.Listing.{flag_start, list_added, list_skipped, list_room, list_whole}
+use Rattle.small_system.proofs.Listing.{flag_start}
 use Rattle.small_system.proofs.small.first_running.Goals as goal
 use Rattle.small_system.proofs.small.first_running.Goals.{then-not-is_idle, else-not-is_idle}
+use Rattle.player_kit.proofs.Listing.{list_added, list_skipped, list_room, list_whole}
 
 pub is_idle-requires : goal.is_idle-requires
 is_idle-requires g c = (end_at (starts c.args.rows.now), c.requires.begins.fits c.loop-k.k c.index-actors-k.result (slice_get_read c.args.actors.now _ c.loop-k.k c.index-actors-k.result refl c.loop-k-test.true c.index-actors-k.is))

@@ -3,9 +3,10 @@ use Rattle.std.specs.Vec.{vec_len}
 use Rattle.std.proofs.lemmas.Option.{slice_get_read, slice_get_within}
 use Rattle.small_system.specs.Shows.{shown, IsAsked, StepsAt}
 use Rattle.small_system.specs.Inside.{IsSmall}
-use Rattle.small_system.proofs.Keeping.{set_same, runner_there, rung_there, all_fit, told_then, fit_then, steps_at, small_then}
+use Rattle.small_system.proofs.Keeping.{runner_there, rung_there, all_fit, told_then, fit_then, steps_at, small_then}
 use Rattle.small_system.proofs.Telling.{stands_now}
 use Rattle.small_system.proofs.small.Small.step_at.Goals as goal
+use Rattle.player_kit.proofs.Listing.{set_same}
 
 pub index_mut-actor-requires : goal.index_mut-actor-requires
 index_mut-actor-requires g c =

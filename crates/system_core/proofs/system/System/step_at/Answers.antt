@@ -12,9 +12,10 @@ use Rattle.system_core.proofs.SystemStep.{entry_of}
 use Rattle.system_core.specs.Plays.{runnable_now}
 use Rattle.system_core.specs.Asking.{IsAsked}
 use Rattle.system_core.specs.Systems.{Holds, HoldsBefore}
-use Rattle.system_core.proofs.Stepping.{caller_owns, rung_there, set_same, system_then}
+use Rattle.system_core.proofs.Stepping.{caller_owns, rung_there, system_then}
 use Rattle.system_core.proofs.Hearing.{runner_there}
 use Rattle.system_core.proofs.system.System.step_at.Goals as goal
+use Rattle.player_kit.proofs.Listing.{set_same}
 
 pub index_mut-actor-requires : goal.index_mut-actor-requires
 index_mut-actor-requires c =

@@ -1,0 +1,2 @@
+-- The kept list of the runnable actors (Runnings).
+pub mod Runnings
