@@ -67,11 +67,11 @@ module _ (r : Rogue) where
   of_act (Acts.Put k x l) false e a c = inl (at_op e.op Do.Room e.queue.0 c.op (an_output k e.queue.0 a.0 a.1 c.queue))
   of_act (Acts.Give k p x l) true e a c = inl (at_op e.op Do.Put e.queue.0 c.op (an_output k e.queue.0 a.0 a.1 c.queue))
   of_act (Acts.Give k p x l) false e a c = inl (at_op e.op Do.Room e.queue.0 c.op (an_output k e.queue.0 a.0 a.1 c.queue))
-  of_act (Acts.Store k w v) looked e a c = inr (rw c.op refl, an_end k e.queue.0 a c.queue)
+  of_act (Acts.Store k w v) looked e a c = let end = an_end k e.queue.0 a c.queue in inr (rw c.op refl, end.0, end.1)
 
   pub own_call : (e : Event) → IsRogue r → IsNext r.kind (ends_of r) (left_of r) e → IsOwnCall r e
   own_call e is next =
-      of_list (next_acts (length r.kept.items) (drop r.next r.acts.items)) (all_next _ (length r.kept.items) (drop r.next r.acts.items) (all_drop _ r.acts.items r.next is.acts)) next
+      of_list (next_acts (length r.kept.items) (drop r.next r.acts.items)) (all_next (IsActOf (length r.inputs.items) (length r.inputs.items + length r.outputs.items)) (length r.kept.items) (drop r.next r.acts.items) (all_drop (IsActOf (length r.inputs.items) (length r.inputs.items + length r.outputs.items)) r.acts.items r.next is.acts)) next
     where
       of_list : (xs : List Act) → All (IsActOf (length r.inputs.items) (length r.inputs.items + length r.outputs.items)) xs → IsNextOf r.kind (ends_of r) r.looked xs e → IsOwnCall r e
       of_list [] all n = absurd n

@@ -3,7 +3,7 @@ use Rattle.client_programs.proofs.rogue.Rogue.forget.Goals as goal
 
 pub returns-clause-after : goal.returns-clause-after
 returns-clause-after c =
-    let kept : c.len.result ≡ length c.args.self.now.kept.items = search rules in
+    let kept : c.len-self.result ≡ length c.args.self.now.kept.items = search rules in
     record { left = refl; start = rw kept refl; inputs = refl; outputs = refl; kind = refl; acts = refl; kept = refl; pages = refl }
 
 pub returns-clause-whole : goal.returns-clause-whole

@@ -1,6 +1,5 @@
-use Rattle.std.proofs.Common.{rules, false, ◌≡◌, ◌<◌, ◌+◌, ◌^◌, length, map, vec_len, refl, ap, ◌∙◌, sym, arith}
+use Rattle.std.proofs.Common.{rules, false, ◌≡◌, length, vec_len, refl, ap, ◌∙◌, arith}
 use Rattle.std.proofs.lemmas.List.{length-map}
-use Rattle.buffer_kit.specs.Pools.{page_bodies}
 use Rattle.client_programs.proofs.RogueLemmas.Following.{takes_few, starts_stand}
 use Rattle.client_programs.proofs.rogue.Rogue.new.Goals as goal
 

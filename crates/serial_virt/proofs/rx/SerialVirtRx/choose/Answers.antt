@@ -11,17 +11,17 @@ use Rattle.serial_virt.specs.Receiving.{rx_round}
 use Rattle.serial_virt.proofs.Counting.{offered_count, rx_choice, rx_first, free_is}
 use Rattle.serial_virt.proofs.rx.SerialVirtRx.choose.Goals as goal
 
-count : (c : goal.After-pass-arg-1) → c.offer-choice-2.result.count ≡ 1 + c.len.result
+count : (c : goal.After-pass-arg-1) → c.offer-choice-2.result.count ≡ 1 + c.len-count.result
 count c = ap (λ (x : Choosing). x.count) c.offer-choice-2.ensures ∙ (offered_count c.offer-choice.result 1 (outlet_posts c.args.self.now.outputs) (needs_from (is_here c.client_owed-owed.result) 0 (outlet_queues c.args.self.now.outputs)) ∙ (ap (λ (x : Choosing). x.count) c.offer-choice.ensures ∙ ap (λ (x : Choosing). x.count) c.begin.ensures))
 
 pub pass-requires : goal.pass-requires
 pass-requires c = let e = count c in omega (arith, e)
 
 pub returns-clause-within : goal.returns-clause-within
-returns-clause-within c = let e = count c.before in omega (arith, e, c.pass.ensures.within, c.len.ensures.len)
+returns-clause-within c = let e = count c.before in omega (arith, e, c.pass.ensures.within, c.len-count.ensures.len)
 
 choice : (c : goal.After-pass-arg-1) → c.offer-choice-2.result ≡ choice_of (rx_round c.args.self.now)
-choice c = rx_choice c.args.self.now c.settled-settled.result c.client_owed-owed.result (1 + c.len.result) c.begin.result c.offer-choice.result c.offer-choice-2.result (c.settled-settled.ensures ∙ ap (λ b. is_settled c.args.self.now.input.state b) (free_is c.args.self.now.load c.is_none.result c.is_none.ensures)) c.client_owed-owed.ensures (ap (λ n. 1 + n) c.len.ensures.len) c.begin.ensures c.offer-choice.ensures c.offer-choice-2.ensures
+choice c = rx_choice c.args.self.now c.settled-settled.result c.client_owed-owed.result (1 + c.len-count.result) c.begin.result c.offer-choice.result c.offer-choice-2.result (c.settled-settled.ensures ∙ ap (λ b. is_settled c.args.self.now.input.state b) (free_is c.args.self.now.load c.is_none.result c.is_none.ensures)) c.client_owed-owed.ensures (ap (λ n. 1 + n) c.len-count.ensures.len) c.begin.ensures c.offer-choice.ensures c.offer-choice-2.ensures
 
 pub returns-clause-place : goal.returns-clause-place
 returns-clause-place c = c.pass.ensures.place ∙ ap chosen_place (choice c.before)
