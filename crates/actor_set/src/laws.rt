@@ -21,7 +21,7 @@ ghost use Rattle.play_core.specs.Sheets.{Scene, IsOwn, AreApart};
 ghost use Rattle.actor_set.specs.Parts.{Part};
 ghost use Rattle.actor_set.specs.Actors.{FitsActor, ActorStandsFor, ActorEnd, ActorTurned, IsWhole};
 ghost use Rattle.actor_set.specs.Actors.{actor_round, actor_rests, actor_hand, part_of};
-ghost use Rattle.actor_set.specs.Actors.{part_anew, IsActorCall, MayStep};
+ghost use Rattle.actor_set.specs.Actors.{part_anew, IsActorCall};
 ghost use Rattle.actor_set.specs.declared.actor.Actor.{Actor};
 ghost use Rattle.actor_set.specs.declared.actor.Actor.TheVariants as Kinds;
 ghost use Rattle.client_programs.specs.declared.rogue.Rogue.{Rogue};
@@ -85,8 +85,6 @@ pub fn turn_law()
     ensures sorts { (a : Actor) → (manner_of (part_of a) ≡ Calm)
         ⊎ ((r : Rogue) × (a ≡ Kinds.Rogue r)) }
     ensures anew { (a : Actor) → manner_of (part_of a) ≡ Calm → part_anew a ≡ part_of a }
-    ensures may { (wild : ℕ → Type 0) (a : Actor) → manner_of (part_of a) ≡ Calm
-        → MayStep wild a }
     ensures ends { (a : Actor) (k : ℕ) (p : Post) → slice_get (actor_round a).posts k ≡ Some p
         → ActorEnd a (waiting_role p.side) p.queue × (p.drops ≡ false) }
     ensures called { (k : ℕ) (a : Actor) (history : History) (rows : List QueueRow)

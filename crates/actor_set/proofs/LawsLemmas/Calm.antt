@@ -30,6 +30,10 @@ calm_actor cast calm k = ap is_hostile (calm_manner cast calm k)
 pub manner_at : (cast : List Part) (k : ℕ) (p : Part) → slice_get cast k ≡ Some p → manners cast k ≡ manner_of p
 manner_at cast k p at = ap (λ o. option_map_or manner_of o Calm) at
 
+-- an actor whose part is calm isn't hostile
+pub calm_at : (cast : List Part) (k : ℕ) (p : Part) → slice_get cast k ≡ Some p → manner_of p ≡ Calm → hostiles cast k ≡ false
+calm_at cast k p at calm = ap is_hostile (manner_at cast k p at ∙ calm)
+
 pub calm_row : (cast : List Part) → AllCalm cast → (row : QueueRow) → is_calm (hostiles cast) row ≡ true
 calm_row cast calm row = rw (calm_actor cast calm row.producer.0, calm_actor cast calm row.consumer.0) refl
 

@@ -80,7 +80,7 @@ module _ (ends ends' : Role → ℕ → End) where
     is = f.is;
     inputs = λ k d h. subst FitsEnd (sym (same Consumer (get_or x.inputs.items k d).0 (input_end x k d h))) (f.inputs k d h);
     outputs = λ k d h. let s = same Producer (get_or x.outputs.items k d).0 (output_end x k d h) in (subst FitsEnd (sym s) (f.outputs k d h).0, ap (λ (e : End). e.kind) s ∙ (f.outputs k d h).1);
-    look = look_beside x same x.looked (next_acts (length x.kept.items) (drop x.next x.acts.items)) (all_next _ (length x.kept.items) (drop x.next x.acts.items) (all_drop _ x.acts.items x.next f.is.acts)) f.look;
+    look = look_beside x same x.looked (next_acts (length x.kept.items) (drop x.next x.acts.items)) (all_next (IsActOf (length x.inputs.items) (length x.inputs.items + length x.outputs.items)) (length x.kept.items) (drop x.next x.acts.items) (all_drop (IsActOf (length x.inputs.items) (length x.inputs.items + length x.outputs.items)) x.acts.items x.next f.is.acts)) f.look;
   }
 
   -- where its look is forgotten, another look at its ends makes no difference

@@ -1,5 +1,5 @@
 use Rattle.actor_set.proofs.LawsLemmas.Paces.{post_stands, called_end}
-use Rattle.actor_set.proofs.LawsLemmas.Rounds.{rests_is, turned_is, acted_is, own_is, anew_is, may_is, calm_or_rogue}
+use Rattle.actor_set.proofs.LawsLemmas.Rounds.{rests_is, turned_is, acted_is, own_is, anew_is, calm_or_rogue}
 use Rattle.actor_set.proofs.laws.turn_law.Goals as goal
 
 pub returns-clause-turned : goal.returns-clause-turned
@@ -16,9 +16,6 @@ returns-clause-sorts c = calm_or_rogue
 
 pub returns-clause-anew : goal.returns-clause-anew
 returns-clause-anew c = anew_is
-
-pub returns-clause-may : goal.returns-clause-may
-returns-clause-may c = may_is
 
 pub returns-clause-rests : goal.returns-clause-rests
 returns-clause-rests c = rests_is
