@@ -95,13 +95,15 @@ pub fn turn_law()
         → IsCalled (pendings history journal) (actor_round a).posts }
 {}
 
-/// An actor of any kind in its start state stands for nothing and has its sheet's start hand.
+/// An actor of any kind in its start state stands for nothing, has its sheet's start hand, and has
+/// nothing to forget.
 /// Where rows give it ends of its own, it fits them in their start state; and its ends are a round
 /// where no queue is twice among them. Where no end of its sheet stands twice, its ends on each
 /// side are of queues of their own; and its part tells what these carry.
 pub fn start_law()
     ensures stands { (a : Actor) → IsNew a → ActorStandsFor a nothing_passed }
     ensures whole { (a : Actor) → IsNew a → IsWhole a }
+    ensures anew { (a : Actor) → IsNew a → part_anew a ≡ part_of a }
     ensures hand { (scene : Scene) (a : Actor) → IsNew a → (pool : PoolId)
         → buffers_of pool (actor_hand a) ≡ length ((sheet scene (part_of a)).hand pool.0) }
     ensures fits { (rows : List QueueRow) (k : ℕ) (a : Actor) → IsNew a → HasApartEnds a

@@ -6,7 +6,7 @@ use Rattle.actor_set.specs.Parts.{Part, UartPart, DriverPart, RxPart, TxPart, Cl
 use Rattle.eth_driver.specs.Four.{four_pipes}
 use Rattle.device_model.specs.Ethernet.Devices as device
 use Rattle.client_programs.specs.Net.Clients as client
-use Rattle.actor_set.specs.Actors.{ActorEnd, IsWhole, part_of, numbers}
+use Rattle.actor_set.specs.Actors.{ActorEnd, IsWhole, part_anew, part_of, numbers}
 use Rattle.actor_set.specs.declared.actor.Actor.{Actor}
 use Rattle.actor_set.specs.declared.actor.Actor.TheVariants as Kinds
 use Rattle.play_core.specs.Moved.{Seat}
@@ -114,6 +114,26 @@ from_part (Kinds.BlkClient x) Consumer n h = ones_from (asker.resp_queue x) (ask
 from_part (Kinds.BlkClient x) Producer n h = ones_from (asker.resp_queue x) (asker.req_queue x) Producer n h.0 h.1
 from_part (Kinds.Rogue x) Consumer n h = let q = queue_there x.inputs.items h.0 n h.1 in (h.0, q.0, q.1, q.2)
 from_part (Kinds.Rogue x) Producer n h = let q = queue_there x.outputs.items h.0 n h.1 in (h.0, q.0, q.1, q.2)
+
+-- of what it is made once it forgot its looks, they are the same
+pub from_anew : (x : Actor) (r : Role) (n : ℕ) → PartEnd (part_anew x) r n → ActorEnd x r n
+from_anew (Kinds.UartDevice x) r n h = from_part (Kinds.UartDevice x) r n h
+from_anew (Kinds.UartDriver x) r n h = from_part (Kinds.UartDriver x) r n h
+from_anew (Kinds.SerialVirtRx x) r n h = from_part (Kinds.SerialVirtRx x) r n h
+from_anew (Kinds.SerialVirtTx x) r n h = from_part (Kinds.SerialVirtTx x) r n h
+from_anew (Kinds.SerialClient x) r n h = from_part (Kinds.SerialClient x) r n h
+from_anew (Kinds.EthDevice x) r n h = from_part (Kinds.EthDevice x) r n h
+from_anew (Kinds.EthDriver x) r n h = from_part (Kinds.EthDriver x) r n h
+from_anew (Kinds.NetVirtRx x) r n h = from_part (Kinds.NetVirtRx x) r n h
+from_anew (Kinds.NetCopier x) r n h = from_part (Kinds.NetCopier x) r n h
+from_anew (Kinds.NetClient x) r n h = from_part (Kinds.NetClient x) r n h
+from_anew (Kinds.NetVirtTx x) r n h = from_part (Kinds.NetVirtTx x) r n h
+from_anew (Kinds.DiskDevice x) r n h = from_part (Kinds.DiskDevice x) r n h
+from_anew (Kinds.BlkDriver x) r n h = from_part (Kinds.BlkDriver x) r n h
+from_anew (Kinds.BlkVirt x) r n h = from_part (Kinds.BlkVirt x) r n h
+from_anew (Kinds.BlkClient x) r n h = from_part (Kinds.BlkClient x) r n h
+from_anew (Kinds.Rogue x) Consumer n h = from_part (Kinds.Rogue x) Consumer n h
+from_anew (Kinds.Rogue x) Producer n h = from_part (Kinds.Rogue x) Producer n h
 
 pub same_part : (x y : Actor) (r : Role) (n : ℕ) → part_of y ≡ part_of x → IsWhole y → ActorEnd y r n → ActorEnd x r n
 same_part x y r n e whole h = from_part x r n (subst (λ p. PartEnd p r n) e (to_part y r n whole h))

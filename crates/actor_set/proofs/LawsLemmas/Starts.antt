@@ -30,7 +30,7 @@ use Rattle.serial_virt.specs.declared.tx.SerialVirtTx.{SerialVirtTx}
 use Rattle.cargo_core.specs.declared.item.PoolId.{PoolId}
 use Rattle.cargo_core.specs.Bodies.{buffers_of}
 use Rattle.play_core.specs.Sheets.{Scene}
-use Rattle.actor_set.specs.Actors.{FitsActor, ActorStandsFor, ActorEnd, IsWhole, actor_hand, part_of}
+use Rattle.actor_set.specs.Actors.{FitsActor, ActorStandsFor, ActorEnd, IsWhole, actor_hand, part_anew, part_of}
 use Rattle.actor_set.specs.Laws.Kinds.{sheet}
 use Rattle.actor_set.specs.declared.actor.Actor.{Actor}
 use Rattle.actor_set.specs.declared.actor.Actor.TheVariants as Kinds
@@ -40,7 +40,7 @@ use Rattle.actor_set.proofs.LawsLemmas.NetStarts.{Seated, new_pipes_fit, new_dev
 use Rattle.actor_set.proofs.LawsLemmas.TxStarts.{new_sender_fits, new_sender_whole, new_sender_hand}
 use Rattle.client_programs.specs.Rogue.Clients.{FitsEnd}
 use Rattle.client_programs.proofs.RogueLemmas.Following.{starts_stand}
-use Rattle.actor_set.proofs.RogueLemmas.Ends.{new_rogue_fits, new_rogue_hand}
+use Rattle.actor_set.proofs.RogueLemmas.Ends.{new_rogue_anew, new_rogue_fits, new_rogue_hand}
 use Rattle.actor_set.proofs.LawsLemmas.BlkStarts.{Carried, new_disk_fits, new_blk_driver_fits, new_server_fits, new_asker_fits, new_server_whole, new_disk_stands, new_server_hand, new_asker_hand}
 use Rattle.play_core.proofs.Lists.{there_below, some_is, map_get, map_from}
 
@@ -270,3 +270,22 @@ new_hand scene (Kinds.BlkDriver x) new pool = rw (new.0.load, new.1.load) refl
 new_hand scene (Kinds.BlkVirt x) new pool = new_server_hand scene x new pool
 new_hand scene (Kinds.BlkClient x) new pool = new_asker_hand scene x new pool
 new_hand scene (Kinds.Rogue x) new pool = new_rogue_hand x new pool
+
+-- and nothing to forget
+pub new_anew : (x : Actor) → IsNew x → part_anew x ≡ part_of x
+new_anew (Kinds.UartDevice x) new = refl
+new_anew (Kinds.UartDriver x) new = refl
+new_anew (Kinds.SerialVirtRx x) new = refl
+new_anew (Kinds.SerialVirtTx x) new = refl
+new_anew (Kinds.SerialClient x) new = refl
+new_anew (Kinds.EthDevice x) new = refl
+new_anew (Kinds.EthDriver x) new = refl
+new_anew (Kinds.NetVirtRx x) new = refl
+new_anew (Kinds.NetCopier x) new = refl
+new_anew (Kinds.NetClient x) new = refl
+new_anew (Kinds.NetVirtTx x) new = refl
+new_anew (Kinds.DiskDevice x) new = refl
+new_anew (Kinds.BlkDriver x) new = refl
+new_anew (Kinds.BlkVirt x) new = refl
+new_anew (Kinds.BlkClient x) new = refl
+new_anew (Kinds.Rogue x) new = new_rogue_anew x new

@@ -133,6 +133,13 @@ module _ (passed passed' : Passed) where
       let went = at_alike passed'.sent passed.sent x.outputs.items (λ k q at. outs q.0 (k, q, at, refl)) in
       rw (came, went) f
 
+-- in its start state nothing is to be forgotten
+pub new_rogue_anew : (x : Rogue) → IsNewRogue x.kind x.inputs.items x.outputs.items x.start.value.items x.acts.items x → HostilePart (rogue_part x (record { acts = (left_of x).acts; looked = false; kept = (left_of x).kept })) ≡ HostilePart (rogue_part x (left_at_start x))
+new_rogue_anew x new =
+    let fresh : x.looked ≡ false = ap (λ (l : Left). l.looked) new.left in
+    let same : record { acts = (left_of x).acts; looked = false; kept = (left_of x).kept } ≡ left_of x = ap (λ b. record { acts = (left_of x).acts; looked = b; kept = (left_of x).kept }) (sym fresh) in
+    ap (λ l. HostilePart (rogue_part x l)) (same ∙ sym new.start)
+
 -- its part stays in a step, and begins anew where its look is forgotten
 pub same_rogue_part : (x y : Rogue) → SameRogue x y → HostilePart (rogue_part y (left_at_start y)) ≡ HostilePart (rogue_part x (left_at_start x))
 same_rogue_part x y same = rw (same.kind, same.inputs, same.outputs, same.acts, same.first, same.had, same.start) refl
