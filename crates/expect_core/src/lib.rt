@@ -4,9 +4,11 @@
 
 mod counts;
 mod expected;
+mod isolation;
 mod report;
 
 pub use cargo_core::Census;
 pub use counts::{ClassCounts, budget};
 pub use expected::{client_entry, frames_for, input_of, replies_of};
+pub use isolation::isolation_law;
 pub use report::Report;

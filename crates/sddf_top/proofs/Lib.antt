@@ -1,4 +1,5 @@
 pub mod AnswerLemmas
+pub mod IsolationLemmas
 pub mod PlanLemmas
 pub mod ServeLemmas
 pub mod SoundLemmas

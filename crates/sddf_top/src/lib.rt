@@ -6,6 +6,7 @@
 
 mod answering;
 mod hosting;
+mod isolation;
 mod played;
 mod playing;
 mod serving;
@@ -15,6 +16,7 @@ pub mod system_run;
 pub use command_words::begins_run;
 pub use decision_core::{Asked, Showing, Status, judge};
 pub use hosting::serve_host;
+pub use isolation::isolation_law;
 pub use pd_runner::{Gate, OpenGate};
 pub use played::Played;
 pub use sdf_model::TEXT_MOST;

@@ -24,3 +24,4 @@ pub mod PoolsLemmas
 pub mod Together
 pub mod Parting
 pub mod Adopting
+pub mod Isolating

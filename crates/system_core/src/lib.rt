@@ -6,11 +6,13 @@
 
 mod crew;
 mod crews;
+mod isolation;
 mod lines;
 mod records;
 mod system;
 
 pub use actor_set::Actor;
 pub use crew::Crew;
+pub use isolation::isolation_law;
 pub use order_law::actor_parts::Parts;
 pub use system::{Ending, System};

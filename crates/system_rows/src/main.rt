@@ -12,6 +12,11 @@
 //! A row `network FILE | TRACE | FIRST | COUNT` stands for plays of a description with a network and
 //! a trace by so many seeds from the first on, a line for each; with `| pools` behind it the line
 //! has also where the buffers of each pool are.
+//!
+//! A row `beside FILE TRACE | FILE TRACE | FIRST | COUNT | STEPS` stands for pairs of plays of two
+//! descriptions, by so many seeds from the first on, a line for each pair: what client 0 of each
+//! class recorded in the first play, and in the second, which has so many steps at most, where
+//! these got quiet. Where the two records aren't of one list, the line says so.
 #![tactic(auto)]
 
 ghost use Rattle.std.specs.Prelude.{◌<◌, length};
@@ -19,12 +24,14 @@ ghost use Rattle.sdf_check.specs.Valid.{Valid};
 ghost use Rattle.trace_text.specs.Events.{blk_clients};
 ghost use Rattle.trace_text.specs.Traces.{IsReadFor};
 
+mod beside;
 mod judging;
 mod naming;
 mod network;
 mod numbering;
 mod playing;
 
+use beside::print_beside;
 use cargo_core::{Memory, Reply};
 use expect_core::{Report, input_of, replies_of};
 use judging::judged;
@@ -266,6 +273,9 @@ fn trace_of(alloc: Global, lines: &str) -> Result<String, Memory> {
 fn print_row<R: Files + Print + AllocGlobal>(rt: &R, row: &str) -> io::Result<()> {
     if let Some(row) = row.strip_prefix("network ") {
         return print_network(rt, row);
+    }
+    if let Some(row) = row.strip_prefix("beside ") {
+        return print_beside(rt, row);
     }
     let Some((name, rest)) = row.split_once(" | ") else {
         return rt.println("no row");

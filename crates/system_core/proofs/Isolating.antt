@@ -1,0 +1,63 @@
+-- A client of a class is there where the class is, and what it recorded is of what it must get.
+use Rattle.std.proofs.Common.{◌≡◌, ◌<◌, ℕ, zero, Bool, true, Option, Some, None, List, [], ◌∷◌, length, slice_get, refl, sym, ap, ◌∙◌, subst, arith}
+use Rattle.std.specs.Prelude.{◌==◌}
+use Rattle.std.specs.Option.{option_map_or}
+use Rattle.cargo_core.specs.declared.item.Reply.{Reply}
+use Rattle.sdf_plan.specs.declared.plan.Plan.{Plan}
+use Rattle.sdf_plan.specs.declared.plan.Net.{Net}
+use Rattle.sdf_plan.specs.declared.plan.Serial.{Serial}
+use Rattle.sdf_plan.specs.declared.plan.Blk.{Blk}
+use Rattle.trace_text.specs.declared.trace.Trace.{Trace}
+use Rattle.trace_text.specs.Events.{net_clients, serial_clients, blk_clients}
+use Rattle.net_expect.specs.Expecting.{frames_for}
+use Rattle.serial_switch.specs.Switching.{input_of}
+use Rattle.expect_core.specs.Expected.{client_asks, client_entry, replies_in}
+use Rattle.expect_core.specs.Isolation.{IsRecordOf}
+use Rattle.cast_core.specs.Sources.{client_mac}
+use Rattle.cast_core.proofs.Listing.{value_at}
+use Rattle.system_core.specs.Shows.{Shown}
+use Rattle.system_core.specs.Plays.{runnable_now}
+use Rattle.system_core.specs.Reports.{report_of}
+use Rattle.system_core.specs.PlanPlays.{IsSystemOf}
+use Rattle.system_core.proofs.Scripts.{serials}
+
+-- where a list has no elements there are none
+none_are : (xs : List ℕ) → (length xs == 0) ≡ true → xs ≡ []
+none_are [] h = refl
+none_are (x ∷ xs) h = cc
+
+still : (s : Shown) → (report_of s).quiet ≡ true → runnable_now s ≡ []
+still s h = none_are (runnable_now s) h
+
+-- a class is there where it has a client
+there_in : {T U : Type 0} (f : T → List U) (class : Option T) (c : ℕ) → c < length (option_map_or f class []) → (x : T) × (class ≡ Some x)
+there_in f None c lt = absurd (omega (arith, lt))
+there_in f (Some x) c lt = (x, refl)
+
+pub frames_of : (plan : Plan) (trace : Trace) (s : Shown) (c : ℕ) (got : List (List ℕ)) → IsSystemOf plan trace s → c < length (net_clients plan) → slice_get s.state.net c ≡ Some got → IsRecordOf (frames_for (client_mac plan c) trace.frames) (report_of s).quiet got
+frames_of plan trace s c got h lt at =
+    let has = there_in (λ (net : Net). net.client) plan.net c lt in
+    let mac = value_at (length (net_clients plan)) (client_mac plan) c lt in
+    record {
+      begins = (h.shows_net has.0 has.1).records c (client_mac plan c) got mac at;
+      all = λ quiet. (h.whole_net (still s quiet) has.0 has.1).records c (client_mac plan c) got mac at;
+    }
+
+pub input_for : (plan : Plan) (trace : Trace) (s : Shown) (c : ℕ) (got : List ℕ) → IsSystemOf plan trace s → c < length (serial_clients plan) → slice_get s.state.serial c ≡ Some got → IsRecordOf (input_of (length (serial_clients plan)) c trace.input) (report_of s).quiet got
+input_for plan trace s c got h lt at =
+    let has = there_in (λ (serial : Serial). serial.client) plan.serial c lt in
+    subst (λ n. IsRecordOf (input_of n c trace.input) (report_of s).quiet got) (sym (ap length (serials plan has.0 has.1)))
+    (record {
+      begins = (h.shows has.0 has.1).records c got at;
+      all = λ quiet. (h.whole (still s quiet) has.0 has.1).records c got at;
+    })
+
+pub replies_for : (plan : Plan) (trace : Trace) (s : Shown) (c : ℕ) (got : List Reply) → IsSystemOf plan trace s → c < length (blk_clients plan) → slice_get s.state.blk c ≡ Some got → IsRecordOf (replies_in plan trace c) (report_of s).quiet got
+replies_for plan trace s c got h lt at =
+    let has = there_in (λ (blk : Blk). blk.client) plan.blk c lt in
+    let entry = value_at (length (blk_clients plan)) (client_entry plan) c lt in
+    let asks = value_at (length (blk_clients plan)) (client_asks trace) c lt in
+    record {
+      begins = (h.shows_blk has.0 has.1).records c (client_entry plan c) (client_asks trace c) got entry asks at;
+      all = λ quiet. (h.whole_blk (still s quiet) has.0 has.1).records c (client_entry plan c) (client_asks trace c) got entry asks at;
+    }

@@ -1,0 +1,50 @@
+-- What a client of each class must get, and what the plans and the traces of two systems have to
+-- agree in for it: all that its records follow from.
+use Rattle.std.specs.Prelude.{◌≡◌, ◌<◌, ℕ, List, length}
+use Rattle.cargo_core.specs.declared.item.Reply.{Reply}
+use Rattle.sdf_plan.specs.declared.plan.Plan.{Plan}
+use Rattle.trace_text.specs.declared.trace.Trace.{Trace}
+use Rattle.trace_text.specs.Events.{net_clients, serial_clients, blk_clients}
+use Rattle.net_expect.specs.Expecting.{frames_for}
+use Rattle.serial_switch.specs.Switching.{input_of}
+use Rattle.expect_core.specs.Expected.{client_asks, client_entry, replies_in}
+use Rattle.expect_core.specs.Isolation.{AgreeOnFrames, AgreeOnInput, AgreeOnPartition}
+use Rattle.cast_core.specs.Sources.{client_mac}
+
+-- what network client c must get: the frames for its address
+abbrev pub net_expected : Plan → Trace → (c : ℕ) → List (List ℕ)
+net_expected plan trace c = frames_for (client_mac plan c) trace.frames
+
+-- what serial client c must get: its part of the input
+abbrev pub serial_expected : Plan → Trace → (c : ℕ) → List ℕ
+serial_expected plan trace c = input_of (length (serial_clients plan)) c trace.input
+
+-- what block client c must get: the replies to its own requests on its own partition
+abbrev pub blk_expected : Plan → Trace → (c : ℕ) → List Reply
+blk_expected plan trace c = replies_in plan trace c
+
+-- network client c of the one and d of the other have the same address, and the devices receive the
+-- same frames for it
+pub record AgreeOnNet (plan : Plan) (trace : Trace) (c : ℕ) (other : Plan) (told : Trace) (d : ℕ) :
+    Type 0 where
+  pub here : c < length (net_clients plan)
+  pub there : d < length (net_clients other)
+  pub mac : client_mac plan c ≡ client_mac other d
+  pub frames : AgreeOnFrames (client_mac plan c) trace.frames told.frames
+
+-- there are as many serial clients, c among them, and the same of the input is for it
+pub record AgreeOnSerial (plan : Plan) (trace : Trace) (other : Plan) (told : Trace) (c : ℕ) :
+    Type 0 where
+  pub here : c < length (serial_clients plan)
+  pub many : length (serial_clients plan) ≡ length (serial_clients other)
+  pub input : AgreeOnInput (length (serial_clients plan)) c trace.input told.input
+
+-- block client c of the one and d of the other ask the same, and their partitions have as many
+-- blocks, with the same bytes
+pub record AgreeOnBlk (plan : Plan) (trace : Trace) (c : ℕ) (other : Plan) (told : Trace) (d : ℕ) :
+    Type 0 where
+  pub here : c < length (blk_clients plan)
+  pub there : d < length (blk_clients other)
+  pub asks : client_asks trace c ≡ client_asks told d
+  pub partition : AgreeOnPartition trace.image (client_entry plan c) told.image
+      (client_entry other d)
