@@ -16,6 +16,21 @@ use Rattle.system_core.proofs.Stepping.{caller_owns, rung_there, set_same, syste
 use Rattle.system_core.proofs.Hearing.{runner_there}
 use Rattle.system_core.proofs.system.System.step_at.Goals as goal
 
+-- where the journal has no room nothing changed
+pub invariant_of-self : goal.invariant_of-self
+invariant_of-self c = record {
+  fitted = c.self.invariant.fitted;
+  before = c.self.invariant.before;
+  holds = rw c.in_err-reserve.ensures.items c.self.invariant.holds;
+  rows_hold = rw c.in_err-reserve.ensures.items c.self.invariant.rows_hold;
+  brisk = rw c.in_err-reserve.ensures.items c.self.invariant.brisk;
+  running = rw c.in_err-reserve.ensures.items c.self.invariant.running;
+  room = c.self.invariant.room;
+}
+
+pub at-number-requires : goal.at-number-requires
+at-number-requires c = subst (λ n. c.args.place < n) (sym (ap length c.self.invariant.running ∙ ap (λ (s : Shown). length (runnable_now s)) c.self.view_is)) c.requires
+
 pub index_mut-actor-requires : goal.index_mut-actor-requires
 index_mut-actor-requires c =
     let lt : c.at-number.result < length c.self.inside.actors.items = runner_there c.self.inside c.self.invariant c.args.place c.at-number.result c.at-number.ensures in
