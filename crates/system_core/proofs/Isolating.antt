@@ -1,5 +1,5 @@
 -- A client of a class is there where the class is, and what it recorded is of what it must get.
-use Rattle.std.proofs.Common.{◌≡◌, ◌<◌, ℕ, zero, Bool, true, Option, Some, None, List, [], ◌∷◌, length, slice_get, refl, sym, ap, ◌∙◌, subst, arith}
+use Rattle.std.proofs.Common.{◌≡◌, ◌<◌, ℕ, zero, Bool, true, Option, Some, None, List, [], ◌∷◌, length, slice_get, refl, sym, ap, ◌∙◌, subst, arith, eqb-true}
 use Rattle.std.specs.Prelude.{◌==◌}
 use Rattle.std.specs.Option.{option_map_or}
 use Rattle.cargo_core.specs.declared.item.Reply.{Reply}
@@ -24,7 +24,7 @@ use Rattle.system_core.proofs.Scripts.{serials}
 -- where a list has no elements there are none
 none_are : (xs : List ℕ) → (length xs == 0) ≡ true → xs ≡ []
 none_are [] h = refl
-none_are (x ∷ xs) h = cc
+none_are (x ∷ xs) h = let e : length (x ∷ xs) ≡ 0 = eqb-true (length (x ∷ xs)) 0 h in absurd (omega (arith, e))
 
 still : (s : Shown) → (report_of s).quiet ≡ true → runnable_now s ≡ []
 still s h = none_are (runnable_now s) h
@@ -46,11 +46,12 @@ frames_of plan trace s c got h lt at =
 pub input_for : (plan : Plan) (trace : Trace) (s : Shown) (c : ℕ) (got : List ℕ) → IsSystemOf plan trace s → c < length (serial_clients plan) → slice_get s.state.serial c ≡ Some got → IsRecordOf (input_of (length (serial_clients plan)) c trace.input) (report_of s).quiet got
 input_for plan trace s c got h lt at =
     let has = there_in (λ (serial : Serial). serial.client) plan.serial c lt in
-    subst (λ n. IsRecordOf (input_of n c trace.input) (report_of s).quiet got) (sym (ap length (serials plan has.0 has.1)))
-    (record {
+    let own : IsRecordOf (input_of (length has.0.client) c trace.input) (report_of s).quiet got = record {
       begins = (h.shows has.0 has.1).records c got at;
       all = λ quiet. (h.whole (still s quiet) has.0 has.1).records c got at;
-    })
+    } in
+    let many : length (serial_clients plan) ≡ length has.0.client = ap (λ cs. length cs) (serials plan has.0 has.1) in
+    subst (λ n. IsRecordOf (input_of n c trace.input) (report_of s).quiet got) (sym many) own
 
 pub replies_for : (plan : Plan) (trace : Trace) (s : Shown) (c : ℕ) (got : List Reply) → IsSystemOf plan trace s → c < length (blk_clients plan) → slice_get s.state.blk c ≡ Some got → IsRecordOf (replies_in plan trace c) (report_of s).quiet got
 replies_for plan trace s c got h lt at =

@@ -1,8 +1,11 @@
 -- The proofs on a system at play.
+pub mod Rising
+pub mod Places
 pub mod Telling
 pub mod SystemStep
 pub mod Playing
 pub mod RunsNow
+pub mod Taking
 pub mod Starting
 pub mod Seating
 pub mod Fitting

@@ -20,10 +20,29 @@ use Rattle.actor_set.proofs.LawsLemmas.Calm.{calm_part}
 use Rattle.actor_set.proofs.LawsLemmas.Rows.{actor_row}
 use Rattle.actor_set.proofs.LawsLemmas.Rests.{rests}
 use Rattle.system_core.specs.Systems.{Holds}
-use Rattle.player_kit.proofs.Showing.{no_row, called_queues}
+use Rattle.system_core.proofs.SystemStep.{no_row}
+
+pub not_not : (b : Bool) → b ≡ not (not b)
+not_not true = refl
+not_not false = refl
+
+either : {a b c d : Bool} → a ≡ b → c ≡ d → (a || c) ≡ (b || d)
+either e f = cc
 
 both : {a b c d : Bool} → a ≡ b → c ≡ d → (a && c) ≡ (b && d)
 both e f = cc
+
+-- whose waiters the queues call, as their tracks tell it
+called_queues : (actor n : ℕ) (history : History) (journal : List Entry) (rows : List QueueRow) (world : List Queue) → length world ≡ length rows → ((m : ℕ) (row : QueueRow) → slice_get rows m ≡ Some row → IsShown row (queue_at world m) (track history (n + m) journal)) → list_any (is_called actor) world ≡ called_from actor n history rows journal
+called_queues actor n history journal [] [] size shown = refl
+called_queues actor n history journal [] (q ∷ qs) size shown = absurd (omega (arith, size))
+called_queues actor n history journal (row ∷ rows) [] size shown = absurd (omega (arith, size))
+called_queues actor n history journal (row ∷ rows) (q ∷ qs) size shown =
+    either (shown_calls row q (track history n journal) actor (subst (λ m. IsShown row q (track history m journal)) (add-zero n) (shown 0 row refl)))
+    (called_queues actor (n + 1) history journal rows qs (omega (arith, size)) (λ m r at. subst (λ i. IsShown r (queue_at qs m) (track history i journal)) (moved n m) (shown (suc m) r at)))
+  where
+    moved : (n m : ℕ) → n + suc m ≡ (n + 1) + m
+    moved n m = omega arith
 
 module _ (history : History) (rows : List QueueRow) (w : List Queue) (actors : List Actor) (journal : List Entry) (h : Holds history rows w actors journal) where
   pub items_here : HaveItems h.passed (moved history journal)

@@ -30,13 +30,13 @@ use Rattle.play_core.specs.Manners.{Manner, Manners, Calm}
 use Rattle.actor_set.specs.Laws.Kinds.{scene_of, sheet, manner_of, manners, hostiles, idles}
 use Rattle.system_core.specs.Shows.{Crew, Setting, hostile_in, runs, RowsStand}
 use Rattle.system_core.specs.Lawful.{IsFitted}
-use Rattle.player_kit.specs.Runnings.{removed_if, with_option, with_if}
+use Rattle.system_core.specs.Runnings.{removed_if, with_option, with_if}
 use Rattle.system_core.specs.Asking.{IsAsked}
 use Rattle.system_core.specs.Systems.{Holds}
 use Rattle.actor_set.proofs.LawsLemmas.Calm.{calm_manner, manner_at, sheet_own}
 use Rattle.system_core.proofs.RunsNow.{rows_now}
 use Rattle.system_core.proofs.SystemStep.{step_holds, map_same, entry_of}
-use Rattle.system_core.proofs.RunsNow.{idle_here, rests_here}
+use Rattle.system_core.proofs.RunsNow.{idle_here, not_not, rests_here}
 use Rattle.actor_set.proofs.LawsLemmas.PartEnds.{from_part, seat_end}
 use Rattle.actor_set.proofs.LawsLemmas.Paces.{called_end}
 use Rattle.actor_set.proofs.LawsLemmas.Rounds.{rests_is}
@@ -45,8 +45,22 @@ use Rattle.system_core.proofs.Fitting.{fitted_place}
 use Rattle.system_core.proofs.Telling.{plain_runs, rows_told, runs_plain}
 use Rattle.wire_core.proofs.Sinces.{eqb_apart, eqb_refl}
 use Rattle.wire_core.specs.declared.names.Op.{Op}
-use Rattle.player_kit.proofs.Places.{places_kept, places_clear, places_so, places_below, places_few}
-use Rattle.player_kit.proofs.Listing.{not_not, get_case, cleared}
+use Rattle.system_core.proofs.Places.{places_kept, places_clear, places_so, places_below, places_few}
+
+pub set_same : {X : Type 0} (xs : List X) (k : ℕ) (b : X) → slice_get xs k ≡ Some b → slice_set xs k b ≡ xs
+set_same [] k b h = refl
+set_same (x ∷ xs) zero b h = ap (λ y. y ∷ xs) (sym (some_is h))
+set_same (x ∷ xs) (suc k) b h = ap (λ ys. x ∷ ys) (set_same xs k b h)
+
+get_case : {X : Type 0} (xs : List X) (i : ℕ) → ((y : X) × (slice_get xs i ≡ Some y)) ⊎ (length xs ≤ i)
+get_case [] i = inr (omega arith)
+get_case (x ∷ xs) zero = inl (x, refl)
+get_case (x ∷ xs) (suc i) = elim (get_case xs i) [ inl h ↦ inl h | inr h ↦ inr (omega arith) ]
+
+-- the actors' places after one of them is idle or not
+cleared : (bs : List Bool) (k place : ℕ) (idle : Bool) → slice_get (places_from 0 bs) place ≡ Some k → places_from 0 (slice_set bs k (not idle)) ≡ removed_if idle (places_from 0 bs) place
+cleared bs k place true at = places_clear 0 k k place bs (omega arith) (let h = places_below 0 place k bs at in let lt : k < 0 + length bs = h.1 in omega arith) at
+cleared bs k place false at = ap (places_from 0) (set_same bs k true (places_so 0 k k place bs (omega arith) at))
 
 -- the wants and the flags of a cast
 module _ (history : History) (rows : List QueueRow) (cast : List Part) where

@@ -50,16 +50,98 @@ use Rattle.cast_law.proofs.TurnsLemmas.{calm_turns, wired_place}
 use Rattle.cast_law.proofs.PoolsLemmas.Playing.{carry_call, rows_at}
 use Rattle.wired_law.proofs.Wiring.{sends_on}
 use Rattle.play_core.proofs.Lists.{some_is, map_get}
-use Rattle.player_kit.proofs.Showing.{no_row, taken_shown, sent_shown, still_there, moved_there, none_put, put_kind}
+
+pub no_row : QueueRow
+no_row = record { name = []; kind = Kind.Byte; capacity = 0; producer = record { 0 = 0 }; consumer = record { 0 = 0 }; region = None; offset = 0 }
 
 abbrev pub entry_of : ℕ → Event → Entry
 entry_of k e = record { actor = record { 0 = k }; event = e }
+
+-- what the lists with the entry added show
+taken_more : (o : Op) (ts : List Item) (item : List Item) (c xs : List Cargo) → item ≡ items_of c → items_of xs ≡ ts → items_of (xs ++ if_taken o c) ≡ taken_after ts o item
+taken_more Do.Take ts item c xs e h = map-append (λ x. x.0) xs c ∙ rw (h, e) refl
+taken_more Do.Put ts item c xs e h = rw append-nil h
+taken_more Do.See ts item c xs e h = rw append-nil h
+taken_more Do.Room ts item c xs e h = rw append-nil h
+taken_more (Do.Ask s) ts item c xs e h = rw append-nil h
+taken_more (Do.Waive s) ts item c xs e h = rw append-nil h
+taken_more (Do.Wake s) ts item c xs e h = rw append-nil h
+taken_more (Do.Wanted s) ts item c xs e h = rw append-nil h
+taken_more (Do.Settle s) ts item c xs e h = rw append-nil h
+taken_more (Do.Ring s) ts item c xs e h = rw append-nil h
+taken_more (Do.Store w v) ts item c xs e h = rw append-nil h
+
+sent_more : (o : Op) (ts : List Item) (item : List Item) (c xs : List Cargo) → item ≡ items_of c → items_of xs ≡ ts → items_of (xs ++ if_put o c) ≡ sent_after ts o item
+sent_more Do.Put ts item c xs e h = map-append (λ x. x.0) xs c ∙ rw (h, e) refl
+sent_more Do.Take ts item c xs e h = rw append-nil h
+sent_more Do.See ts item c xs e h = rw append-nil h
+sent_more Do.Room ts item c xs e h = rw append-nil h
+sent_more (Do.Ask s) ts item c xs e h = rw append-nil h
+sent_more (Do.Waive s) ts item c xs e h = rw append-nil h
+sent_more (Do.Wake s) ts item c xs e h = rw append-nil h
+sent_more (Do.Wanted s) ts item c xs e h = rw append-nil h
+sent_more (Do.Settle s) ts item c xs e h = rw append-nil h
+sent_more (Do.Ring s) ts item c xs e h = rw append-nil h
+sent_more (Do.Store w v) ts item c xs e h = rw append-nil h
+
+taken_shown : (b : Bool) (t : Track) (e : Event) (c xs : List Cargo) → option_to_list e.item ≡ items_of c → items_of xs ≡ t.taken → items_of (xs ++ if_there b (if_taken e.op c)) ≡ (if_on b (track_after t e) t).taken
+taken_shown false t e c xs item h = rw append-nil h
+taken_shown true t e c xs item h = taken_more e.op t.taken (option_to_list e.item) c xs item h
+
+sent_shown : (b : Bool) (t : Track) (e : Event) (c xs : List Cargo) → option_to_list e.item ≡ items_of c → items_of xs ≡ t.sent → items_of (xs ++ if_there b (if_put e.op c)) ≡ (if_on b (track_after t e) t).sent
+sent_shown false t e c xs item h = rw append-nil h
+sent_shown true t e c xs item h = sent_more e.op t.sent (option_to_list e.item) c xs item h
 
 -- where one actor's part stays, all parts stay
 pub map_same : (f : Actor → Part) (xs : List Actor) (k : ℕ) (x x' : Actor) → slice_get xs k ≡ Some x → f x' ≡ f x → map f (slice_set xs k x') ≡ map f xs
 map_same f [] k x x' at same = refl
 map_same f (a ∷ xs) zero x x' at same = let e : a ≡ x = some_is at in ap (λ b. b ∷ map f xs) (same ∙ ap f (sym e))
 map_same f (a ∷ xs) (suc k) x x' at same = ap (λ bs. f a ∷ bs) (map_same f xs k x x' at same)
+
+still_there : (es ss ts : List Cargo) → ss ≡ ts ++ es → ss ++ [] ≡ (ts ++ []) ++ es
+still_there es ss ts h = append-nil ss ∙ (h ∙ ap (λ x. x ++ es) (sym (append-nil ts)))
+
+-- what stands in a queue after a call on it
+moved_there : (q : Queue) (o : Op) (c ss ts : List Cargo) → Carries q o c → ss ≡ ts ++ q.entries → ss ++ if_put o c ≡ (ts ++ if_taken o c) ++ entries_after q.entries o c
+moved_there q Do.Take c ss ts m h =
+    append-nil ss ∙ (h ∙ (ap (λ es. ts ++ es) m.2 ∙ (ap (λ x. ts ++ (x ++ drop 1 q.entries)) (sym m.1) ∙ sym (append_assoc ts c (drop 1 q.entries)))))
+moved_there q Do.Put c ss ts m h = ap (λ x. x ++ c) h ∙ (append_assoc ts q.entries c ∙ ap (λ x. x ++ (q.entries ++ c)) (sym (append-nil ts)))
+moved_there q Do.See c ss ts m h = still_there q.entries ss ts h
+moved_there q Do.Room c ss ts m h = still_there q.entries ss ts h
+moved_there q (Do.Ask s) c ss ts m h = still_there q.entries ss ts h
+moved_there q (Do.Waive s) c ss ts m h = still_there q.entries ss ts h
+moved_there q (Do.Wake s) c ss ts m h = still_there q.entries ss ts h
+moved_there q (Do.Wanted s) c ss ts m h = still_there q.entries ss ts h
+moved_there q (Do.Settle s) c ss ts m h = still_there q.entries ss ts h
+moved_there q (Do.Ring s) c ss ts m h = still_there q.entries ss ts h
+moved_there q (Do.Store w v) c ss ts m h = still_there q.entries ss ts h
+
+last_or : {X : Type 0} (xs : List X) (l x : X) (k : ℕ) → slice_get (xs ++ l ∷ []) k ≡ Some x → (slice_get xs k ≡ Some x) ⊎ (l ≡ x)
+last_or [] l x zero at = inr (some_is at)
+last_or [] l x (suc k) at = cc
+last_or (y ∷ xs) l x zero at = inl at
+last_or (y ∷ xs) l x (suc k) at = last_or xs l x k at
+
+none_put : (ss : List Cargo) (k : ℕ) (x : Cargo) → slice_get (ss ++ []) k ≡ Some x → slice_get ss k ≡ Some x
+none_put ss k x at = ap (λ l. slice_get l k) (sym (append-nil ss)) ∙ at
+
+-- what is put to a queue is of its kind
+put_kind : (q : Queue) (o : Op) (c ss : List Cargo) → Carries q o c → (k : ℕ) (x : Cargo) → slice_get (ss ++ if_put o c) k ≡ Some x → (slice_get ss k ≡ Some x) ⊎ (kind_of x.0 ≡ q.kind)
+put_kind q Do.Put c ss m k x at = by (last_or ss m.0 x k (ap (λ d. slice_get (ss ++ d) k) (sym m.1) ∙ at))
+  where
+    by : (slice_get ss k ≡ Some x) ⊎ (m.0 ≡ x) → (slice_get ss k ≡ Some x) ⊎ (kind_of x.0 ≡ q.kind)
+    by (inl h) = inl h
+    by (inr e) = inr (ap (λ (y : Cargo). kind_of y.0) (sym e) ∙ m.2)
+put_kind q Do.Take c ss m k x at = inl (none_put ss k x at)
+put_kind q Do.See c ss m k x at = inl (none_put ss k x at)
+put_kind q Do.Room c ss m k x at = inl (none_put ss k x at)
+put_kind q (Do.Ask s) c ss m k x at = inl (none_put ss k x at)
+put_kind q (Do.Waive s) c ss m k x at = inl (none_put ss k x at)
+put_kind q (Do.Wake s) c ss m k x at = inl (none_put ss k x at)
+put_kind q (Do.Wanted s) c ss m k x at = inl (none_put ss k x at)
+put_kind q (Do.Settle s) c ss m k x at = inl (none_put ss k x at)
+put_kind q (Do.Ring s) c ss m k x at = inl (none_put ss k x at)
+put_kind q (Do.Store w v) c ss m k x at = inl (none_put ss k x at)
 
 -- actor k, which is x, makes the call of event e, and is then x'
 module _ (history : History) (rows : List QueueRow) (w v : List Queue) (actors : List Actor) (journal : List Entry) (k : ℕ) (x x' : Actor) (e : Event) (here : slice_get actors k ≡ Some x) (old : Holds history rows w actors journal) (own : ActorEnd x (role_of e.op) e.queue.0) (st : Stepped ActorStandsFor Happens w v x x' e) (turned : ActorTurned x e x') (runs : is_at_rest (actor_round x) ≡ true → IsCalled (pendings history journal) (actor_round x).posts) where

@@ -1,7 +1,7 @@
 -- The definitions of a system at play: what it shows (Shows, Reports, Crews, Pools), what holds of
 -- it (Lawful), how it is built and played (Builds, Plays, PlanPlays), how it takes over what
 -- threads left (Adopting), what two of them have to agree in (Isolation), and inside, what it keeps
--- (Asking, States, Starts, Systems, Inside).
+-- (Runnings, Asking, States, Starts, Systems, Inside).
 pub mod Shows
 pub mod Plays
 pub mod Reports
@@ -10,6 +10,7 @@ pub mod Crews
 pub mod Builds
 pub mod PlanPlays
 pub mod Isolation
+pub mod Runnings
 pub mod Asking
 pub mod States
 pub mod Starts

@@ -1,7 +1,7 @@
 //! The system at play: the actors of a plan with the queues between them, and the one journal. How
 //! it is built, stepped, taken apart and taken over, and what is seen of it, its pools among it.
 //!
-//! An example of its calls: `crates/system_rows/src/playing.rt`.
+//! An example of its calls: `crates/program_rows/src/examples/system.rt`.
 #![tactic(auto)]
 
 mod crew;
@@ -9,6 +9,7 @@ mod crews;
 mod isolation;
 mod lines;
 mod records;
+mod running;
 mod system;
 
 pub use actor_set::Actor;

@@ -18,7 +18,7 @@ ghost use Rattle.system_core.specs.Systems.{Holds, GoesOn};
 ghost use Rattle.cast_law.specs.Seats.{AreSeated};
 ghost use Rattle.system_core.specs.Lawful.{StandsLawful};
 ghost use Rattle.system_core.specs.Reports.{report_of};
-ghost use Rattle.player_kit.specs.Runnings.{removed_if, with_option};
+ghost use Rattle.system_core.specs.Runnings.{removed_if, with_option};
 ghost use Rattle.system_core.specs.Plays.{Played, IsSpent, StepsAt, runnable_now};
 ghost use Rattle.system_core.specs.Asking.{IsAsked};
 ghost use Rattle.system_core.specs.Builds.{IsBuilt};
@@ -31,12 +31,12 @@ use crate::crew::Crew;
 use crate::crews::{blk_crew, net_crew, serial_crew};
 use crate::lines::{bad, lines, pool_copies};
 use crate::records::{frame_records, line, records, replies, wire};
+use crate::running::Running;
 use actor_set::Actor;
 use cargo_core::{Memory, Series};
 use cast_core::{cast, copies};
 use expect_core::Report;
 use plain_wires::World;
-use player_kit::Running;
 use region_layout::Layout;
 use sdf_plan::Plan;
 use serial_law::serial_law;
@@ -136,6 +136,27 @@ fn is_runnable(actors: &[Actor], world: &World, other: Option<u16>) -> bool
     match other {
         Some(actor) => !is_idle(&actors[actor as usize], world, ActorId(actor)),
         None => false,
+    }
+}
+
+// Takes out the actor at a place where it is idle, and keeps the other owner that a call reaches
+// where it is runnable.
+fn note(running: &mut Running, place: usize, idle: bool, other: Option<u16>, runs: bool)
+    requires there { place < length running.old.list }
+    requires room { length (with_option other runs (removed_if idle running.old.list place))
+        ≤ running.old.room }
+    ensures { running.new ≡ record running.old {
+      list = with_option other runs
+          (removed_if idle running.old.list place);
+    } }
+{
+    if idle {
+        running.remove(place);
+    }
+    match other {
+        Some(actor) if runs => running.add(actor),
+        Some(actor) => running.take_out(actor),
+        None => {}
     }
 }
 
@@ -329,7 +350,7 @@ impl System {
         let row = &self.rows[event.queue.0 as usize];
         let other = reach(event.op, row, number);
         let runs = is_runnable(&self.actors, &self.world, other);
-        self.running.note(place, idle, other, runs);
+        note(&mut self.running, place, idle, other, runs);
         Ok(())
     }
 

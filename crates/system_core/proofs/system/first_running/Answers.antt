@@ -2,11 +2,10 @@ use Rattle.std.proofs.Common.{[], ◌∙◌, arith, map, refl, sym}
 use Rattle.actor_set.specs.Actors.{part_of}
 use Rattle.actor_set.specs.Laws.Kinds.{scene_of}
 use Rattle.system_core.specs.States.{begun, history_of, nobody}
-use Rattle.system_core.proofs.Starting.{flag_start, flags_many}
+use Rattle.system_core.proofs.Starting.{flag_start, flags_many, list_added, list_skipped, list_room, list_whole}
 use Rattle.system_core.proofs.Telling.{runs_plain}
 use Rattle.system_core.proofs.system.first_running.Goals as goal
 use Rattle.system_core.proofs.system.first_running.Goals.{then-not-is_idle, else-not-is_idle}
-use Rattle.player_kit.proofs.Listing.{list_added, list_skipped, list_room, list_whole}
 
 pub add-requires : goal.add-requires
 add-requires c =

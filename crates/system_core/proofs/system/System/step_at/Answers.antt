@@ -12,11 +12,25 @@ use Rattle.system_core.proofs.SystemStep.{entry_of}
 use Rattle.system_core.specs.Plays.{runnable_now}
 use Rattle.system_core.specs.Asking.{IsAsked}
 use Rattle.system_core.specs.Systems.{Holds, HoldsBefore}
-use Rattle.system_core.proofs.Stepping.{caller_owns, rung_there, system_then}
+use Rattle.system_core.proofs.Stepping.{caller_owns, rung_there, set_same, system_then}
 use Rattle.system_core.proofs.Hearing.{runner_there}
 use Rattle.system_core.proofs.Telling.{keeps_equal}
 use Rattle.system_core.proofs.system.System.step_at.Goals as goal
-use Rattle.player_kit.proofs.Listing.{set_same}
+
+-- where the journal has no room nothing changed
+pub invariant_of-self : goal.invariant_of-self
+invariant_of-self c = record {
+  fitted = c.self.invariant.fitted;
+  before = c.self.invariant.before;
+  holds = rw c.in_err-reserve.ensures.items c.self.invariant.holds;
+  rows_hold = rw c.in_err-reserve.ensures.items c.self.invariant.rows_hold;
+  brisk = rw c.in_err-reserve.ensures.items c.self.invariant.brisk;
+  running = rw c.in_err-reserve.ensures.items c.self.invariant.running;
+  room = c.self.invariant.room;
+}
+
+pub at-number-requires : goal.at-number-requires
+at-number-requires c = subst (λ n. c.args.place < n) (sym (ap length c.self.invariant.running ∙ ap (λ (s : Shown). length (runnable_now s)) c.self.view_is)) c.requires
 
 pub index_mut-actor-requires : goal.index_mut-actor-requires
 index_mut-actor-requires c =
