@@ -1,12 +1,12 @@
 //! The producing end: each call is one step on one word of the ring, and the queue law's next event
 //! on its queue. On a wild ring a look is up to two steps, the last of which is the event, and a
 //! `put` two, the first of which is it.
-ghost use Rattle.std.specs.Prelude.{◌≡◌, ◌<◌, true, false, [], ◌∷◌, ◌++◌, length, Some, nat_eq};
+ghost use Rattle.std.specs.Prelude.{◌≡◌, ◌<◌, true, false, [], ◌∷◌, ◌++◌, length, None, Some, nat_eq};
 ghost use Rattle.atomic_table.specs.Table.{rest};
 ghost use Rattle.cargo_core.specs.Items.{kind_of};
 ghost use Rattle.wire_core.specs.Deeds.{answer_of};
 ghost use Rattle.wire_core.specs.Ends.{Condition, end_after};
-ghost use Rattle.spsc_queue.specs.Rule.{Slot, head_word, tail_word, guard_word, wrap};
+ghost use Rattle.spsc_queue.specs.Rule.{head_word, tail_word, guard_word, wrap};
 ghost use Rattle.spsc_queue.specs.Steps.{EndDid, RoomDid, known_end, last_value, tells_room};
 ghost use Rattle.spsc_queue.specs.Steps.{room_kept, room_read, fits_room, index_read, after_look};
 ghost use Rattle.spsc_queue.specs.Steps.{empty_if, sent_one, passed};
@@ -48,15 +48,16 @@ impl Model for Producer {
     ghost invariant = { IsProducer };
 }
 
-// Writes an entry in the slot that the seat holds, where the slot lies.
+// Writes an entry in the empty slot that the seat holds. It reads nothing of the slot: a store
+// takes the slot's line from the consumer at once, where a load before it would fetch it twice.
 fn fill(seat: &mut Place, board: &Board, slot: usize, item: Item, body: Body)
     requires { (seat.old.table_id ≡ board.now.shared.table_id)
-        × ((old : Slot) × (seat.old.me.1 ≡ (slot, old) ∷ rest seat.old.me.1)) }
+        × (seat.old.me.1 ≡ (slot, None) ∷ rest seat.old.me.1) }
     ensures { (seat.new.table_id ≡ seat.old.table_id) × (seat.new.id ≡ seat.old.id)
         × (seat.new.me ≡ (seat.old.me.0, (slot, Some (item, body)) ∷ rest seat.old.me.1)) }
 {
-    let place = seat.slot_mut(&board.shared, slot);
-    *place = Some((item, body));
+    let old = board.shared.exchange(seat, slot, Some((item, body)));
+    let None = old else { unreachable!() };
 }
 
 impl Producer {

@@ -13,7 +13,7 @@ use Rattle.spsc_queue.proofs.producer.Producer.fill_guard.Goals as goal
 pub fill-requires : goal.fill-requires
 fill-requires g c = let me = c.self.inside.seat.me in (
   search rules,
-  (None, takes_first _ _ _ (held_here c.self.inside.seat.table_id.slots (length me.0.producer.entries) c.self.inside.tail c.ring.inside.capacity c.from-place.result me.0.producer.grant None me.1 c.self.invariant.holding (granted_room _ (ap (λ e. is_some e.knows.grant) c.self.view_is ∙ c.requires.condition.1) c.self.invariant.granted) c.self.invariant.index c.from-place.ensures (search rules) c.ring.invariant.divides)),
+  takes_first _ _ _ (held_here c.self.inside.seat.table_id.slots (length me.0.producer.entries) c.self.inside.tail c.ring.inside.capacity c.from-place.result me.0.producer.grant None me.1 c.self.invariant.holding (granted_room _ (ap (λ e. is_some e.knows.grant) c.self.view_is ∙ c.requires.condition.1) c.self.invariant.granted) c.self.invariant.index c.from-place.ensures (search rules) c.ring.invariant.divides),
 )
 
 pub store-requires : goal.store-requires
