@@ -1,0 +1,6 @@
+-- What the contracts of the bus that clients share say: what the bytes of a page say (Pages), what
+-- a device does (Devices), who has an address (Grants), and the replies of each client (Replies).
+pub mod Pages
+pub mod Devices
+pub mod Grants
+pub mod Replies
