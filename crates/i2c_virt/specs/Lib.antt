@@ -4,3 +4,8 @@ pub mod Pages
 pub mod Devices
 pub mod Grants
 pub mod Replies
+pub mod Entries
+pub mod Serving
+pub mod BusDevices
+pub mod Clients
+pub mod Virtualising

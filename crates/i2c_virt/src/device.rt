@@ -70,8 +70,8 @@ impl Device {
         Ok(bytes)
     }
 
-    // Writes bytes.
-    fn write(&mut self, bytes: &[u8])
+    /// Writes bytes.
+    pub fn write(&mut self, bytes: &[u8])
         requires { length self.old.bytes ≡ 256 }
         ensures after { self.new ≡ after_write self.old bytes.now }
         ensures size { length self.new.bytes ≡ 256 }

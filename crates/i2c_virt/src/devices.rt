@@ -17,8 +17,8 @@ pub fn address_of(ask: &BusAsk) -> u8
     }
 }
 
-// The place of the first device of an address.
-fn place_of(devices: &[Device], address: u8) -> Option<usize>
+/// The place of the first device of an address.
+pub fn place_of(devices: &[Device], address: u8) -> Option<usize>
     ensures { result ≡ position (λ d. d.address == address) devices.now }
 {
     devices.iter().position(|device| device.address == address)

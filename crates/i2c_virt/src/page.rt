@@ -1,5 +1,5 @@
 //! What the bytes of a page say: a request, and in its place the reply to it.
-ghost use Rattle.std.specs.Prelude.{◌≡◌, ◌≤◌, ◌×◌, length, true, IfOk};
+ghost use Rattle.std.specs.Prelude.{◌≡◌, ◌≤◌, ◌×◌, length, true, IfOk, is_some};
 ghost use Rattle.i2c_virt.specs.Pages.{is_address, is_count, is_request, request_in};
 ghost use Rattle.i2c_virt.specs.Pages.{SpellsRequest, SpellsReply, IsReplyTo, status_number};
 ghost use Rattle.i2c_text.specs.declared.bus.BusAsk.{BusAsk};
@@ -12,7 +12,7 @@ use std::alloc::Global;
 pub const BUFFER_BYTES: usize = 64;
 
 /// Where the data of a buffer begin.
-const DATA: usize = 4;
+pub const DATA: usize = 4;
 
 // Whether a number can be the address of a device.
 fn is_address(address: u8) -> bool
@@ -72,8 +72,8 @@ pub fn write_request(page: &mut Page, ask: &BusAsk)
     }
 }
 
-// The number of a status.
-fn status_number(status: BusStatus) -> u8
+/// The number of a status.
+pub fn status_number(status: BusStatus) -> u8
     ensures { result ≡ status_number status }
 {
     match status {
@@ -95,4 +95,33 @@ pub fn write_reply(page: &mut Page, reply: &BusReply)
 {
     page.fill(2, &[status_number(reply.status)]);
     page.fill(DATA, reply.bytes.as_slice());
+}
+
+/// Whether a page spells a request.
+pub fn spells_request(page: &[u8]) -> bool
+    ensures { result ≡ is_some (request_in page.now) }
+{
+    if page.len() != BUFFER_BYTES || !is_address(page[1]) {
+        return false;
+    }
+    page[0] == 0 || (page[0] <= 2 && is_count(page[3]))
+}
+
+/// How many bytes the reply to a request has that a page spells.
+pub fn bytes_due(ask: &BusAsk, page: &[u8]) -> usize {
+    match ask {
+        BusAsk::Read(_, count) if page[2] == 0 => usize::from(*count),
+        _ => 0,
+    }
+}
+
+/// The status that a page spells, of 64 bytes; None where it spells no reply.
+pub fn read_status(page: &[u8]) -> Option<BusStatus> {
+    match page[2] {
+        0 => Some(BusStatus::Ok),
+        1 => Some(BusStatus::Taken),
+        2 => Some(BusStatus::Unclaimed),
+        3 => Some(BusStatus::NoAck),
+        _ => None,
+    }
 }
