@@ -14,6 +14,7 @@ mod memory;
 mod page;
 mod ranges;
 mod series;
+mod slot;
 mod tape;
 mod text;
 
@@ -31,5 +32,6 @@ pub use memory::Memory;
 pub use page::{Lease, Page};
 pub use ranges::{Range, Ranges};
 pub use series::Series;
+pub use slot::slot_of;
 pub use tape::Tape;
 pub use text::Text;

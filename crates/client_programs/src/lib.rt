@@ -1,8 +1,8 @@
 //! The programs of the clients. A serial client says its script and records what it gets: a reader
 //! is one whose script is empty, a speaker any other. A network client records the frames that
 //! come; a source sends those of its script too, and an echo answers each. A block client asks for
-//! blocks and records what comes back. The programs are this project's own; which queues a client
-//! has is sDDF's.
+//! blocks and records what comes back. A hostile client of any class plays its acts. The programs
+//! are this project's own; which queues a client has is sDDF's.
 #![tactic(auto)]
 
 ghost use Rattle.std.specs.Prelude.{◌≡◌};
@@ -14,9 +14,11 @@ ghost use Rattle.client_programs.specs.contracts.SerialClient.{the_row};
 
 pub mod blk;
 pub mod net;
+pub mod rogue;
 
 pub use crate::blk::BlkClient;
 pub use crate::net::NetClient;
+pub use crate::rogue::Rogue;
 use cargo_core::Bytes;
 use device_model::serial_terminal::Terminal;
 pub use net::NetProgram;

@@ -6,7 +6,7 @@ ghost use Rattle.cargo_core.specs.Capacities.{IsCapacity};
 ghost use Rattle.plain_wires.specs.Contents.{standing};
 ghost use Rattle.plain_wires.specs.Pages.{pages_among};
 
-use cargo_core::{Body, Item, Memory, PoolId};
+use cargo_core::{Body, Item, Memory, PoolId, slot_of};
 use std::alloc::Global;
 use std::marker::Model;
 
@@ -45,15 +45,6 @@ fn page_in(pool: PoolId, slot: &Option<(Item, Body)>) -> u32
     }
 }
 
-// The slot of an index: its remainder by a power of two, which is its lowest bits.
-#[inline(always)]
-fn slot_of(index: u16, capacity: u16) -> u16
-    requires { IsCapacity capacity }
-    ensures { result ≡ index % capacity }
-{
-    index & (capacity - 1)
-}
-
 // How many buffers of a pool lie in so many slots, from that of an index on. There are as many
 // slots as a queue holds entries.
 fn pages_from(
@@ -71,7 +62,7 @@ fn pages_from(
     let mut pages = 0;
     for place in 0..count {
         let index = head.wrapping_add(place);
-        pages += page_in(pool, &slots[usize::from(index % capacity)]);
+        pages += page_in(pool, &slots[slot_of(index, capacity)]);
     }
     pages
 }
@@ -135,7 +126,7 @@ impl Slots {
         ensures first { self.old.entries ≡ result ∷ self.new.entries }
         ensures capacity { self.new.capacity ≡ self.old.capacity }
     {
-        let place = usize::from(slot_of(self.head, self.capacity));
+        let place = slot_of(self.head, self.capacity);
         self.head = self.head.wrapping_add(1);
         self.slots[place].take().unwrap()
     }
@@ -146,7 +137,7 @@ impl Slots {
         ensures entries { self.new.entries ≡ self.old.entries ++ entry ∷ [] }
         ensures capacity { self.new.capacity ≡ self.old.capacity }
     {
-        let place = usize::from(slot_of(self.tail, self.capacity));
+        let place = slot_of(self.tail, self.capacity);
         self.tail = self.tail.wrapping_add(1);
         drop(self.slots[place].replace(entry));
     }

@@ -2,6 +2,7 @@
 pub mod Ends
 use Rattle.std.specs.Prelude.{◌≡◌, ◌≢◌, ℕ, ◌+◌, ◌%◌, ◌<◌, ◌≤◌, length, true, false, Option}
 use Rattle.std.specs.Prelude.{List, [], ◌∷◌, Some, None}
+use Rattle.cargo_core.specs.Capacities.{IsCapacity}
 use Rattle.wire_core.specs.declared.names.BellState.{BellState}
 use Rattle.wire_core.specs.declared.names.Side.{Side}
 use Rattle.wire_core.specs.declared.names.Side.TheVariants.{Forward, Backward}
@@ -56,10 +57,11 @@ abbrev pub consumer_is : Use.Inside → EndIs
 consumer_is p = record { ring = p.seat.table_id; knows = p.seat.me.0.consumer }
 
 -- a ring has thirty-six words, of which six are used, and behind them the guards where it is wild,
--- and its capacity divides the numbers of an index
+-- and its capacity is a power of two, so that it divides the numbers of an index
 pub record IsRing (r : Lie.Inside) : Type 0 where
   pub words : 36 ≤ r.table.shared.table_id.words
   pub slots : r.table.shared.table_id.slots ≡ r.capacity
+  pub power : IsCapacity r.capacity
   pub some_place : 0 < r.capacity
   pub few : r.capacity ≤ 32768
   pub divides : 65536 % r.capacity ≡ 0

@@ -16,7 +16,7 @@ use crate::rule::{
     FLAG, FLAG_BACK, GUARDS, HEAD, PENDING, PENDING_BACK, Place, TAIL, kept_of, place_of,
 };
 use crate::waiting::looked;
-use cargo_core::{Body, Item, Word};
+use cargo_core::{Body, Item, Word, slot_of};
 use std::marker::Model;
 use wire_core::{Answer, Op, Ringer, Side, Waiter};
 
@@ -135,7 +135,7 @@ impl Consumer {
         ensures granted { Granted self.old.knows.kind (nat_eq (last_value self.new.knows) 1)
             self.new.knows.grant }
     {
-        let place = usize::from(self.head % ring.capacity);
+        let place = slot_of(self.head, ring.capacity);
         let guard = ring
             .table
             .shared
@@ -192,7 +192,7 @@ impl Consumer {
             (result ∷ []) self.new.knows }
         ensures kind { kind_of result.0 ≡ self.old.knows.kind }
     {
-        let slot = usize::from(self.head % ring.capacity);
+        let slot = slot_of(self.head, ring.capacity);
         let next = self.head.wrapping_add(1);
         let old = ring.table.shared.exchange(&mut self.seat, slot, None);
         let Some(entry) = old else { unreachable!() };
@@ -216,7 +216,7 @@ impl Consumer {
             (guard_word self.old.ring.slots (length self.old.knows.entries)) 0 self.old.knows) }
         ensures kind { kind_of result.0 ≡ self.old.knows.kind }
     {
-        let place = usize::from(self.head % ring.capacity);
+        let place = slot_of(self.head, ring.capacity);
         let next = self.head.wrapping_add(1);
         let ahead = self.ahead.saturating_sub(1);
         let old = ring.table.shared.exchange(&mut self.seat, place, None);

@@ -18,7 +18,7 @@ use crate::rule::{
     Board, FLAG, FLAG_BACK, GUARDS, HEAD, PENDING, PENDING_BACK, Place, TAIL, kept_of, place_of,
 };
 use crate::waiting::looked;
-use cargo_core::{Body, Item, Word};
+use cargo_core::{Body, Item, Word, slot_of};
 use std::marker::Model;
 use wire_core::{Answer, Op, Ringer, Side, Waiter};
 
@@ -144,7 +144,7 @@ impl Producer {
             self.old.knows.ahead self.old.knows }
         ensures answer { result ≡ nat_eq (last_value self.new.knows) 0 }
     {
-        let place = usize::from(self.tail % ring.capacity);
+        let place = slot_of(self.tail, ring.capacity);
         let guard = ring
             .table
             .shared
@@ -202,7 +202,7 @@ impl Producer {
             ((item, body) ∷ []) self.new.knows }
         ensures time { self.new.knows.times ≡ self.old.knows.times ++ C.time ∷ [] }
     {
-        let slot = usize::from(self.tail % ring.capacity);
+        let slot = slot_of(self.tail, ring.capacity);
         let next = self.tail.wrapping_add(1);
         fill(&mut self.seat, &ring.table, slot, item, body);
         ring.table
@@ -223,7 +223,7 @@ impl Producer {
         ensures did { self.new.knows ≡ sent_one (item, body) C.time
             (guard_word self.old.ring.slots (length self.old.knows.entries)) 1 self.old.knows }
     {
-        let place = usize::from(self.tail % ring.capacity);
+        let place = slot_of(self.tail, ring.capacity);
         let next = self.tail.wrapping_add(1);
         let ahead = self.ahead.saturating_sub(1);
         fill(&mut self.seat, &ring.table, place, item, body);

@@ -9,5 +9,5 @@ loop-place-init c = (sym (ap (pages_among c.args.pool) (none_stands c.args.slots
 
 pub loop-place-preserved : goal.loop-place-preserved
 loop-place-preserved c =
-    let at : get_or c.args.slots.now (((c.args.head + c.loop-place.place) % 65536) % c.args.capacity) None ≡ c.index-slots-from.result = ap (λ i. get_or c.args.slots.now i None) (sym c.from.ensures) ∙ sym (get_or_read c.args.slots.now c.from.result c.index-slots-from.result (search rules) c.index-slots-from.is None) in
-    (ap (λ n. c.loop-place.pages + n) c.page_in-pages.ensures.pages ∙ one_more c.args.pool c.args.slots.now c.args.capacity c.args.head c.loop-place.place c.loop-place.pages c.index-slots-from.result c.requires.sized c.loop-place.invariant.0 at, let some = c.loop-place.invariant.1 in let one = c.page_in-pages.ensures.few in omega (arith, some, one))
+    let at : get_or c.args.slots.now (((c.args.head + c.loop-place.place) % 65536) % c.args.capacity) None ≡ c.index-slots-slot_of.result = ap (λ i. get_or c.args.slots.now i None) (sym c.slot_of.ensures) ∙ sym (get_or_read c.args.slots.now c.slot_of.result c.index-slots-slot_of.result (search rules) c.index-slots-slot_of.is None) in
+    (ap (λ n. c.loop-place.pages + n) c.page_in-pages.ensures.pages ∙ one_more c.args.pool c.args.slots.now c.args.capacity c.args.head c.loop-place.place c.loop-place.pages c.index-slots-slot_of.result c.requires.sized c.loop-place.invariant.0 at, let some = c.loop-place.invariant.1 in let one = c.page_in-pages.ensures.few in omega (arith, some, one))
