@@ -1,16 +1,20 @@
 -- Nobody is hostile yet, so what is said by the names that are kept is what is said without names.
-use Rattle.std.proofs.Common.{◌≡◌, ℕ, List}
+use Rattle.std.proofs.Common.{◌≡◌, ◌∙◌, ℕ, List, [], refl, sym, ap, subst}
+use Rattle.std.proofs.lemmas.List.{append-nil}
 use Rattle.wire_core.specs.declared.names.Entry.{Entry}
 use Rattle.wire_core.specs.Journal.{EachMoment}
 use Rattle.play_core.specs.Moved.{Moved}
 use Rattle.play_core.specs.Names.{told_by, wild_in}
 use Rattle.play_core.specs.Runs.{runnable}
 use Rattle.play_core.specs.Sheets.{RowsHold, needful}
+use Rattle.play_core.specs.Wants.{all_settled}
+use Rattle.play_core.proofs.Lists.{prefix_trans}
 use Rattle.play_core.proofs.Moments.{each_moment}
 use Rattle.actor_set.specs.Parts.{Part}
 use Rattle.actor_set.specs.Laws.Kinds.{sheet}
 use Rattle.actor_set.proofs.LawsLemmas.Told.{calm_row, calm_wants, none_hostile, row_calm, runs_calm}
-use Rattle.system_core.specs.Shows.{Setting, RowsStand, hostile_in, manner_in, moved_in, runs, sheet_in}
+use Rattle.system_core.specs.Adopting.{AllRest, OneSpent, rests_first}
+use Rattle.system_core.specs.Shows.{Setting, KeepsSetting, RowsStand, hostile_in, manner_in, moved_in, runs, sheet_in}
 
 -- who is runnable, without names
 abbrev pub plain_runs : Setting → List Entry → List ℕ
@@ -33,5 +37,31 @@ rows_told s journal rows k p calm at = row_calm s.scene (wild_in (hostile_in s) 
 pub each_plain : (s : Setting) (journal : List Entry) → EachMoment (RowsStand s) journal → EachMoment (PlainRows s) journal
 each_plain s journal rows = each_moment (RowsStand s) (RowsStand s) (PlainRows s) (λ j a b. rows_plain s j a) journal rows rows
 
+-- so as more names are kept all stays said
+pub keeps_same : (s : Setting) → KeepsSetting s s
+keeps_same s = record { names = ([], append-nil s.names); stays = refl }
+
+pub keeps_equal : (s t : Setting) → t ≡ s → KeepsSetting s t
+keeps_equal s t same = subst (KeepsSetting s) (sym same) (keeps_same s)
+
+pub keeps_on : (s t u : Setting) → KeepsSetting s t → KeepsSetting t u → KeepsSetting s u
+keeps_on s t u a b = record {
+  names = prefix_trans s.names t.names u.names a.names b.names;
+  stays = b.stays ∙ ap (λ (z : Setting). record z { names = u.names }) a.stays;
+}
+
+pub keeps_runs : (s t : Setting) → KeepsSetting s t → (journal : List Entry) → runs s journal ≡ runs t journal
+keeps_runs s t keeps journal = runs_plain s journal ∙ (sym (ap (λ (z : Setting). plain_runs z journal) keeps.stays) ∙ sym (runs_plain t journal))
+
 pub wants_plain : (s : Setting) (p : Part) (m : Moved) → (sheet_in s p).wants m ≡ (sheet s.scene p).wants m
 wants_plain s p m = calm_wants s.scene (wild_in (hostile_in s) s.rows) (told_by s.names) p m (none_hostile s.cast s.rows p)
+
+-- and so of the moment at which the journal begins
+rests_plain : (s : Setting) (p : Part) → rests_first s p ≡ all_settled s.history [] ((sheet s.scene p).wants (moved_in s []))
+rests_plain s p = ap (all_settled s.history []) (wants_plain s p (moved_in s []))
+
+pub keeps_rests : (s t : Setting) → KeepsSetting s t → AllRest s → AllRest t
+keeps_rests s t keeps rest = subst AllRest (sym keeps.stays) (λ k p at. rests_plain (record s { names = t.names }) p ∙ (sym (rests_plain s p) ∙ rest k p at))
+
+pub keeps_spent : (s t : Setting) (limit : ℕ) → KeepsSetting s t → OneSpent s limit → OneSpent t limit
+keeps_spent s t limit keeps spent = subst (λ (z : Setting). OneSpent z limit) (sym keeps.stays) (spent.0, spent.1, spent.2)

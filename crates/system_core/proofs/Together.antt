@@ -9,6 +9,7 @@ use Rattle.sdf_check.specs.Valid.{Valid}
 use Rattle.trace_text.specs.declared.trace.Trace.{Trace}
 use Rattle.trace_text.specs.Traces.{IsReadFor}
 use Rattle.play_core.specs.Moved.{Moved, moved}
+use Rattle.play_core.specs.Names.{Noted}
 use Rattle.play_core.specs.Wants.{Needful}
 use Rattle.play_core.specs.Sheets.{needful}
 use Rattle.play_core.specs.Still.{IsStill, Plays}
@@ -111,28 +112,6 @@ module _ (plan : Plan) (trace : Trace) (valid : Valid plan) (read : IsReadFor pl
 pub of_plan : (s : Shown) → StandsLawful s → LawInPart → LawWhole → IsOfItsPlan s
 of_plan s stands part whole plan trace valid read cast_is = is_system plan trace valid read s cast_is stands part whole
 
--- a play keeps the cast
-pub stays_of_plan : (old new : Shown) (seed limit : ℕ) → Played old new seed limit → IsOfItsPlan new → StaysOfItsPlan old new
-stays_of_plan old new seed limit played of plan trace valid read was = of plan trace valid read (subst (IsCastOf plan trace) (sym played.setting) was.cast)
-
--- one play that began with nothing picked its whole journal
-pub played_on : (old new : Shown) (seed limit : ℕ) → old.journal ≡ [] → Played old new seed limit → (plan : Plan) (trace : Trace) → IsSystemOf plan trace new → IsPlayedOn plan trace seed limit new
-played_on old new seed limit none played plan trace system =
-    let more_is : played.more ≡ new.journal = sym (played.journal ∙ ap (λ j. j ++ played.more) none) in
-    record {
-      system = system;
-      picked = subst (λ z. PickedFrom (runs z) seed [] new.journal) (sym played.setting)
-          (subst (λ j. PickedFrom (runs old.setting) seed [] j) more_is (subst (λ j. PickedFrom (runs old.setting) seed j played.more) none played.picked));
-      within = subst (λ j. length j ≤ limit) more_is played.within;
-    }
-
--- and so did one of a system that was built
-pub together : (old new : Shown) (seed limit : ℕ) → Played old new seed limit → (plan : Plan) (trace : Trace) → IsBuilt plan trace old → IsSystemOf plan trace new → IsPlayed plan trace seed limit new
-together old new seed limit played plan trace built system = record {
-  begins = subst BeginsAnew (sym played.setting) built.begins;
-  played = played_on old new seed limit built.journal played plan trace system;
-}
-
 -- who acts in a system doesn't depend on its history
 same_cast : (plan : Plan) (trace : Trace) (s : Setting) (h : History) → IsCastOf plan trace s → IsCastOf plan trace (record s { history = h })
 same_cast plan trace s h is = record {
@@ -146,6 +125,42 @@ same_cast plan trace s h is = record {
   net = is.net;
   serial = is.serial;
   blk = is.blk;
+}
+
+-- nor on the names that are kept
+named_cast : (plan : Plan) (trace : Trace) (s : Setting) (ns : List Noted) → IsCastOf plan trace s → IsCastOf plan trace (record s { names = ns })
+named_cast plan trace s ns is = record {
+  rows = is.rows;
+  pools = is.pools;
+  count = is.count;
+  scene = is.scene;
+  parts = is.parts;
+  whole = is.whole;
+  whole_block = is.whole_block;
+  net = is.net;
+  serial = is.serial;
+  blk = is.blk;
+}
+
+-- a play keeps the cast
+pub stays_of_plan : (old new : Shown) (seed limit : ℕ) → Played old new seed limit → IsOfItsPlan new → StaysOfItsPlan old new
+stays_of_plan old new seed limit played of plan trace valid read was = of plan trace valid read (subst (IsCastOf plan trace) (sym played.setting.stays) (named_cast plan trace old.setting new.setting.names was.cast))
+
+-- one play that began with nothing picked its whole journal
+pub played_on : (old new : Shown) (seed limit : ℕ) → old.journal ≡ [] → Played old new seed limit → (plan : Plan) (trace : Trace) → IsSystemOf plan trace new → IsPlayedOn plan trace seed limit new
+played_on old new seed limit none played plan trace system =
+    let more_is : played.more ≡ new.journal = sym (played.journal ∙ ap (λ j. j ++ played.more) none) in
+    record {
+      system = system;
+      picked = subst (λ j. PickedFrom (runs new.setting) seed [] j) more_is (subst (λ j. PickedFrom (runs new.setting) seed j played.more) none played.picked);
+      within = subst (λ j. length j ≤ limit) more_is played.within;
+    }
+
+-- and so did one of a system that was built
+pub together : (old new : Shown) (seed limit : ℕ) → Played old new seed limit → (plan : Plan) (trace : Trace) → IsBuilt plan trace old → IsSystemOf plan trace new → IsPlayed plan trace seed limit new
+together old new seed limit played plan trace built system = record {
+  begins = subst BeginsAnew (sym played.setting.stays) built.begins;
+  played = played_on old new seed limit built.journal played plan trace system;
 }
 
 -- so a system that goes on from what actors left has the cast that these came from

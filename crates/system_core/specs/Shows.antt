@@ -3,6 +3,7 @@
 use Rattle.std.specs.Prelude.{◌≡◌, ℕ, Option, List, [], ◌∷◌, ◌++◌}
 use Rattle.cargo_core.specs.declared.item.Body.{Body}
 use Rattle.cargo_core.specs.declared.item.Reply.{Reply}
+use Rattle.cargo_core.specs.Lists.{IsPrefix}
 use Rattle.wire_core.specs.declared.names.PoolRow.{PoolRow}
 use Rattle.wire_core.specs.declared.names.QueueRow.{QueueRow}
 use Rattle.wire_core.specs.declared.names.Event.{Event}
@@ -23,10 +24,10 @@ pub record Crew : Type 0 where
   pub device : Option ℕ
   pub clients : List ℕ
 
--- what stays the same while a system is played: what its queues had before its journal begins, its
--- queues, its pools by their numbers, its actors' parts, the scene in which needs and rows are
--- said, with the names that are kept of entries of queues with a hostile end (none yet, as nobody
--- is hostile), and who is who in the classes
+-- what stays the same while a system is played, but for the names that are kept of entries of
+-- queues with a hostile end, which may grow (there are none yet, as nobody is hostile): what its
+-- queues had before its journal begins, its queues, its pools by their numbers, its actors' parts,
+-- the scene in which needs and rows are said, and who is who in the classes
 pub record Setting : Type 0 where
   pub history : History
   pub rows : List QueueRow
@@ -83,8 +84,13 @@ runs s journal =
 abbrev pub RowsStand : Setting → List Entry → Type 0
 RowsStand s journal = RowsHold (sheet_in s) (hostile_in s) s.cast (moved_in s journal)
 
+-- the setting stays but for the names that are kept, and these grew at their end
+pub record KeepsSetting (old new : Setting) : Type 0 where
+  pub names : IsPrefix old.names new.names
+  pub stays : new ≡ record old { names = new.names }
+
 -- actor k made one call more
 pub record Appends (k : ℕ) (old new : Shown) : Type 0 where
   pub event : Event
-  pub setting : new.setting ≡ old.setting
+  pub setting : KeepsSetting old.setting new.setting
   pub journal : new.journal ≡ old.journal ++ record { actor = record { 0 = k }; event = event } ∷ []

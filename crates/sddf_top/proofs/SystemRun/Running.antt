@@ -26,6 +26,7 @@ use Rattle.order_law.specs.Ended.Tracks.{TellsEnds}
 use Rattle.pd_runner.specs.Facing.{CameApart, CameWithin, HasSpent, IsResting}
 use Rattle.sdf_plan.specs.declared.plan.Plan.{Plan}
 use Rattle.trace_text.specs.declared.trace.Trace.{Trace}
+use Rattle.system_core.proofs.Telling.{keeps_rests, keeps_spent}
 use Rattle.system_core.specs.Shows.{Setting, Shown}
 use Rattle.sdf_check.specs.Valid.{Valid}
 use Rattle.system_core.specs.Lawful.{StandsLawful}
@@ -157,5 +158,9 @@ module _ (plan : Plan) (trace : Trace) (built : Shown) (is : IsBuilt plan trace 
 pub is_ran : (plan : Plan) (trace : Trace) (limit : ℕ) (s : Setting) (parts : List Apart) (t new : Shown) → IsAdopted s parts t → AllRest t.setting ⊎ OneSpent t.setting limit → Played t new 0 limit → IsSystemOf plan trace new → IsRan plan trace limit new
 is_ran plan trace limit s parts t new adopted first played system = record {
   played = played_on t new 0 limit adopted.journal played plan trace system;
-  first = subst (λ (z : Setting). AllRest z ⊎ OneSpent z limit) (sym played.setting) first;
+  first = goes_on first;
 }
+  where
+    goes_on : AllRest t.setting ⊎ OneSpent t.setting limit → AllRest new.setting ⊎ OneSpent new.setting limit
+    goes_on (inl rest) = inl (keeps_rests t.setting new.setting played.setting rest)
+    goes_on (inr spent) = inr (keeps_spent t.setting new.setting limit played.setting spent)

@@ -14,6 +14,7 @@ use Rattle.system_core.specs.Asking.{IsAsked}
 use Rattle.system_core.specs.Systems.{Holds, HoldsBefore}
 use Rattle.system_core.proofs.Stepping.{caller_owns, rung_there, system_then}
 use Rattle.system_core.proofs.Hearing.{runner_there}
+use Rattle.system_core.proofs.Telling.{keeps_equal}
 use Rattle.system_core.proofs.system.System.step_at.Goals as goal
 use Rattle.player_kit.proofs.Listing.{set_same}
 
@@ -105,7 +106,7 @@ returns-clause-ok c =
       there = subst (λ (s : Shown). slice_get (runnable_now s) c.args.place ≡ Some c.at-number.result) c.self.view_is (rw (← c.self.invariant.running) c.at-number.ensures);
       appends = record {
         event = c.in_ok-event.event;
-        setting = ap (λ cast. record { history = history_of c.self.inside.rows.items c.self.inside.past.value.items; rows = c.self.inside.rows.items; pools = c.self.inside.pools.items; cast = cast; scene = scene_of cast; names = []; net = c.self.inside.net; serial = c.self.inside.serial; blk = c.self.inside.blk }) s.cast_is ∙ ap (λ (s : Shown). s.setting) c.self.view_is;
+        setting = keeps_equal _ _ (ap (λ cast. record { history = history_of c.self.inside.rows.items c.self.inside.past.value.items; rows = c.self.inside.rows.items; pools = c.self.inside.pools.items; cast = cast; scene = scene_of cast; names = []; net = c.self.inside.net; serial = c.self.inside.serial; blk = c.self.inside.blk }) s.cast_is ∙ ap (λ (s : Shown). s.setting) c.self.view_is);
         journal = c.push_reserved.ensures.items ∙ rw (c.in_ok-reserve.ensures.items, ap (λ (s : Shown). s.journal) c.self.view_is) refl;
       };
     }
