@@ -1,13 +1,21 @@
 //! What the words ask for.
 ghost use Rattle.std.specs.Prelude.{◌≡◌, ◌≤◌, ◌^◌, IfSome};
 
-// How many bytes are to cross a ring whose capacity is 2 to a power, and whether by the whole
-// discipline.
+// By what the bytes cross: the ring's looks and moves alone, its whole discipline with bells, or,
+// to compare, a queue of crossbeam's.
+#[derive(Clone, Copy)]
+pub(crate) enum Way {
+    Moves,
+    Bells,
+    Array,
+}
+
+// How many bytes are to cross a queue whose capacity is 2 to a power, and by what.
 #[derive(Clone, Copy)]
 pub(crate) struct Order {
     pub(crate) entries: u32,
     pub(crate) power: u32,
-    pub(crate) bells: bool,
+    pub(crate) way: Way,
 }
 
 // Of which power of two a capacity is, up to 32,768.
@@ -26,23 +34,23 @@ fn number_of(word: &str) -> Option<u32> {
     word.parse::<u32>().ok()
 }
 
-// The words ENTRIES CAPACITY, and maybe the word `bells`; None where they are others.
+// The words ENTRIES CAPACITY, and maybe one of the words `bells` and `array`; None where they are
+// others.
 pub(crate) fn read_order(words: &[String]) -> Option<Order>
     ensures { IfSome result (λ o. o.power ≤ 15) }
 {
-    let bells = match words.len() {
-        2 => false,
-        3 => {
-            if words[2].as_str() != "bells" {
-                return None;
-            }
-            true
-        }
+    let way = match words.len() {
+        2 => Way::Moves,
+        3 => match words[2].as_str() {
+            "bells" => Way::Bells,
+            "array" => Way::Array,
+            _ => return None,
+        },
         _ => return None,
     };
     Some(Order {
         entries: number_of(words[0].as_str())?,
         power: power_of(number_of(words[1].as_str())?)?,
-        bells,
+        way,
     })
 }

@@ -2,9 +2,9 @@
 use std::hint::spin_loop;
 use std::thread::yield_now;
 
-// So many pauses of the processor, in which the other end may move several entries, and then the
-// turn of another thread, if one waits for this processor.
-pub(crate) fn pause(pauses: u32) {
+/// So many pauses of the processor, in which the other end may move several entries, and then the
+/// turn of another thread, if one waits for this processor.
+pub fn pause(pauses: u32) {
     for _ in 0..pauses {
         spin_loop();
     }
