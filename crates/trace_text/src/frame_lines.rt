@@ -8,9 +8,9 @@ ghost use Rattle.trace_text.specs.Reading.{IsRead, HasLists};
 use crate::clients::{is_source, net_client_count};
 use crate::data::read_data;
 use crate::lists::add_frame;
-use crate::number::read_below;
 use crate::reader::{LINES, Reader};
 use cargo_core::Memory;
+use line_text::read_below;
 use sdf_plan::Plan;
 use std::alloc::Global;
 

@@ -13,13 +13,11 @@ mod frame_lines;
 mod laws;
 mod line;
 mod lists;
-mod number;
 mod read;
 mod reader;
 mod request_lines;
 mod rogue_lines;
 mod stream_lines;
-mod text;
 mod trace;
 
 pub use cargo_core::{Act, Ask, Word};

@@ -1,14 +1,13 @@
-//! The lists of a trace that have one entry for each client.
+//! Frames and bytes of a trace, with one entry for each client.
 ghost use Rattle.std.specs.Prelude.{◌≡◌, ◌<◌, [], ◌∷◌, length, OnOk, IfOk};
-ghost use Rattle.trace_text.specs.Traces.{per_client};
-ghost use Rattle.trace_text.specs.Reading.{grown_at};
+ghost use Rattle.line_text.specs.Lists.{per_client, grown_at};
 
-use cargo_core::{Act, Ask, Bytes, FrameLog, Memory, Series};
+use cargo_core::{Bytes, FrameLog, Memory, Series};
 use std::alloc::Global;
 use std::mem;
 
 // An empty list of frames for each client.
-#[tactic(auto, using(crate::proofs::Rows::per_client_more))]
+#[tactic(auto, using(line_text::proofs::Rows::per_client_more))]
 pub fn no_frames(alloc: Global, clients: usize) -> Result<Series<FrameLog>, Memory>
     ensures { IfOk result (λ lists. lists ≡ per_client clients (λ _. [])) }
 {
@@ -20,7 +19,7 @@ pub fn no_frames(alloc: Global, clients: usize) -> Result<Series<FrameLog>, Memo
 }
 
 // No bytes for each client.
-#[tactic(auto, using(crate::proofs::Rows::per_client_more))]
+#[tactic(auto, using(line_text::proofs::Rows::per_client_more))]
 pub fn no_bytes(alloc: Global, clients: usize) -> Result<Series<Bytes>, Memory>
     ensures { IfOk result (λ lists. lists ≡ per_client clients (λ _. [])) }
 {
@@ -31,32 +30,8 @@ pub fn no_bytes(alloc: Global, clients: usize) -> Result<Series<Bytes>, Memory>
     Ok(lists)
 }
 
-// An empty list of requests for each client.
-#[tactic(auto, using(crate::proofs::Rows::per_client_more))]
-pub fn no_asks(alloc: Global, clients: usize) -> Result<Series<Series<Ask>>, Memory>
-    ensures { IfOk result (λ lists. lists ≡ per_client clients (λ _. [])) }
-{
-    let mut lists = Series::new(alloc);
-    for _client in 0..clients {
-        lists.push(Series::new(alloc))?;
-    }
-    Ok(lists)
-}
-
-// An empty list of acts for each client.
-#[tactic(auto, using(crate::proofs::Rows::per_client_more))]
-pub fn no_acts(alloc: Global, clients: usize) -> Result<Series<Series<Act>>, Memory>
-    ensures { IfOk result (λ lists. lists ≡ per_client clients (λ _. [])) }
-{
-    let mut lists = Series::new(alloc);
-    for _client in 0..clients {
-        lists.push(Series::new(alloc))?;
-    }
-    Ok(lists)
-}
-
 // Gives a client one more frame. After want of memory the lists are gone.
-#[tactic(auto, using(crate::proofs::Rows::grown_at_set))]
+#[tactic(auto, using(line_text::proofs::Rows::grown_at_set))]
 pub fn add_frame(
     alloc: Global,
     lists: &mut Series<FrameLog>,
@@ -74,7 +49,7 @@ pub fn add_frame(
 }
 
 // Gives a client more bytes. After want of memory the lists are gone.
-#[tactic(auto, using(crate::proofs::Rows::grown_at_set))]
+#[tactic(auto, using(line_text::proofs::Rows::grown_at_set))]
 pub fn add_bytes(
     alloc: Global,
     lists: &mut Series<Bytes>,
@@ -87,42 +62,6 @@ pub fn add_bytes(
     let mut all = mem::replace(lists, Series::new(alloc)).into_vec();
     let list = &mut all[client];
     list.extend_from_slice(bytes)?;
-    *lists = Series::from_vec(all);
-    Ok(())
-}
-
-// Gives a client one more request. After want of memory the lists are gone.
-#[tactic(auto, using(crate::proofs::Rows::grown_at_set))]
-pub fn add_ask(
-    alloc: Global,
-    lists: &mut Series<Series<Ask>>,
-    client: usize,
-    ask: Ask,
-) -> Result<(), Memory>
-    requires { client < length lists.old }
-    ensures { OnOk result (lists.new ≡ grown_at lists.old client (ask ∷ [])) }
-{
-    let mut all = mem::replace(lists, Series::new(alloc)).into_vec();
-    let list = &mut all[client];
-    list.push(ask)?;
-    *lists = Series::from_vec(all);
-    Ok(())
-}
-
-// Gives a client one more act. After want of memory the lists are gone.
-#[tactic(auto, using(crate::proofs::Rows::grown_at_set))]
-pub fn add_act(
-    alloc: Global,
-    lists: &mut Series<Series<Act>>,
-    client: usize,
-    act: Act,
-) -> Result<(), Memory>
-    requires { client < length lists.old }
-    ensures { OnOk result (lists.new ≡ grown_at lists.old client (act ∷ [])) }
-{
-    let mut all = mem::replace(lists, Series::new(alloc)).into_vec();
-    let list = &mut all[client];
-    list.push(act)?;
     *lists = Series::from_vec(all);
     Ok(())
 }

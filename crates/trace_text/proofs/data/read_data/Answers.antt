@@ -1,5 +1,6 @@
 use Rattle.std.proofs.Common.{arith}
-use Rattle.trace_text.specs.Texts.{parts_of, all_pieces, data_of}
+use Rattle.line_text.specs.Texts.{parts_of}
+use Rattle.trace_text.specs.Texts.{all_pieces, data_of}
 use Rattle.trace_text.proofs.Pieces.{with_rest_none}
 use Rattle.trace_text.proofs.data.read_data.Goals as goal
 

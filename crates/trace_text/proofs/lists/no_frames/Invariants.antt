@@ -1,5 +1,5 @@
 use Rattle.std.proofs.Common.{◌≡◌, []}
-use Rattle.trace_text.specs.Traces.{per_client}
+use Rattle.line_text.specs.Lists.{per_client}
 use Rattle.trace_text.proofs.lists.no_frames.Given as goal
 
 abbrev pub invariant-loop-client : goal.invariant-loop-client

@@ -1,9 +1,9 @@
 //! How a text is cut and compared.
 ghost use Rattle.std.specs.Prelude.{position, ◌==◌, ◌≡◌, ◌+◌, ◌<◌, [], ◌∷◌, length, MatchOption};
 ghost use Rattle.std.specs.Prelude.{IfSome};
-ghost use Rattle.i2c_text.specs.Texts.{parts_of, lines_of, same_text, is_skipped};
+ghost use Rattle.line_text.specs.Texts.{parts_of, lines_of, same_text, is_skipped};
 
-// Whether two texts are the same.
+/// Whether two texts are the same.
 pub fn same_text(a: &[u8], b: &str) -> bool
     ensures { result ≡ same_text a.now b.now }
 {
@@ -17,7 +17,7 @@ fn place_of(text: &[u8], at: u8) -> Option<usize>
     text.iter().position(|b| *b == at)
 }
 
-// The text before the first byte of a value, and that after it; None where there is no such byte.
+/// The text before the first byte of a value, and that after it; None where there is no such byte.
 pub fn split_once<'a>(text: &'a [u8], at: u8) -> Option<(&'a [u8], &'a [u8])>
     ensures parts { MatchOption result (parts_of at text.now ≡ text.now ∷ [])
         (λ x. parts_of at text.now ≡ x.0.now ∷ parts_of at x.1.now) }
@@ -29,14 +29,14 @@ pub fn split_once<'a>(text: &'a [u8], at: u8) -> Option<(&'a [u8], &'a [u8])>
     }
 }
 
-// Whether a line is skipped.
+/// Whether a line is skipped.
 pub fn is_skipped(line: &[u8]) -> bool
     ensures { result ≡ is_skipped line.now }
 {
     line.is_empty() || line[0] == b'#'
 }
 
-// The first line of a text that isn't empty, and the text after it.
+/// The first line of a text that isn't empty, and the text after it.
 pub fn next_line(text: &[u8]) -> (&[u8], &[u8])
     requires { 0 < length text.now }
     ensures lines { lines_of text.now ≡ result.0.now ∷ lines_of result.1.now }

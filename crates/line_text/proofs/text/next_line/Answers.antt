@@ -1,7 +1,7 @@
 use Rattle.std.proofs.Common.{length, arith}
 use Rattle.std.proofs.lemmas.List.{drop_all}
-use Rattle.i2c_text.proofs.Words.{lines_more, lines_last}
-use Rattle.i2c_text.proofs.text.next_line.Goals as goal
+use Rattle.line_text.proofs.Pieces.{lines_more, lines_last}
+use Rattle.line_text.proofs.text.next_line.Goals as goal
 
 pub returns-in-Some-clause-lines : goal.returns-in-Some-clause-lines
 returns-in-Some-clause-lines c = lines_more c.args.text.now c.in-Some.line.now c.in-Some.rest.now c.in-Some.ensures.parts

@@ -1,16 +1,14 @@
-//! The requests of a bus: a list for each client.
+//! Lists that have one entry for each client.
 ghost use Rattle.std.specs.Prelude.{◌≡◌, ◌<◌, [], ◌∷◌, length, OnOk, IfOk};
-ghost use Rattle.i2c_text.specs.Buses.{per_client};
-ghost use Rattle.i2c_text.specs.Reading.{grown_at};
+ghost use Rattle.line_text.specs.Lists.{per_client, grown_at};
 
-use crate::bus::BusAsk;
 use cargo_core::{Memory, Series};
 use std::alloc::Global;
 use std::mem;
 
-// An empty list of requests for each client.
+/// An empty list for each client.
 #[tactic(auto, using(crate::proofs::Rows::per_client_more))]
-pub fn no_asks(alloc: Global, clients: usize) -> Result<Series<Series<BusAsk>>, Memory>
+pub fn no_items<T: Drop>(alloc: Global, clients: usize) -> Result<Series<Series<T>>, Memory>
     ensures { IfOk result (λ lists. lists ≡ per_client clients (λ _. [])) }
 {
     let mut lists = Series::new(alloc);
@@ -20,20 +18,20 @@ pub fn no_asks(alloc: Global, clients: usize) -> Result<Series<Series<BusAsk>>, 
     Ok(lists)
 }
 
-// Gives a client one more request. After want of memory the lists are gone.
+/// Gives a client one more item. After want of memory the lists are gone.
 #[tactic(auto, using(crate::proofs::Rows::grown_at_set))]
-pub fn add_ask(
+pub fn add_item<T: Drop>(
     alloc: Global,
-    lists: &mut Series<Series<BusAsk>>,
+    lists: &mut Series<Series<T>>,
     client: usize,
-    ask: BusAsk,
+    item: T,
 ) -> Result<(), Memory>
     requires { client < length lists.old }
-    ensures { OnOk result (lists.new ≡ grown_at lists.old client (ask ∷ [])) }
+    ensures { OnOk result (lists.new ≡ grown_at lists.old client (item ∷ [])) }
 {
     let mut all = mem::replace(lists, Series::new(alloc)).into_vec();
     let list = &mut all[client];
-    list.push(ask)?;
+    list.push(item)?;
     *lists = Series::from_vec(all);
     Ok(())
 }

@@ -1,7 +1,7 @@
 use Rattle.std.proofs.Common.{◌≡◌, ℕ, ◌+◌, ◌-◌, ◌*◌, ◌^◌, ◌<◌, ◌≤◌, true, false, List, [], ◌∷◌, length, get_or, drop, suc, drop-cons, sym, ◌∙◌, ap, Some, None, fold, refl, arith}
 use Rattle.std.proofs.lemmas.List.{drop_all}
-use Rattle.trace_text.specs.Texts.{is_number, number_of, decimal_value}
-use Rattle.trace_text.specs.Reading.{IsNoneOrHuge}
+use Rattle.line_text.specs.Texts.{is_number, number_of, decimal_value}
+use Rattle.line_text.specs.Reading.{IsNoneOrHuge}
 
 -- what a digit makes of the number before it
 abbrev pub with_digit : ℕ → ℕ → ℕ

@@ -1,6 +1,6 @@
 use Rattle.std.proofs.Common.{sym, ◌∙◌}
-use Rattle.trace_text.proofs.Pieces.{parts_none, parts_some}
-use Rattle.trace_text.proofs.text.split_once.Goals as goal
+use Rattle.line_text.proofs.Pieces.{parts_none, parts_some}
+use Rattle.line_text.proofs.text.split_once.Goals as goal
 
 pub returns-in-Some-clause-parts : goal.returns-in-Some-clause-parts
 returns-in-Some-clause-parts c = rw c.split_at.ensures.back (parts_some _ _ _ (sym c.place_of.ensures ∙ c.in-Some.is))

@@ -3,23 +3,34 @@ ghost use Rattle.std.specs.Prelude.{◌≡◌, IfSome, IfNone, Some, nat_le, ◌
 ghost use Rattle.std.specs.Prelude.{◌&&◌};
 ghost use Rattle.std.specs.Option.{SomeIff};
 ghost use Rattle.std.specs.List.{list_all};
-ghost use Rattle.i2c_text.specs.Texts.{is_number, number_of, number_from};
-ghost use Rattle.i2c_text.specs.Reading.{IsNoneOrHuge};
+ghost use Rattle.line_text.specs.Texts.{is_number, number_of, number_from};
+ghost use Rattle.line_text.specs.Reading.{IsNoneOrFrom, IsNoneOrHuge};
 
-// The number that a word spells, where it is one of these.
-pub fn read_number(word: &[u8], least: u8, most: u8) -> Option<u8>
+/// The number that a word spells, where it is one of these.
+pub fn read_between(word: &[u8], least: u8, most: u8) -> Option<u8>
     ensures { result ≡ number_from least most word.now }
 {
-    let number = read_any(word)?;
+    let number = read_number(word)?;
     if number < u64::from(least) || number > u64::from(most) {
         return None;
     }
     Some(number as u8)
 }
 
-// The number that a word spells, where it is below 2 ^ 64.
+/// The number that a word spells, where it is below a limit.
+pub fn read_below(word: &[u8], limit: u64) -> Option<u64>
+    ensures some { IfSome result (λ n. (number_of word.now ≡ Some n) × (n < limit)) }
+    ensures none { IfNone result (IsNoneOrFrom limit (number_of word.now)) }
+{
+    match read_number(word) {
+        Some(number) if number < limit => Some(number),
+        _ => None,
+    }
+}
+
+/// The number that a word spells, where it is below 2 ^ 64.
 #[tactic(auto, using(crate::proofs::Numbers::no_number, crate::proofs::Numbers::number_of_some))]
-fn read_any(word: &[u8]) -> Option<u64>
+pub fn read_number(word: &[u8]) -> Option<u64>
     ensures some { IfSome result (λ n. number_of word.now ≡ Some n) }
     ensures none { IfNone result (IsNoneOrHuge (number_of word.now)) }
 {
