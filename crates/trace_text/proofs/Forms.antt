@@ -10,7 +10,7 @@ use Rattle.trace_text.specs.Limits.{frame_most}
 use Rattle.trace_text.specs.declared.reader.Reader.{Reader}
 use Rattle.line_text.specs.Texts.{number_of}
 use Rattle.line_text.proofs.Pieces.{not_equal}
-use Rattle.trace_text.specs.Texts.{data_of}
+use Rattle.line_text.specs.Data.{data_of}
 use Rattle.trace_text.specs.Events.{Event, net_clients, serial_clients, blk_clients, is_source, is_speaker, is_script, is_reach, bare_ask, order_code, rx_line, in_line, send_line, say_line, disk_line, bytes_line, blk_order_line, blk_read_line, blk_write_line}
 use Rattle.trace_text.specs.Reading.{after_line, is_refused, reader_with}
 use Rattle.trace_text.proofs.Judged.{Fails, judged_none, number_none, data_none, kept_none, kept_taken}

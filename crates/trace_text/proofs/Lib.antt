@@ -1,4 +1,3 @@
-pub mod Pieces
 pub mod NewReader
 pub mod Judged
 pub mod Forms

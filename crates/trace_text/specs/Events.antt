@@ -24,7 +24,7 @@ use Rattle.trace_text.specs.declared.class.Class.{Class}
 use Rattle.trace_text.specs.declared.class.Class.TheVariants as Of
 use Rattle.trace_text.specs.Limits.{frame_most}
 use Rattle.line_text.specs.Texts.{words_of, number_of, same_text, is_skipped}
-use Rattle.trace_text.specs.Texts.{data_of}
+use Rattle.line_text.specs.Data.{data_of}
 
 -- what a line says
 pub data Event : Type 0 where

@@ -99,18 +99,6 @@ abbrev pub IsRead : Reader → Reader → Bool → Option Event → Type 0
 IsRead old new good event = MatchBool good (after_line old event ≡ Some new)
     (after_line old event ≡ None)
 
--- DATA as it was read: its bytes, or none where it has none or more than so many
-abbrev pub IsData : Option (List ℕ) → ℕ → Option (List ℕ) → Type 0
-IsData «data» most None = (bytes : List ℕ) → «data» ≡ Some bytes → most < length bytes
-IsData «data» most (Some bytes) = («data» ≡ Some bytes) × (length bytes ≤ most)
-
--- a piece as it was read: its bytes were appended, or it has none or too many
-abbrev pub IsTaken : Option (List ℕ) → List ℕ → List ℕ → ℕ → Bool → Type 0
-IsTaken piece old new most good =
-    MatchBool good
-    ((bytes : List ℕ) × (piece ≡ Some bytes) × (new ≡ old ++ bytes) × (length new ≤ most))
-    ((bytes : List ℕ) → piece ≡ Some bytes → most < length old + length bytes)
-
 -- the reader has a list for each client of the plan
 pub record HasLists (plan : Plan) (r : Reader) : Type 0 where
   pub sends : length r.trace.sends ≡ length (net_clients plan)

@@ -7,12 +7,10 @@
 mod acts;
 mod class;
 mod clients;
-mod data;
 mod disk_lines;
 mod frame_lines;
 mod laws;
 mod line;
-mod lists;
 mod read;
 mod reader;
 mod request_lines;

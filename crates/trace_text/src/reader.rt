@@ -4,10 +4,9 @@ ghost use Rattle.std.specs.Prelude.{◌≡◌, ◌==◌, ◌&&◌, [], is_some, 
 ghost use Rattle.trace_text.specs.Reading.{reader_after};
 
 use crate::clients::{blk_client_count, net_client_count, serial_client_count};
-use crate::lists::{no_bytes, no_frames};
 use crate::trace::Trace;
 use cargo_core::{Bytes, FrameLog, Memory};
-use line_text::no_items;
+use line_text::{no_bytes, no_frames, no_items};
 use sdf_plan::Plan;
 use std::alloc::Global;
 

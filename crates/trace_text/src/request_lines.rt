@@ -5,10 +5,9 @@ ghost use Rattle.trace_text.specs.Events.{blk_write_line};
 ghost use Rattle.trace_text.specs.Reading.{IsRead, HasLists};
 
 use crate::clients::{blk_client_count, is_script};
-use crate::data::read_data;
 use crate::reader::{LINES, Reader};
 use cargo_core::{Ask, BLOCK_BYTES, Bytes, Code, Memory};
-use line_text::{add_item, read_below, same_text};
+use line_text::{add_item, read_below, read_data, same_text};
 use sdf_plan::Plan;
 use std::alloc::Global;
 

@@ -11,7 +11,7 @@ use Rattle.frame_core.specs.Frames.{is_frame_of, broadcast}
 use Rattle.sdf_plan.specs.declared.plan.Plan.{Plan}
 use Rattle.trace_text.specs.Limits.{frame_most}
 use Rattle.line_text.specs.Texts.{words_of, number_of, is_skipped}
-use Rattle.trace_text.specs.Texts.{piece_of, data_of}
+use Rattle.line_text.specs.Data.{piece_of, data_of}
 use Rattle.trace_text.specs.Events.{Event, meaning, is_source, is_speaker, is_script, is_reach, bare_ask, words_say, rx_line as rx_meaning, in_line as in_meaning, send_line as send_meaning, say_line as say_meaning, disk_line, bytes_line, blk_read_line, blk_write_line}
 use Rattle.trace_text.specs.Traces.{HasNoBadLine, trace_from}
 use Rattle.trace_text.specs.Reading.{reader_after}

@@ -10,8 +10,8 @@ use Rattle.hex.specs.declared.error.FromHexError.{FromHexError}
 use Rattle.hex.specs.Hex.{decode_of, decode_sized}
 use Rattle.hex.proofs.HexLemmas.{decode_of-ok, decode_sized-twice, decode_sized-ok}
 use Rattle.line_text.specs.Texts.{parts_of, number_of, digits_meaning}
-use Rattle.trace_text.specs.Texts.{repeated, piece_of, piece_meaning}
-use Rattle.trace_text.specs.Reading.{IsTaken}
+use Rattle.line_text.specs.Data.{repeated, piece_of, piece_meaning}
+use Rattle.line_text.specs.Reading.{IsTaken}
 use Rattle.line_text.proofs.Pieces.{parts_cons, result_ok-some, digits_length, written_ok, half_sized}
 
 and_both : (a b : Bool) → (a && b) ≡ true → (a ≡ true) × (b ≡ true)

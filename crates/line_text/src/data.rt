@@ -1,16 +1,17 @@
 //! DATA of a line: pieces of hexadecimal digits.
 ghost use Rattle.std.specs.Prelude.{◌≡◌, ◌≤◌, ◌==◌, ◌∷◌, length, IfOk, None, if◌then◌else◌};
 ghost use Rattle.line_text.specs.Texts.{digits_meaning, parts_of};
-ghost use Rattle.trace_text.specs.Texts.{data_of, piece_of, piece_meaning};
-ghost use Rattle.trace_text.specs.Texts.{repeated};
-ghost use Rattle.trace_text.specs.Reading.{IsData, IsTaken};
+ghost use Rattle.line_text.specs.Data.{data_of, piece_of, piece_meaning};
+ghost use Rattle.line_text.specs.Data.{repeated};
+ghost use Rattle.line_text.specs.Reading.{IsData, IsTaken};
 
+use crate::number::read_number;
+use crate::text::split_once;
 use cargo_core::{Bytes, Memory};
 use hex::FromHex;
-use line_text::{read_number, split_once};
 use std::alloc::Global;
 
-// The bytes that a word stands for; None where it stands for none, or for more than so many.
+/// The bytes that a word stands for; None where it stands for none, or for more than so many.
 pub fn read_data(alloc: Global, word: &[u8], most: usize) -> Result<Option<Bytes>, Memory>
     ensures { IfOk result (IsData (data_of word.now) most) }
 {

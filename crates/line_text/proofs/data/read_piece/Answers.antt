@@ -1,5 +1,5 @@
-use Rattle.trace_text.proofs.Pieces.{piece_of_digits, piece_of_repeated}
-use Rattle.trace_text.proofs.data.read_piece.Goals as goal
+use Rattle.line_text.proofs.DataPieces.{piece_of_digits, piece_of_repeated}
+use Rattle.line_text.proofs.data.read_piece.Goals as goal
 
 pub returns-in-None : goal.returns-in-None
 returns-in-None c = rw (piece_of_digits _ c.in-None.ensures.parts) c.read_digits.ensures

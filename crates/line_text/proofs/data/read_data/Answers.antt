@@ -1,8 +1,8 @@
 use Rattle.std.proofs.Common.{arith}
 use Rattle.line_text.specs.Texts.{parts_of}
-use Rattle.trace_text.specs.Texts.{all_pieces, data_of}
-use Rattle.trace_text.proofs.Pieces.{with_rest_none}
-use Rattle.trace_text.proofs.data.read_data.Goals as goal
+use Rattle.line_text.specs.Data.{all_pieces, data_of}
+use Rattle.line_text.proofs.DataPieces.{with_rest_none}
+use Rattle.line_text.proofs.data.read_data.Goals as goal
 
 pub loop-piece-init : goal.loop-piece-init
 unfolding data_of

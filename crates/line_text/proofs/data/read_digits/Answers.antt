@@ -1,6 +1,6 @@
 use Rattle.std.proofs.Common.{sym, ◌∙◌, arith, length}
-use Rattle.trace_text.proofs.Pieces.{digits_too_long, digits_taken, half_written}
-use Rattle.trace_text.proofs.data.read_digits.Goals as goal
+use Rattle.line_text.proofs.DataPieces.{digits_too_long, digits_taken, half_written}
+use Rattle.line_text.proofs.data.read_digits.Goals as goal
 
 pub returns-then-digits-most : goal.returns-then-digits-most
 returns-then-digits-most c = digits_too_long c.args.digits.now c.args.most (length c.args.into.now) (omega arith) c.requires

@@ -1,4 +1,4 @@
--- DATA; the other words of a line are those of every text.
+-- DATA: the bytes that a word stands for.
 use Rattle.std.specs.Prelude.{ℕ, ◌==◌, ◌&&◌, nat_le, if◌then◌else◌, List, [], ◌∷◌, ◌++◌, length}
 use Rattle.std.specs.Prelude.{slice_index, replicate, Option, Some, None}
 use Rattle.std.specs.Option.{option_map, option_and_then}
