@@ -9,8 +9,10 @@ use Rattle.i2c_text.specs.declared.bus.BusAsk.{BusAsk}
 use Rattle.i2c_text.specs.declared.line.Line.{Line}
 use Rattle.i2c_text.specs.declared.line.Line.TheVariants as Says
 use Rattle.i2c_text.specs.declared.reader.Reader.{Reader}
-use Rattle.i2c_text.specs.Buses.{clients_said, devices_said, asks_said, is_ask, is_said, clients_in, devices_in, per_client, bus_from, is_out_of_place, is_bad_after}
-use Rattle.i2c_text.specs.Reading.{grown_at, reader_after, is_refused, reader_with, IsTaken, IsRead, HasLists}
+use Rattle.line_text.specs.Lists.{per_client, grown_at}
+use Rattle.line_text.proofs.Rows.{per_client_same, per_client_grown, length_per_client}
+use Rattle.i2c_text.specs.Buses.{clients_said, devices_said, asks_said, is_ask, is_said, clients_in, devices_in, bus_from, is_out_of_place, is_bad_after}
+use Rattle.i2c_text.specs.Reading.{reader_after, is_refused, reader_with, IsTaken, IsRead, HasLists}
 
 -- one more line, and what it gives
 flat_more : {T : Type 0} (f : Line → List T) (lines : List Line) (e : Line) → flat_map f (lines ++ e ∷ []) ≡ flat_map f lines ++ f e
@@ -24,24 +26,6 @@ sum_more f lines e = sum_by-append f lines (e ∷ []) ∙ ap (λ k. sum_by f lin
 
 sum_same : (f : Line → ℕ) (lines : List Line) (e : Line) → f e ≡ 0 → sum_by f (lines ++ e ∷ []) ≡ sum_by f lines
 sum_same f lines e none = sum_more f lines e ∙ ap (λ k. sum_by f lines + k) none ∙ add-zero (sum_by f lines)
-
--- the lists of clients that differ in none
-per_client_same : {T : Type 0} (n : ℕ) (f g : ℕ → T) → ((k : ℕ) → f k ≡ g k) → per_client n f ≡ per_client n g
-per_client_same zero f g h = refl
-per_client_same (suc n) f g h = rw (h 0, per_client_same n (λ k. f (suc k)) (λ k. g (suc k)) (λ k. h (suc k))) refl
-
--- the lists of clients of which one has more
-per_client_grown : {T : Type 0} (n c : ℕ) (more : List T) (f g : ℕ → List T) → ((k : ℕ) → c ≡ k → g k ≡ f k ++ more) → ((k : ℕ) → (c ≡ k → ⊥) → g k ≡ f k)
-    → grown_at (per_client n f) c more ≡ per_client n g
-per_client_grown zero c more f g here other = refl
-per_client_grown (suc n) zero more f g here other =
-    rw (sym (here 0 refl), per_client_same n (λ k. f (suc k)) (λ k. g (suc k)) (λ k. sym (other (suc k) (λ is. absurd (omega arith))))) refl
-per_client_grown (suc n) (suc c) more f g here other =
-    rw (sym (other 0 (λ is. absurd (omega arith))), per_client_grown n c more (λ k. f (suc k)) (λ k. g (suc k)) (λ k is. here (suc k) (ap suc is)) (λ k not. other (suc k) (λ is. not (omega arith)))) refl
-
-length_per_client : {T : Type 0} (n : ℕ) (f : ℕ → T) → length (per_client n f) ≡ n
-length_per_client zero f = refl
-length_per_client (suc n) f = ap suc (length_per_client n (λ k. f (suc k)))
 
 pub has_lists : (lines : List Line) → HasLists (reader_after lines)
 unfolding bus_from

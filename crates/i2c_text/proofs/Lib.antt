@@ -1,5 +1,3 @@
-pub mod Rows
-pub mod Numbers
 pub mod Pieces
 pub mod Words
 pub mod Grown

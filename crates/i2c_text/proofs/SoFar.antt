@@ -6,12 +6,12 @@ use Rattle.std.proofs.lemmas.Option.{slice_get_past, slice_get_within}
 use Rattle.std.proofs.lemmas.List.Elements.{filter_map-append}
 use Rattle.i2c_text.specs.declared.line.Line.{Line}
 use Rattle.i2c_text.specs.declared.reader.Reader.{Reader}
-use Rattle.i2c_text.specs.Texts.{lines_of}
+use Rattle.line_text.specs.Texts.{lines_of}
 use Rattle.i2c_text.specs.Lines.{meaning}
 use Rattle.i2c_text.specs.Buses.{clients_in, lines_before, is_bad, is_bad_after, bus_from, bus_of, HasNoBadLine, IsLeastBadLine}
 use Rattle.i2c_text.specs.Reading.{reader_after, IsRead, HasLists}
 use Rattle.i2c_text.proofs.Grown.{has_lists, taken_after, bad_after}
-use Rattle.i2c_text.proofs.Words.{lines_none}
+use Rattle.line_text.proofs.Pieces.{lines_none}
 
 -- the lines before the rest were read, none of them bad
 pub record IsSoFar (text rest : List ℕ) (number : ℕ) (reader : Reader) : Type 0 where

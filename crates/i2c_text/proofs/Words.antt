@@ -4,9 +4,10 @@ use Rattle.std.proofs.lemmas.Bool.{eqb-true, cases_Bool}
 use Rattle.i2c_text.specs.declared.bus.BusAsk.TheVariants as Asks
 use Rattle.i2c_text.specs.declared.line.Line.{Line}
 use Rattle.i2c_text.specs.declared.line.Line.TheVariants as Says
-use Rattle.i2c_text.specs.Texts.{parts_of, words_of, lines_of, same_text, is_skipped, number_from, bytes_of}
+use Rattle.line_text.specs.Texts.{parts_of, words_of, lines_of, same_text, is_skipped, number_from}
+use Rattle.i2c_text.specs.Texts.{bytes_of}
 use Rattle.i2c_text.specs.Lines.{words_say, meaning, read_said, write_said, client_of, address_of}
-use Rattle.i2c_text.proofs.Pieces.{parts_cons}
+use Rattle.line_text.proofs.Pieces.{parts_cons}
 
 pub meaning_skipped : (line : List ℕ) → is_skipped line ≡ true → meaning line ≡ Some Says.Skipped
 unfolding meaning
@@ -85,24 +86,3 @@ pub too_many : (name a b x text : List ℕ) → words_say (name ∷ a ∷ b ∷ 
 too_many name a b x text =
     let more = parts_cons (λ x. eqb x 32) text in
     rw more.2 (five_words name a b x more.0 more.1)
-
--- the first line, and the lines after it
-pub lines_more : (text line rest : List ℕ) → parts_of 10 text ≡ line ∷ parts_of 10 rest → lines_of text ≡ line ∷ lines_of rest
-unfolding lines_of
-lines_more text line rest h =
-    let more = parts_cons (λ x. eqb x 10) rest in
-    rw (h, more.2) refl
-
-not_equal : (a b : ℕ) → (a ≡ b → ⊥) → eqb a b ≡ false
-not_equal a b h = elim (cases_Bool (eqb a b)) [
-  | inl is ↦ absurd (h (eqb-true a b is))
-  | inr isnt ↦ isnt
-]
-
-pub lines_last : (text : List ℕ) → parts_of 10 text ≡ text ∷ [] → (length text ≡ 0 → ⊥) → lines_of text ≡ text ∷ lines_of []
-unfolding lines_of
-lines_last text h some = rw (h, not_equal (length text) 0 some) refl
-
-pub lines_none : lines_of [] ≡ []
-unfolding lines_of
-lines_none = refl

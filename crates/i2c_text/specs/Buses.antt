@@ -7,7 +7,8 @@ use Rattle.i2c_text.specs.declared.bus.Bus.{Bus}
 use Rattle.i2c_text.specs.declared.bus.BusAsk.{BusAsk}
 use Rattle.i2c_text.specs.declared.line.Line.{Line}
 use Rattle.i2c_text.specs.declared.line.Line.TheVariants as Says
-use Rattle.i2c_text.specs.Texts.{lines_of}
+use Rattle.line_text.specs.Texts.{lines_of}
+use Rattle.line_text.specs.Lists.{per_client}
 use Rattle.i2c_text.specs.Lines.{meaning}
 
 -- how many requests there may be
@@ -46,11 +47,6 @@ clients_in lines = sum_by clients_said lines
 -- the addresses of the devices
 abbrev pub devices_in : List Line → List ℕ
 devices_in lines = flat_map devices_said lines
-
--- one value for each of so many clients
-abbrev pub per_client : {T : Type 0} → ℕ → (ℕ → T) → List T
-per_client zero value = []
-per_client (suc n) value = value 0 ∷ per_client n (λ c. value (suc c))
 
 -- the bus that lines give
 unfoldable pub bus_from : List Line → Bus

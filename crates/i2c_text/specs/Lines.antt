@@ -5,7 +5,8 @@ use Rattle.i2c_text.specs.declared.bus.BusAsk.{BusAsk}
 use Rattle.i2c_text.specs.declared.bus.BusAsk.TheVariants as Asks
 use Rattle.i2c_text.specs.declared.line.Line.{Line}
 use Rattle.i2c_text.specs.declared.line.Line.TheVariants as Says
-use Rattle.i2c_text.specs.Texts.{words_of, same_text, is_skipped, number_from, bytes_of}
+use Rattle.line_text.specs.Texts.{words_of, same_text, is_skipped, number_from}
+use Rattle.i2c_text.specs.Texts.{bytes_of}
 
 -- the number of a client that a word spells: there are at most 8
 abbrev pub client_of : List ℕ → Option ℕ

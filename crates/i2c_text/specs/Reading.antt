@@ -6,17 +6,8 @@ use Rattle.std.specs.List.{list_any}
 use Rattle.i2c_text.specs.declared.line.Line.{Line}
 use Rattle.i2c_text.specs.declared.line.Line.TheVariants as Says
 use Rattle.i2c_text.specs.declared.reader.Reader.{Reader}
-use Rattle.i2c_text.specs.Buses.{bus_from, is_said, is_ask, per_client, asks_most}
-
--- a number that no line can use: it isn't there, or is 2 ^ 64 or more
-abbrev pub IsNoneOrHuge : Option ℕ → Type 0
-IsNoneOrHuge number = (n : ℕ) → number ≡ Some n → 2 ^ 64 ≤ n
-
--- the lists, with more at the end of the one of a number
-abbrev pub grown_at : {T : Type 0} → List (List T) → ℕ → List T → List (List T)
-grown_at [] c more = []
-grown_at (l ∷ rest) zero more = (l ++ more) ∷ rest
-grown_at (l ∷ rest) (suc c) more = l ∷ grown_at rest c more
+use Rattle.line_text.specs.Lists.{per_client, grown_at}
+use Rattle.i2c_text.specs.Buses.{bus_from, is_said, is_ask, asks_most}
 
 -- what the reader keeps after these lines
 abbrev pub reader_after : List Line → Reader

@@ -5,12 +5,9 @@
 mod bus;
 mod hexadecimal;
 mod line;
-mod lists;
-mod number;
 mod read;
 mod reader;
 mod report;
-mod text;
 
 pub use bus::{Bus, BusAsk};
 pub use read::{BusFault, read_bus};

@@ -1,13 +1,12 @@
 //! A line of the text: its words, and what they say.
 ghost use Rattle.std.specs.Prelude.{◌≡◌, [], ◌∷◌, IfOk};
 ghost use Rattle.i2c_text.specs.Lines.{words_say, meaning, read_said, write_said};
-ghost use Rattle.i2c_text.specs.Texts.{words_of};
+ghost use Rattle.line_text.specs.Texts.{words_of};
 
 use crate::bus::BusAsk;
 use crate::hexadecimal::{BYTES, read_bytes};
-use crate::number::read_number;
-use crate::text::{is_skipped, same_text, split_once};
 use cargo_core::Memory;
+use line_text::{is_skipped, read_between, same_text, split_once};
 use std::alloc::Global;
 
 /// The most clients.
@@ -82,11 +81,11 @@ fn read_two(name: &[u8], word: &[u8]) -> Option<Line>
     ensures { result ≡ words_say (name.now ∷ word.now ∷ []) }
 {
     if same_text(name, "clients") {
-        let count = read_number(word, 1, CLIENTS)?;
+        let count = read_between(word, 1, CLIENTS)?;
         return Some(Line::Clients(count));
     }
     if same_text(name, "device") {
-        let address = read_number(word, LEAST, GREATEST)?;
+        let address = read_between(word, LEAST, GREATEST)?;
         return Some(Line::Device(address));
     }
     None
@@ -99,8 +98,8 @@ fn read_three(name: &[u8], client: &[u8], address: &[u8]) -> Option<Line>
     if !same_text(name, "claim") {
         return None;
     }
-    let client = read_number(client, 0, LAST_CLIENT)?;
-    let address = read_number(address, LEAST, GREATEST)?;
+    let client = read_between(client, 0, LAST_CLIENT)?;
+    let address = read_between(address, LEAST, GREATEST)?;
     Some(Line::Ask(client, BusAsk::Claim(address)))
 }
 
@@ -128,9 +127,9 @@ fn read_four(
 fn read_read(client: &[u8], address: &[u8], word: &[u8]) -> Option<Line>
     ensures { result ≡ read_said client.now address.now word.now }
 {
-    let client = read_number(client, 0, LAST_CLIENT)?;
-    let address = read_number(address, LEAST, GREATEST)?;
-    let count = read_number(word, 1, BYTES)?;
+    let client = read_between(client, 0, LAST_CLIENT)?;
+    let address = read_between(address, LEAST, GREATEST)?;
+    let count = read_between(word, 1, BYTES)?;
     Some(Line::Ask(client, BusAsk::Read(address, count)))
 }
 
@@ -143,11 +142,11 @@ fn read_write(
 ) -> Result<Option<Line>, Memory>
     ensures { IfOk result (λ said. said ≡ write_said client.now address.now word.now) }
 {
-    let client = match read_number(client, 0, LAST_CLIENT) {
+    let client = match read_between(client, 0, LAST_CLIENT) {
         Some(client) => client,
         None => return Ok(None),
     };
-    let address = match read_number(address, LEAST, GREATEST) {
+    let address = match read_between(address, LEAST, GREATEST) {
         Some(address) => address,
         None => return Ok(None),
     };

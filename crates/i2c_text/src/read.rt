@@ -4,8 +4,8 @@ ghost use Rattle.i2c_text.specs.Buses.{HasNoBadLine, IsLeastBadLine, bus_of};
 
 use crate::bus::Bus;
 use crate::reader::Reader;
-use crate::text::next_line;
 use cargo_core::Memory;
+use line_text::next_line;
 use std::alloc::Global;
 
 /// What the reader of buses answers in place of a bus.

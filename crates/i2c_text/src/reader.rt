@@ -6,8 +6,8 @@ ghost use Rattle.i2c_text.specs.Lines.{meaning};
 
 use crate::bus::{Bus, BusAsk};
 use crate::line::{Line, read_line};
-use crate::lists::{add_ask, no_asks};
 use cargo_core::{Bytes, Memory, Series};
+use line_text::{add_item, no_items};
 use std::alloc::Global;
 
 /// The most requests of all clients.
@@ -59,7 +59,7 @@ impl Reader {
         if self.begun {
             return Ok(false);
         }
-        self.bus.asks = no_asks(alloc, usize::from(count))?;
+        self.bus.asks = no_items(alloc, usize::from(count))?;
         self.bus.clients = u32::from(count);
         self.begun = true;
         Ok(true)
@@ -88,7 +88,7 @@ impl Reader {
         if self.asked >= ASKS {
             return Ok(false);
         }
-        add_ask(alloc, &mut self.bus.asks, usize::from(client), ask)?;
+        add_item(alloc, &mut self.bus.asks, usize::from(client), ask)?;
         self.begun = true;
         self.asked += 1;
         Ok(true)

@@ -7,12 +7,12 @@ use Rattle.sdf_plan.specs.declared.plan.Plan.{Plan}
 use Rattle.trace_text.specs.declared.class.Class.{Class}
 use Rattle.trace_text.specs.declared.class.Class.TheVariants as Of
 use Rattle.trace_text.specs.declared.reader.Reader.{Reader}
-use Rattle.trace_text.specs.Texts.{number_of, words_of}
-use Rattle.trace_text.specs.Events.{Event, same_text, number_where, is_input, is_output, is_queue, is_place, is_value, word_named, class_of, take_said, put_said, give_said, store_said, act_said, net_clients, serial_clients, blk_clients, is_net_rogue, is_serial_rogue, is_blk_rogue, is_rogue, rogue_line}
+use Rattle.line_text.specs.Texts.{number_of, words_of, same_text}
+use Rattle.trace_text.specs.Events.{Event, number_where, is_input, is_output, is_queue, is_place, is_value, word_named, class_of, take_said, put_said, give_said, store_said, act_said, net_clients, serial_clients, blk_clients, is_net_rogue, is_serial_rogue, is_blk_rogue, is_rogue, rogue_line}
 use Rattle.trace_text.specs.Reading.{HasLists, clients_in, after_line, is_refused, reader_with}
 use Rattle.trace_text.specs.Traces.{acts_in_class}
 use Rattle.trace_text.proofs.Judged.{Fails, judged_none, number_none, kept_none, kept_taken}
-use Rattle.trace_text.proofs.Pieces.{parts_cons}
+use Rattle.line_text.proofs.Pieces.{parts_cons}
 
 -- four words or more aren't three
 pub four_words : (text rest third last a b d : List ℕ) → words_of text ≡ a ∷ words_of rest → words_of rest ≡ b ∷ words_of third → words_of third ≡ d ∷ words_of last

@@ -8,7 +8,9 @@ use Rattle.sdf_plan.specs.declared.plan.Plan.{Plan}
 use Rattle.frame_core.specs.Frames.{is_frame_of}
 use Rattle.trace_text.specs.Limits.{frame_most}
 use Rattle.trace_text.specs.declared.reader.Reader.{Reader}
-use Rattle.trace_text.specs.Texts.{number_of, data_of}
+use Rattle.line_text.specs.Texts.{number_of}
+use Rattle.line_text.proofs.Pieces.{not_equal}
+use Rattle.line_text.specs.Data.{data_of}
 use Rattle.trace_text.specs.Events.{Event, net_clients, serial_clients, blk_clients, is_source, is_speaker, is_script, is_reach, bare_ask, order_code, rx_line, in_line, send_line, say_line, disk_line, bytes_line, blk_order_line, blk_read_line, blk_write_line}
 use Rattle.trace_text.specs.Reading.{after_line, is_refused, reader_with}
 use Rattle.trace_text.proofs.Judged.{Fails, judged_none, number_none, data_none, kept_none, kept_taken}
@@ -154,12 +156,6 @@ pub too_long_frame : (most : ℕ) (frame : List ℕ) → most < length frame →
 too_long_frame most frame long = elim (cases_Bool (leb 14 (length frame))) [
   | inl is ↦ rw (is, lt-leb (length frame) most long) refl
   | inr isnt ↦ rw isnt refl
-]
-
-pub not_equal : (a b : ℕ) → (a ≡ b → ⊥) → eqb a b ≡ false
-not_equal a b h = elim (cases_Bool (eqb a b)) [
-  | inl is ↦ absurd (h (eqb-true a b is))
-  | inr isnt ↦ isnt
 ]
 
 pub patch_without_disk : (r : Reader) (at : ℕ) (bytes : List ℕ) → r.disk_lines ≡ 0 → is_refused r (Event.Patch at bytes) ≡ true

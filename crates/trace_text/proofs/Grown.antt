@@ -10,8 +10,10 @@ use Rattle.sdf_plan.specs.declared.plan.Plan.{Plan}
 use Rattle.trace_text.specs.declared.class.Class.TheVariants as Of
 use Rattle.trace_text.specs.declared.reader.Reader.{Reader}
 use Rattle.trace_text.specs.Events.{Event, net_clients, serial_clients, blk_clients}
-use Rattle.trace_text.specs.Traces.{per_client, frames_in, input_in, sends_in, says_in, asks_in, acts_in, image_after, image_of, trace_from, is_frame_line, is_request_line, is_rogue_line, is_disk_line, stream_bytes_in, is_out_of_place, is_bad_after}
-use Rattle.trace_text.specs.Reading.{grown_at, reader_after, is_refused, reader_with, after_line, HasLists}
+use Rattle.line_text.specs.Lists.{per_client, grown_at}
+use Rattle.line_text.proofs.Rows.{per_client_same, per_client_grown, length_per_client}
+use Rattle.trace_text.specs.Traces.{frames_in, input_in, sends_in, says_in, asks_in, acts_in, image_after, image_of, trace_from, is_frame_line, is_request_line, is_rogue_line, is_disk_line, stream_bytes_in, is_out_of_place, is_bad_after}
+use Rattle.trace_text.specs.Reading.{reader_after, is_refused, reader_with, after_line, HasLists}
 
 -- one more event, and what it gives
 pub flat_more : {T : Type 0} (f : Event → List T) (events : List Event) (e : Event) → flat_map f (events ++ e ∷ []) ≡ flat_map f events ++ f e
@@ -25,24 +27,6 @@ sum_more f events e = sum_by-append f events (e ∷ []) ∙ ap (λ k. sum_by f e
 
 pub image_more : (events : List Event) (e : Event) → image_of (events ++ e ∷ []) ≡ image_after (image_of events) e
 image_more events e = fold-append image_after [] events (e ∷ [])
-
--- the lists of clients that differ in none
-pub per_client_same : {T : Type 0} (n : ℕ) (f g : ℕ → T) → ((k : ℕ) → f k ≡ g k) → per_client n f ≡ per_client n g
-per_client_same zero f g h = refl
-per_client_same (suc n) f g h = rw (h 0, per_client_same n (λ k. f (suc k)) (λ k. g (suc k)) (λ k. h (suc k))) refl
-
--- the lists of clients of which one has more
-pub per_client_grown : {T : Type 0} (n c : ℕ) (more : List T) (f g : ℕ → List T) → ((k : ℕ) → c ≡ k → g k ≡ f k ++ more) → ((k : ℕ) → (c ≡ k → ⊥) → g k ≡ f k)
-    → grown_at (per_client n f) c more ≡ per_client n g
-per_client_grown zero c more f g here other = refl
-per_client_grown (suc n) zero more f g here other =
-    rw (sym (here 0 refl), per_client_same n (λ k. f (suc k)) (λ k. g (suc k)) (λ k. sym (other (suc k) (λ is. absurd (omega arith))))) refl
-per_client_grown (suc n) (suc c) more f g here other =
-    rw (sym (other 0 (λ is. absurd (omega arith))), per_client_grown n c more (λ k. f (suc k)) (λ k. g (suc k)) (λ k is. here (suc k) (ap suc is)) (λ k not. other (suc k) (λ is. not (omega arith)))) refl
-
-pub length_per_client : {T : Type 0} (n : ℕ) (f : ℕ → T) → length (per_client n f) ≡ n
-length_per_client zero f = refl
-length_per_client (suc n) f = ap suc (length_per_client n (λ k. f (suc k)))
 
 pub has_lists : (plan : Plan) (events : List Event) → HasLists plan (reader_after plan events)
 unfolding trace_from

@@ -1,7 +1,8 @@
 use Rattle.std.proofs.Common.{◌≡◌, ℕ, ◌⊎◌, inl, inr, Bool, true, false, ◌&&◌, List, Option, Some, None, refl}
 use Rattle.std.specs.Option.{option_and_then}
 use Rattle.trace_text.specs.declared.reader.Reader.{Reader}
-use Rattle.trace_text.specs.Texts.{number_of, data_of}
+use Rattle.line_text.specs.Texts.{number_of}
+use Rattle.line_text.specs.Data.{data_of}
 use Rattle.trace_text.specs.Events.{Event, kept_if, with_number, with_data}
 use Rattle.trace_text.specs.Reading.{after_line, is_refused, reader_with}
 

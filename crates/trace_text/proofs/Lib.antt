@@ -1,6 +1,3 @@
-pub mod Rows
-pub mod Numbers
-pub mod Pieces
 pub mod NewReader
 pub mod Judged
 pub mod Forms

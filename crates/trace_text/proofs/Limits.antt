@@ -10,10 +10,12 @@ use Rattle.sdf_plan.specs.declared.plan.Plan.{Plan}
 use Rattle.trace_text.specs.declared.class.Class.{Class}
 use Rattle.trace_text.specs.declared.class.Class.TheVariants as Of
 use Rattle.trace_text.specs.declared.trace.Trace.{Trace}
-use Rattle.trace_text.specs.Texts.{lines_of}
+use Rattle.line_text.specs.Texts.{lines_of}
+use Rattle.line_text.specs.Lists.{per_client}
 use Rattle.trace_text.specs.Events.{Event, meaning, net_clients, serial_clients, blk_clients}
-use Rattle.trace_text.specs.Traces.{per_client, frames_in, input_in, sends_in, says_in, asks_in, acts_in, trace_from, trace_of, is_frame_line, is_request_line, is_rogue_line, stream_bytes_in, is_out_of_place, is_bad_after, events_before, HasNoBadLine, IsReadFor, KeepsLimits}
-use Rattle.trace_text.proofs.Grown.{sum_more, length_per_client, per_client_same, choice_here, choice_other}
+use Rattle.trace_text.specs.Traces.{frames_in, input_in, sends_in, says_in, asks_in, acts_in, trace_from, trace_of, is_frame_line, is_request_line, is_rogue_line, stream_bytes_in, is_out_of_place, is_bad_after, events_before, HasNoBadLine, IsReadFor, KeepsLimits}
+use Rattle.line_text.proofs.Rows.{length_per_client, per_client_same}
+use Rattle.trace_text.proofs.Grown.{sum_more, choice_here, choice_other}
 use Rattle.trace_text.proofs.SoFar.{events_more, bad_line, no_events}
 
 -- what counts towards the limits is within them

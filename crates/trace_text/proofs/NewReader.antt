@@ -3,7 +3,8 @@ use Rattle.cargo_core.specs.declared.act.Act.{Act}
 use Rattle.cargo_core.specs.declared.item.Ask.{Ask}
 use Rattle.sdf_plan.specs.declared.plan.Plan.{Plan}
 use Rattle.trace_text.specs.Events.{net_clients, serial_clients, blk_clients}
-use Rattle.trace_text.specs.Traces.{trace_from, per_client}
+use Rattle.line_text.specs.Lists.{per_client}
+use Rattle.trace_text.specs.Traces.{trace_from}
 use Rattle.trace_text.specs.Reading.{reader_after}
 
 -- the reader before the first line

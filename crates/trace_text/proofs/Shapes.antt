@@ -17,9 +17,11 @@ use Rattle.sdf_plan.specs.declared.plan.Blk.{Blk}
 use Rattle.trace_text.specs.declared.class.Class.{Class}
 use Rattle.trace_text.specs.declared.class.Class.TheVariants as Of
 use Rattle.trace_text.specs.declared.trace.Trace.{Trace}
-use Rattle.trace_text.specs.Texts.{lines_of, words_of, number_of, data_of}
-use Rattle.trace_text.specs.Events.{Event, same_text, kept_if, is_source, is_script, is_reach, bare_ask, rx_line, in_line, send_line, say_line, disk_line, bytes_line, blk_order_line, blk_read_line, blk_write_line, blk_line, class_of, number_where, inputs_of, is_input, is_output, is_queue, is_place, is_value, word_named, take_said, put_said, give_said, store_said, act_said, is_rogue, rogue_line, words_say, is_skipped, meaning, net_clients, serial_clients, blk_clients}
-use Rattle.trace_text.specs.Traces.{per_client, frames_in, sends_in, asks_in, acts_in, is_same_class, image_after, image_of, trace_from, trace_of, is_disk_line, is_out_of_place, is_bad_after, events_before, HasNoBadLine, IsReadFor}
+use Rattle.line_text.specs.Texts.{lines_of, words_of, number_of, same_text, is_skipped}
+use Rattle.line_text.specs.Lists.{per_client}
+use Rattle.line_text.specs.Data.{data_of}
+use Rattle.trace_text.specs.Events.{Event, kept_if, is_source, is_script, is_reach, bare_ask, rx_line, in_line, send_line, say_line, disk_line, bytes_line, blk_order_line, blk_read_line, blk_write_line, blk_line, class_of, number_where, inputs_of, is_input, is_output, is_queue, is_place, is_value, word_named, take_said, put_said, give_said, store_said, act_said, is_rogue, rogue_line, words_say, meaning, net_clients, serial_clients, blk_clients}
+use Rattle.trace_text.specs.Traces.{frames_in, sends_in, asks_in, acts_in, is_same_class, image_after, image_of, trace_from, trace_of, is_disk_line, is_out_of_place, is_bad_after, events_before, HasNoBadLine, IsReadFor}
 use Rattle.trace_text.specs.Shapes.{IsFrame, IsDisk, IsAsk, IsActOn, HasShapes}
 use Rattle.trace_text.proofs.Forms.{equal_length}
 use Rattle.trace_text.proofs.Grown.{sum_more, image_more}

@@ -6,14 +6,14 @@ use Rattle.std.proofs.lemmas.Option.{slice_get_past, slice_get_within}
 use Rattle.std.proofs.lemmas.List.Elements.{filter_map-append}
 use Rattle.sdf_plan.specs.declared.plan.Plan.{Plan}
 use Rattle.trace_text.specs.declared.reader.Reader.{Reader}
-use Rattle.trace_text.specs.Texts.{lines_of}
+use Rattle.line_text.specs.Texts.{lines_of}
 use Rattle.trace_text.specs.Events.{Event, meaning}
 use Rattle.trace_text.specs.Traces.{events_before, is_bad, is_bad_after, is_disk_line, trace_from, trace_of, HasNoBadLine, IsLeastBadLine}
 use Rattle.trace_text.specs.Reading.{reader_after, after_line, HasLists}
 use Rattle.trace_text.proofs.Judged.{and_left}
 use Rattle.trace_text.proofs.Forms.{equal_length}
 use Rattle.trace_text.proofs.Grown.{has_lists, taken_after, bad_after}
-use Rattle.trace_text.proofs.Words.{lines_none}
+use Rattle.line_text.proofs.Pieces.{lines_none}
 
 -- the lines before the rest were read, none of them bad
 pub record IsSoFar (plan : Plan) (text rest : List ℕ) (number : ℕ) (reader : Reader) : Type 0 where

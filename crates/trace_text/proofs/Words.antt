@@ -1,9 +1,8 @@
 use Rattle.std.proofs.Common.{◌≡◌, ℕ, true, false, eqb, List, [], ◌∷◌, length, Some, None, codes, refl, ◌∙◌}
 use Rattle.sdf_plan.specs.declared.plan.Plan.{Plan}
-use Rattle.trace_text.specs.Texts.{parts_of, words_of, lines_of}
-use Rattle.trace_text.specs.Events.{Event, same_text, words_say, meaning, is_skipped, rx_line, in_line, send_line, say_line, disk_line, bytes_line, blk_order_line, blk_read_line, blk_write_line, blk_line, rogue_line}
-use Rattle.trace_text.proofs.Pieces.{parts_cons}
-use Rattle.trace_text.proofs.Forms.{not_equal}
+use Rattle.line_text.specs.Texts.{parts_of, words_of, lines_of, same_text, is_skipped}
+use Rattle.trace_text.specs.Events.{Event, words_say, meaning, rx_line, in_line, send_line, say_line, disk_line, bytes_line, blk_order_line, blk_read_line, blk_write_line, blk_line, rogue_line}
+use Rattle.line_text.proofs.Pieces.{parts_cons}
 
 pub meaning_skipped : (plan : Plan) (line : List ℕ) → is_skipped line ≡ true → meaning plan line ≡ Some Event.Skipped
 unfolding meaning
@@ -118,18 +117,3 @@ pub blk_not_write : (plan : Plan) (a b c d text : List ℕ) → same_text b (cod
 blk_not_write plan a b c d text h =
     let more = parts_cons (λ x. eqb x 32) text in
     rw more.2 (six_other plan a b c d more.0 more.1 h)
-
--- the first line, and the lines after it
-pub lines_more : (text line rest : List ℕ) → parts_of 10 text ≡ line ∷ parts_of 10 rest → lines_of text ≡ line ∷ lines_of rest
-unfolding lines_of
-lines_more text line rest h =
-    let more = parts_cons (λ x. eqb x 10) rest in
-    rw (h, more.2) refl
-
-pub lines_last : (text : List ℕ) → parts_of 10 text ≡ text ∷ [] → (length text ≡ 0 → ⊥) → lines_of text ≡ text ∷ lines_of []
-unfolding lines_of
-lines_last text h some = rw (h, not_equal (length text) 0 some) refl
-
-pub lines_none : lines_of [] ≡ []
-unfolding lines_of
-lines_none = refl

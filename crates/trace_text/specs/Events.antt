@@ -23,7 +23,8 @@ use Rattle.frame_core.specs.Frames.{is_frame_of}
 use Rattle.trace_text.specs.declared.class.Class.{Class}
 use Rattle.trace_text.specs.declared.class.Class.TheVariants as Of
 use Rattle.trace_text.specs.Limits.{frame_most}
-use Rattle.trace_text.specs.Texts.{words_of, number_of, data_of}
+use Rattle.line_text.specs.Texts.{words_of, number_of, same_text, is_skipped}
+use Rattle.line_text.specs.Data.{data_of}
 
 -- what a line says
 pub data Event : Type 0 where
@@ -45,10 +46,6 @@ pub data Event : Type 0 where
   Request : ℕ → Ask → Event
   -- the next act of a hostile client of a class
   Rogue : Class → ℕ → Act → Event
-
--- whether two texts are the same
-abbrev pub same_text : List ℕ → List ℕ → Bool
-same_text a b = pointwise nat_eq a b
 
 -- whether the first domain of a name runs a program
 abbrev pub runs : List Domain → List ℕ → List ℕ → Bool
@@ -315,10 +312,6 @@ words_say plan (name ∷ a ∷ b ∷ c ∷ more) =
     else if same_text name (codes "rogue") then rogue_line plan a b (c ∷ more)
     else None
 words_say plan _ = None
-
--- whether a line is skipped: it is empty, or begins with `#`
-abbrev pub is_skipped : List ℕ → Bool
-is_skipped line = if length line == 0 then true else slice_index line 0 == 35
 
 -- what a line says: none where it is bad by itself
 unfoldable pub meaning : Plan → List ℕ → Option Event

@@ -6,6 +6,7 @@ use Rattle.cargo_core.specs.Blocks.{sector_bytes}
 use Rattle.cargo_core.specs.Lists.{replaced}
 use Rattle.cargo_core.specs.declared.act.Act.{Act}
 use Rattle.sdf_plan.specs.declared.plan.Plan.{Plan}
+use Rattle.line_text.specs.Lists.{grown_at}
 use Rattle.trace_text.specs.declared.class.Class.{Class}
 use Rattle.trace_text.specs.declared.class.Class.TheVariants as Of
 use Rattle.trace_text.specs.declared.reader.Reader.{Reader}
@@ -20,12 +21,6 @@ abbrev pub clients_in : Plan → Class → ℕ
 clients_in plan Of.Net = length (net_clients plan)
 clients_in plan Of.Serial = length (serial_clients plan)
 clients_in plan Of.Blk = length (blk_clients plan)
-
--- the lists, with more at the end of the one of a number
-abbrev pub grown_at : {T : Type 0} → List (List T) → ℕ → List T → List (List T)
-grown_at [] c more = []
-grown_at (l ∷ rest) zero more = (l ++ more) ∷ rest
-grown_at (l ∷ rest) (suc c) more = l ∷ grown_at rest c more
 
 -- what the reader keeps after the lines that said these events
 abbrev pub reader_after : Plan → List Event → Reader
@@ -103,26 +98,6 @@ after_line r (Some event) = if is_refused r event then None else Some (reader_wi
 abbrev pub IsRead : Reader → Reader → Bool → Option Event → Type 0
 IsRead old new good event = MatchBool good (after_line old event ≡ Some new)
     (after_line old event ≡ None)
-
--- a number that no line can use: it isn't there, or is 2 ^ 64 or more
-abbrev pub IsNoneOrHuge : Option ℕ → Type 0
-IsNoneOrHuge number = (n : ℕ) → number ≡ Some n → 2 ^ 64 ≤ n
-
--- DATA as it was read: its bytes, or none where it has none or more than so many
-abbrev pub IsData : Option (List ℕ) → ℕ → Option (List ℕ) → Type 0
-IsData «data» most None = (bytes : List ℕ) → «data» ≡ Some bytes → most < length bytes
-IsData «data» most (Some bytes) = («data» ≡ Some bytes) × (length bytes ≤ most)
-
--- a piece as it was read: its bytes were appended, or it has none or too many
-abbrev pub IsTaken : Option (List ℕ) → List ℕ → List ℕ → ℕ → Bool → Type 0
-IsTaken piece old new most good =
-    MatchBool good
-    ((bytes : List ℕ) × (piece ≡ Some bytes) × (new ≡ old ++ bytes) × (length new ≤ most))
-    ((bytes : List ℕ) → piece ≡ Some bytes → most < length old + length bytes)
-
--- a number that isn't there, or isn't below a limit
-abbrev pub IsNoneOrFrom : ℕ → Option ℕ → Type 0
-IsNoneOrFrom limit number = (n : ℕ) → number ≡ Some n → limit ≤ n
 
 -- the reader has a list for each client of the plan
 pub record HasLists (plan : Plan) (r : Reader) : Type 0 where

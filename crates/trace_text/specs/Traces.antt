@@ -12,7 +12,8 @@ use Rattle.sdf_plan.specs.declared.plan.Plan.{Plan}
 use Rattle.trace_text.specs.declared.class.Class.{Class}
 use Rattle.trace_text.specs.declared.class.Class.TheVariants as Of
 use Rattle.trace_text.specs.declared.trace.Trace.{Trace}
-use Rattle.trace_text.specs.Texts.{lines_of}
+use Rattle.line_text.specs.Texts.{lines_of}
+pub use Rattle.line_text.specs.Lists.{per_client}
 use Rattle.trace_text.specs.Events.{Event, meaning, net_clients, serial_clients, blk_clients}
 use Rattle.trace_text.specs.Limits.{lines_most, stream_most}
 
@@ -59,11 +60,6 @@ abbrev pub image_after : List ℕ → Event → List ℕ
 image_after image (Event.Disk sectors) = replicate (sector_bytes * sectors) 0
 image_after image (Event.Patch at bytes) = replaced image at bytes
 image_after image _ = image
-
--- one value for each of so many clients
-abbrev pub per_client : {T : Type 0} → ℕ → (ℕ → T) → List T
-per_client zero value = []
-per_client (suc n) value = value 0 ∷ per_client n (λ c. value (suc c))
 
 -- the image that the events give: zeros, with bytes replaced in the order of the lines
 abbrev pub image_of : List Event → List ℕ

@@ -3,12 +3,11 @@ ghost use Rattle.std.specs.Prelude.{◌≡◌, ◌∷◌, [], ℕ, List, MatchOp
 ghost use Rattle.trace_text.specs.Events.{number_where, is_input, is_output, is_queue, is_value};
 ghost use Rattle.trace_text.specs.Events.{is_place, word_named, take_said, put_said, give_said};
 ghost use Rattle.trace_text.specs.Events.{store_said, act_said};
-ghost use Rattle.trace_text.specs.Texts.{words_of};
+ghost use Rattle.line_text.specs.Texts.{words_of};
 
 use crate::class::{Class, inputs_of};
-use crate::number::{read_below, read_number};
-use crate::text::{same_text, split_once};
 use cargo_core::{Act, Word};
+use line_text::{read_below, read_number, same_text, split_once};
 
 /// How many places there may be among what a hostile client keeps.
 const PLACES: u64 = 4294967296;

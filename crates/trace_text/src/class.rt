@@ -2,7 +2,7 @@
 ghost use Rattle.std.specs.Prelude.{◌≡◌};
 ghost use Rattle.trace_text.specs.Events.{class_of, inputs_of};
 
-use crate::text::same_text;
+use line_text::same_text;
 
 /// A device class.
 #[derive(Clone, Copy, Debug, PartialEq, Eq)]

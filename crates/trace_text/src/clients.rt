@@ -6,8 +6,8 @@ ghost use Rattle.trace_text.specs.Events.{is_serial_rogue, is_blk_rogue, is_rogu
 ghost use Rattle.trace_text.specs.Reading.{clients_in};
 
 use crate::class::Class;
-use crate::text::same_text;
 use cargo_core::Text;
+use line_text::same_text;
 use sdf_plan::{Domain, Plan};
 
 // How many clients the network class has.

@@ -3,10 +3,9 @@ ghost use Rattle.std.specs.Prelude.{IfOk};
 ghost use Rattle.trace_text.specs.Events.{disk_line, bytes_line};
 ghost use Rattle.trace_text.specs.Reading.{IsRead};
 
-use crate::data::read_data;
-use crate::number::{read_below, read_number};
 use crate::reader::Reader;
 use cargo_core::{Bytes, Memory, SECTOR_BYTES};
+use line_text::{read_below, read_data, read_number};
 use sdf_plan::Plan;
 use std::alloc::Global;
 

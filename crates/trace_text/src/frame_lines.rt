@@ -6,11 +6,9 @@ ghost use Rattle.trace_text.specs.Limits.{frame_most};
 ghost use Rattle.trace_text.specs.Reading.{IsRead, HasLists};
 
 use crate::clients::{is_source, net_client_count};
-use crate::data::read_data;
-use crate::lists::add_frame;
-use crate::number::read_below;
 use crate::reader::{LINES, Reader};
 use cargo_core::Memory;
+use line_text::{add_frame, read_below, read_data};
 use sdf_plan::Plan;
 use std::alloc::Global;
 

@@ -7,19 +7,15 @@
 mod acts;
 mod class;
 mod clients;
-mod data;
 mod disk_lines;
 mod frame_lines;
 mod laws;
 mod line;
-mod lists;
-mod number;
 mod read;
 mod reader;
 mod request_lines;
 mod rogue_lines;
 mod stream_lines;
-mod text;
 mod trace;
 
 pub use cargo_core::{Act, Ask, Word};

@@ -2,11 +2,11 @@
 ghost use Rattle.std.specs.Prelude.{[], ◌∷◌, IfOk};
 ghost use Rattle.trace_text.specs.Events.{blk_line, words_say, meaning};
 ghost use Rattle.trace_text.specs.Reading.{IsRead, HasLists};
-ghost use Rattle.trace_text.specs.Texts.{words_of};
+ghost use Rattle.line_text.specs.Texts.{words_of};
 
 use crate::reader::Reader;
-use crate::text::{is_skipped, same_text, split_once};
 use cargo_core::Memory;
+use line_text::{is_skipped, same_text, split_once};
 use sdf_plan::Plan;
 use std::alloc::Global;
 

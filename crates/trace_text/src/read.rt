@@ -1,12 +1,11 @@
 //! The walk over the lines of a trace.
-ghost use Rattle.std.specs.Prelude.{◌≡◌, ◌<◌, ◌∷◌, ℕ, length, IfOk, Err};
-ghost use Rattle.trace_text.specs.Texts.{lines_of};
+ghost use Rattle.std.specs.Prelude.{◌≡◌, ℕ, IfOk, Err};
 ghost use Rattle.trace_text.specs.Traces.{HasNoBadLine, IsLeastBadLine, trace_of};
 
 use crate::reader::Reader;
-use crate::text::split_once;
 use crate::trace::Trace;
 use cargo_core::Memory;
+use line_text::next_line;
 use sdf_plan::Plan;
 use std::alloc::Global;
 
@@ -54,16 +53,4 @@ pub fn read_trace(alloc: Global, bytes: &[u8], plan: &Plan) -> Result<Trace, Tra
         return Err(TraceFault::BadLine(number + 1));
     }
     Ok(reader.trace)
-}
-
-// The first line of a text that isn't empty, and the text after it.
-fn next_line(text: &[u8]) -> (&[u8], &[u8])
-    requires { 0 < length text.now }
-    ensures lines { lines_of text.now ≡ result.0.now ∷ lines_of result.1.now }
-    ensures shorter { length result.1.now < length text.now }
-{
-    match split_once(text, b'\n') {
-        Some((line, rest)) => (line, rest),
-        None => (text, text.split_at(text.len()).1),
-    }
 }

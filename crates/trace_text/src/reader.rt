@@ -4,9 +4,9 @@ ghost use Rattle.std.specs.Prelude.{◌≡◌, ◌==◌, ◌&&◌, [], is_some, 
 ghost use Rattle.trace_text.specs.Reading.{reader_after};
 
 use crate::clients::{blk_client_count, net_client_count, serial_client_count};
-use crate::lists::{no_acts, no_asks, no_bytes, no_frames};
 use crate::trace::Trace;
 use cargo_core::{Bytes, FrameLog, Memory};
+use line_text::{no_bytes, no_frames, no_items};
 use sdf_plan::Plan;
 use std::alloc::Global;
 
@@ -36,11 +36,11 @@ impl Reader {
                 input: Bytes::new(alloc),
                 sends: no_frames(alloc, net_client_count(plan))?,
                 says: no_bytes(alloc, serial_client_count(plan))?,
-                asks: no_asks(alloc, blk_client_count(plan))?,
+                asks: no_items(alloc, blk_client_count(plan))?,
                 image: Bytes::new(alloc),
-                net_acts: no_acts(alloc, net_client_count(plan))?,
-                serial_acts: no_acts(alloc, serial_client_count(plan))?,
-                blk_acts: no_acts(alloc, blk_client_count(plan))?,
+                net_acts: no_items(alloc, net_client_count(plan))?,
+                serial_acts: no_items(alloc, serial_client_count(plan))?,
+                blk_acts: no_items(alloc, blk_client_count(plan))?,
             },
             frame_lines: 0,
             stream_bytes: 0,

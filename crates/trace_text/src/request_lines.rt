@@ -5,12 +5,9 @@ ghost use Rattle.trace_text.specs.Events.{blk_write_line};
 ghost use Rattle.trace_text.specs.Reading.{IsRead, HasLists};
 
 use crate::clients::{blk_client_count, is_script};
-use crate::data::read_data;
-use crate::lists::add_ask;
-use crate::number::read_below;
 use crate::reader::{LINES, Reader};
-use crate::text::same_text;
 use cargo_core::{Ask, BLOCK_BYTES, Bytes, Code, Memory};
+use line_text::{add_item, read_below, read_data, same_text};
 use sdf_plan::Plan;
 use std::alloc::Global;
 
@@ -53,7 +50,7 @@ impl Reader {
             count: 0,
             fill: Bytes::new(alloc),
         };
-        add_ask(alloc, &mut self.trace.asks, client as usize, ask)?;
+        add_item(alloc, &mut self.trace.asks, client as usize, ask)?;
         self.request_lines += 1;
         Ok(true)
     }
@@ -98,7 +95,7 @@ impl Reader {
             count: count as u16,
             fill: Bytes::new(alloc),
         };
-        add_ask(alloc, &mut self.trace.asks, client as usize, ask)?;
+        add_item(alloc, &mut self.trace.asks, client as usize, ask)?;
         self.request_lines += 1;
         Ok(true)
     }
@@ -151,7 +148,7 @@ impl Reader {
             count: count as u16,
             fill,
         };
-        add_ask(alloc, &mut self.trace.asks, client as usize, ask)?;
+        add_item(alloc, &mut self.trace.asks, client as usize, ask)?;
         self.request_lines += 1;
         Ok(true)
     }

@@ -2,17 +2,16 @@
 ghost use Rattle.std.specs.Prelude.{◌≡◌, ◌<◌, ℕ, length, IfOk, OnOk};
 ghost use Rattle.trace_text.specs.Events.{rogue_line};
 ghost use Rattle.trace_text.specs.Reading.{IsRead, HasLists, with_act};
-ghost use Rattle.trace_text.specs.Texts.{words_of};
+ghost use Rattle.line_text.specs.Texts.{words_of};
 ghost use Rattle.trace_text.specs.Traces.{acts_in_class};
 
 use crate::acts::read_act;
 use crate::class::{Class, class_of};
 use crate::clients::{client_count, is_rogue};
-use crate::lists::add_act;
-use crate::number::read_below;
 use crate::reader::{LINES, Reader};
 use crate::trace::Trace;
 use cargo_core::{Act, Memory};
+use line_text::{add_item, read_below};
 use sdf_plan::Plan;
 use std::alloc::Global;
 
@@ -67,9 +66,9 @@ impl Trace {
         ensures { OnOk result (self.new ≡ with_act self.old class client act) }
     {
         match class {
-            Class::Net => add_act(alloc, &mut self.net_acts, client, act),
-            Class::Serial => add_act(alloc, &mut self.serial_acts, client, act),
-            Class::Blk => add_act(alloc, &mut self.blk_acts, client, act),
+            Class::Net => add_item(alloc, &mut self.net_acts, client, act),
+            Class::Serial => add_item(alloc, &mut self.serial_acts, client, act),
+            Class::Blk => add_item(alloc, &mut self.blk_acts, client, act),
         }
     }
 }

@@ -4,11 +4,9 @@ ghost use Rattle.trace_text.specs.Events.{in_line, say_line};
 ghost use Rattle.trace_text.specs.Reading.{IsRead, HasLists};
 
 use crate::clients::{is_speaker, serial_client_count};
-use crate::data::read_data;
-use crate::lists::add_bytes;
-use crate::number::read_below;
 use crate::reader::Reader;
 use cargo_core::Memory;
+use line_text::{add_bytes, read_below, read_data};
 use sdf_plan::Plan;
 use std::alloc::Global;
 

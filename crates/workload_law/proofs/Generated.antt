@@ -10,14 +10,16 @@ use Rattle.sdf_model.specs.Counts.{text_most}
 use Rattle.frame_core.specs.Frames.{is_frame_of, broadcast}
 use Rattle.sdf_plan.specs.declared.plan.Plan.{Plan}
 use Rattle.trace_text.specs.Limits.{frame_most}
-use Rattle.trace_text.specs.Texts.{words_of, number_of, piece_of, data_of}
-use Rattle.trace_text.specs.Events.{Event, meaning, is_source, is_speaker, is_script, is_reach, bare_ask, words_say, is_skipped, rx_line as rx_meaning, in_line as in_meaning, send_line as send_meaning, say_line as say_meaning, disk_line, bytes_line, blk_read_line, blk_write_line}
+use Rattle.line_text.specs.Texts.{words_of, number_of, is_skipped}
+use Rattle.line_text.specs.Data.{piece_of, data_of}
+use Rattle.trace_text.specs.Events.{Event, meaning, is_source, is_speaker, is_script, is_reach, bare_ask, words_say, rx_line as rx_meaning, in_line as in_meaning, send_line as send_meaning, say_line as say_meaning, disk_line, bytes_line, blk_read_line, blk_write_line}
 use Rattle.trace_text.specs.Traces.{HasNoBadLine, trace_from}
 use Rattle.trace_text.specs.Reading.{reader_after}
 use Rattle.trace_text.proofs.Judged.{and_right}
 use Rattle.trace_text.proofs.SoFar.{so_far_none, so_far_good}
 use Rattle.wire_core.specs.Picks.{next_seed}
-use Rattle.trace_text.proofs.Forms.{write_ask, not_equal}
+use Rattle.line_text.proofs.Pieces.{not_equal}
+use Rattle.trace_text.proofs.Forms.{write_ask}
 use Rattle.trace_text.proofs.Words.{meaning_words, two_rx, two_in, three_send, three_say, six_write}
 use Rattle.workload.specs.Draws.{moved, drawn, drawn_behind}
 use Rattle.workload.specs.Lines.{station, frame, destination, rx_line, send_line, letters, in_line, say_line, disk_lines, write_line, read_line, blk_lines}

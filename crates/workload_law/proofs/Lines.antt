@@ -7,12 +7,12 @@ use Rattle.cargo_core.specs.Lists.{replaced}
 use Rattle.cargo_core.specs.declared.item.Ask.{Ask}
 use Rattle.sdf_plan.specs.declared.plan.Plan.{Plan}
 use Rattle.trace_text.specs.declared.reader.Reader.{Reader}
-use Rattle.trace_text.specs.Texts.{lines_of}
+use Rattle.line_text.specs.Texts.{lines_of}
 use Rattle.trace_text.specs.Events.{Event, meaning}
 use Rattle.trace_text.specs.Reading.{after_line, is_refused, reader_with}
 use Rattle.trace_text.proofs.Forms.{not_above, patch_inside}
 use Rattle.trace_text.proofs.SoFar.{IsSoFar, so_far_more}
-use Rattle.trace_text.proofs.Words.{lines_more}
+use Rattle.line_text.proofs.Pieces.{lines_more}
 use Rattle.workload_law.proofs.Texts.{Lacks}
 
 -- the reader is at this place of a text, where it took no bad line so far, and no more than so many frames, bytes and requests

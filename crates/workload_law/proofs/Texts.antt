@@ -7,9 +7,10 @@ use Rattle.std.proofs.lemmas.List.Elements.{All-cons, All-head, All-nil, All-tai
 use Rattle.std.proofs.lemmas.List.Splits.{slice_split_at, slice_split_none}
 use Rattle.hex.specs.Hex.{IsBytes, hex_digit_value, encode_lower, encode_with, lower_digits}
 use Rattle.hex.proofs.HexLemmas.{decode_of-encode_lower, decode_sized-encode_lower, IsDigits-lower_digits, length-encode_with}
-use Rattle.trace_text.specs.Texts.{parts_of, words_of, number_of, repeated, piece_of, data_of}
-use Rattle.trace_text.proofs.Forms.{not_equal}
-use Rattle.trace_text.proofs.Pieces.{piece_of_digits, repeated_gives}
+use Rattle.line_text.specs.Texts.{parts_of, words_of, number_of}
+use Rattle.line_text.specs.Data.{repeated, piece_of, data_of}
+use Rattle.line_text.proofs.Pieces.{not_equal}
+use Rattle.line_text.proofs.DataPieces.{piece_of_digits, repeated_gives}
 
 -- no byte of a text is this one
 abbrev pub Lacks : ℕ → List ℕ → Type 0

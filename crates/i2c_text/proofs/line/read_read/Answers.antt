@@ -1,6 +1,6 @@
 use Rattle.std.proofs.Common.{◌≡◌, Some, None, refl, sym, ◌∙◌}
 use Rattle.i2c_text.specs.Lines.{address_of}
-use Rattle.i2c_text.specs.Texts.{number_from}
+use Rattle.line_text.specs.Texts.{number_from}
 use Rattle.i2c_text.proofs.Words.{read_is}
 use Rattle.i2c_text.proofs.line.read_read.Goals as goal
 

@@ -1,5 +1,5 @@
 use Rattle.std.proofs.Common.{sym}
-use Rattle.trace_text.specs.Texts.{words_of}
+use Rattle.line_text.specs.Texts.{words_of}
 use Rattle.trace_text.proofs.Acting.{give_one, give_other, give_queue, give_place, give_address, give_long, give_all}
 use Rattle.trace_text.proofs.acts.read_give.Goals as goal
 

@@ -1,5 +1,5 @@
 use Rattle.std.proofs.Common.{sym}
-use Rattle.trace_text.specs.Texts.{words_of}
+use Rattle.line_text.specs.Texts.{words_of}
 use Rattle.trace_text.proofs.Acting.{put_other, put_queue, put_address, put_long, put_all}
 use Rattle.trace_text.proofs.acts.read_put.Goals as goal
 

@@ -1,5 +1,5 @@
 use Rattle.std.proofs.Common.{sym}
-use Rattle.trace_text.specs.Texts.{words_of}
+use Rattle.line_text.specs.Texts.{words_of}
 use Rattle.trace_text.proofs.Acting.{store_other, store_queue, store_word, store_value, store_all}
 use Rattle.trace_text.proofs.acts.read_store.Goals as goal
 

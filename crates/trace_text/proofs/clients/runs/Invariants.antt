@@ -1,6 +1,6 @@
 use Rattle.std.proofs.Common.{◌≡◌, drop}
 use Rattle.std.specs.List.{find}
-use Rattle.trace_text.specs.Events.{same_text}
+use Rattle.line_text.specs.Texts.{same_text}
 use Rattle.trace_text.proofs.clients.runs.Given as goal
 
 abbrev pub invariant-loop-domain : goal.invariant-loop-domain

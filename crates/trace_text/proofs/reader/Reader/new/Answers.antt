@@ -6,7 +6,7 @@ returns c =
     new_reader c.args.plan.now _ _ _ _ _ _ _ _ _ c.new.ensures c.new-2.ensures c.new-3.ensures
     (rw c.net_client_count.ensures at c.in_ok-no_frames.ensures)
     (rw c.serial_client_count.ensures at c.in_ok-no_bytes.ensures)
-    (rw c.blk_client_count.ensures at c.in_ok-no_asks.ensures)
-    (rw c.net_client_count-2.ensures at c.in_ok-no_acts.ensures)
-    (rw c.serial_client_count-2.ensures at c.in_ok-no_acts-2.ensures)
-    (rw c.blk_client_count-2.ensures at c.in_ok-no_acts-3.ensures)
+    (rw c.blk_client_count.ensures at c.in_ok-no_items.ensures)
+    (rw c.net_client_count-2.ensures at c.in_ok-no_items-2.ensures)
+    (rw c.serial_client_count-2.ensures at c.in_ok-no_items-3.ensures)
+    (rw c.blk_client_count-2.ensures at c.in_ok-no_items-4.ensures)

@@ -1,7 +1,8 @@
 use Rattle.std.proofs.Common.{◌≡◌, ◌%◌, inl, inr, not, is_some, eqb, refl, ap, ◌∙◌, arith}
 use Rattle.std.proofs.lemmas.Bool.{lt-leb}
 use Rattle.trace_text.proofs.Judged.{and_left, and_right}
-use Rattle.trace_text.proofs.Forms.{disk_none, disk_taken, is_disk_all, is_above, not_above, not_equal}
+use Rattle.trace_text.proofs.Forms.{disk_none, disk_taken, is_disk_all, is_above, not_above}
+use Rattle.line_text.proofs.Pieces.{not_equal}
 use Rattle.trace_text.proofs.reader.Reader.read_disk.Goals as goal
 
 pub returns-then-is_none : goal.returns-then-is_none

@@ -21,4 +21,4 @@ returns-then-self-ge-LINES c =
 
 pub returns : goal.returns
 returns c =
-    rw (c.in_ok-add_ask.ensures, c.new.ensures) (order_taken c.args.self.now c.args.plan.now c.args.client.now c.args.order.now c.in-Some.client c.in-Some-order_code.code c.in-Some.ensures.some.0 (sym c.in-Some-order_code.ensures) (sym c.is_script.ensures ∙ c.if-not-is_script.false) (lt-leb 1024 _ c.if-self-ge-LINES.false))
+    rw (c.in_ok-add_item.ensures, c.new.ensures) (order_taken c.args.self.now c.args.plan.now c.args.client.now c.args.order.now c.in-Some.client c.in-Some-order_code.code c.in-Some.ensures.some.0 (sym c.in-Some-order_code.ensures) (sym c.is_script.ensures ∙ c.if-not-is_script.false) (lt-leb 1024 _ c.if-self-ge-LINES.false))

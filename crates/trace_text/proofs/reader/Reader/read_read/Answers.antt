@@ -33,4 +33,4 @@ pub returns : goal.returns
 returns c =
     let there = sym c.is_script.ensures ∙ c.if-not-is_script.false in
     let reach = is_reach_all c.in-Some-read_below.block c.in-Some-read_below-2.count c.in-Some-read_below.ensures.some.1 (omega arith) c.in-Some-read_below-2.ensures.some.1 in
-    rw (c.in_ok-add_ask.ensures, c.new.ensures) (read_taken c.args.self.now c.args.plan.now c.args.client.now c.args.first.now c.args.many.now c.in-Some.client c.in-Some-read_below.block c.in-Some-read_below-2.count c.in-Some.ensures.some.0 c.in-Some-read_below.ensures.some.0 c.in-Some-read_below-2.ensures.some.0 (rw (there, reach) refl) (lt-leb 1024 _ c.if-self-ge-LINES.false))
+    rw (c.in_ok-add_item.ensures, c.new.ensures) (read_taken c.args.self.now c.args.plan.now c.args.client.now c.args.first.now c.args.many.now c.in-Some.client c.in-Some-read_below.block c.in-Some-read_below-2.count c.in-Some.ensures.some.0 c.in-Some-read_below.ensures.some.0 c.in-Some-read_below-2.ensures.some.0 (rw (there, reach) refl) (lt-leb 1024 _ c.if-self-ge-LINES.false))

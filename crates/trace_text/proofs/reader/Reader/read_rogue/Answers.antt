@@ -1,6 +1,6 @@
 use Rattle.std.proofs.Common.{◌≡◌, inl, inr, sym, ◌∙◌}
 use Rattle.std.proofs.lemmas.Bool.{lt-leb, le-leb}
-use Rattle.trace_text.specs.Texts.{words_of}
+use Rattle.line_text.specs.Texts.{words_of}
 use Rattle.trace_text.proofs.Acting.{rogue_none, rogue_taken, no_rogue, has_acts}
 use Rattle.trace_text.proofs.reader.Reader.read_rogue.Goals as goal
 

@@ -2,7 +2,8 @@ use Rattle.std.proofs.Common.{◌≡◌, ◌*◌, ◌&&◌, inl, inr, eqb, lengt
 use Rattle.std.proofs.lemmas.Bool.{lt-leb, le-leb}
 use Rattle.trace_text.specs.Events.{is_script, is_reach}
 use Rattle.trace_text.proofs.Judged.{and_left, and_right}
-use Rattle.trace_text.proofs.Forms.{write_none, write_taken, no_script, is_reach_all, no_blocks, not_equal, equal_length}
+use Rattle.trace_text.proofs.Forms.{write_none, write_taken, no_script, is_reach_all, no_blocks, equal_length}
+use Rattle.line_text.proofs.Pieces.{not_equal}
 use Rattle.trace_text.proofs.reader.Reader.read_write.Goals as goal
 
 pub returns-in-None : goal.returns-in-None
@@ -45,4 +46,4 @@ returns c =
     let there = sym c.is_script.ensures ∙ c.if-not-is_script.false in
     let reach = is_reach_all c.in-Some-read_below.block c.in-Some-read_below-2.count c.in-Some-read_below.ensures.some.1 (omega arith) c.in-Some-read_below-2.ensures.some.1 in
     let long = equal_length (length c.in-Some-2.fill) (c.in-Some-read_below-2.count * 4096) (sym c.len.ensures ∙ c.if-len-count.false) in
-    rw c.in_ok-add_ask.ensures (write_taken c.args.self.now c.args.plan.now c.args.client.now c.args.first.now c.args.many.now c.args.word.now c.in-Some.client c.in-Some-read_below.block c.in-Some-read_below-2.count c.in-Some-2.fill c.in-Some.ensures.some.0 c.in-Some-read_below.ensures.some.0 c.in-Some-read_below-2.ensures.some.0 read.0 (rw (there, reach, long) refl) (lt-leb 1024 _ c.if-self-ge-LINES.false))
+    rw c.in_ok-add_item.ensures (write_taken c.args.self.now c.args.plan.now c.args.client.now c.args.first.now c.args.many.now c.args.word.now c.in-Some.client c.in-Some-read_below.block c.in-Some-read_below-2.count c.in-Some-2.fill c.in-Some.ensures.some.0 c.in-Some-read_below.ensures.some.0 c.in-Some-read_below-2.ensures.some.0 read.0 (rw (there, reach, long) refl) (lt-leb 1024 _ c.if-self-ge-LINES.false))

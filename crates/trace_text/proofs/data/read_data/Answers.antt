@@ -1,8 +1,0 @@
-use Rattle.std.proofs.Common.{arith}
-use Rattle.trace_text.specs.Texts.{parts_of, all_pieces, data_of}
-use Rattle.trace_text.proofs.Pieces.{with_rest_none}
-use Rattle.trace_text.proofs.data.read_data.Goals as goal
-
-pub loop-piece-init : goal.loop-piece-init
-unfolding data_of
-loop-piece-init c = rw c.new-data.ensures (omega arith, with_rest_none (all_pieces (parts_of 44 c.args.word.now)))

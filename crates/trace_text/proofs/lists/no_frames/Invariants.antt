@@ -1,6 +1,0 @@
-use Rattle.std.proofs.Common.{◌≡◌, []}
-use Rattle.trace_text.specs.Traces.{per_client}
-use Rattle.trace_text.proofs.lists.no_frames.Given as goal
-
-abbrev pub invariant-loop-client : goal.invariant-loop-client
-invariant-loop-client l = l.lists ≡ per_client l._client (λ _. [])
