@@ -6,7 +6,7 @@ ghost use Rattle.cargo_core.specs.declared.item.QueueKind.TheVariants as Kind;
 ghost use Rattle.wire_core.specs.declared.names.Ringer.TheVariants as Rung;
 ghost use Rattle.wire_core.specs.Ends.{is_busy_or_off};
 
-use crate::pause::pause;
+use crate::pausing::pause;
 use cargo_core::{Body, Item};
 use spsc_queue::{Consumer, Producer, Ring};
 use std::marker::Brand;

@@ -4,7 +4,7 @@ ghost use Rattle.cargo_core.specs.declared.item.QueueKind.TheVariants as Kind;
 ghost use Rattle.wire_core.specs.Ends.{is_busy_or_off, is_free_or_put};
 ghost use Rattle.spsc_queue.specs.Rule.{first_producer, first_consumer};
 
-use crate::pause::pause;
+use crate::pausing::pause;
 use cargo_core::{Body, Item, Memory, QueueKind};
 use spsc_queue::{Consumer, Ended, Producer, Ring, finish, open};
 use std::alloc::Global;

@@ -4,7 +4,7 @@
 
 mod bells;
 mod hand;
-mod pause;
+mod pausing;
 #[cfg(test)]
 mod tests;
 mod wild;
@@ -13,5 +13,5 @@ mod wild_tests;
 
 pub use bells::{get, give, send_by_bells, take_by_bells};
 pub use hand::{byte_ring, give_up, offer, poll, send, take};
-pub use pause::pause;
+pub use pausing::pause;
 pub use wild::{scribble, send_wildly, wild_byte_ring};

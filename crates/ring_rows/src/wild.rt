@@ -6,7 +6,7 @@ ghost use Rattle.spsc_queue.specs.Rule.{wild_producer, wild_consumer};
 ghost use Rattle.spsc_queue.specs.Steps.{known_end};
 
 use crate::hand::offer;
-use crate::pause::pause;
+use crate::pausing::pause;
 use cargo_core::{Memory, QueueKind, Word};
 use spsc_queue::{Consumer, Producer, Ring, open_wild};
 use std::alloc::Global;
