@@ -1,0 +1,4 @@
+pub mod Addresses
+pub mod Words
+pub mod Grown
+pub mod SoFar

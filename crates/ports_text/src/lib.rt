@@ -1,0 +1,12 @@
+//! The text of the ports of a switch: their addresses and the frames that each of them sends, one
+//! line each, and how such a text is read.
+#![tactic(auto)]
+
+mod address;
+mod line;
+mod ports;
+mod read;
+mod reader;
+
+pub use ports::Ports;
+pub use read::{PortFault, read_ports};
