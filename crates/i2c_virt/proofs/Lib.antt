@@ -1,0 +1,2 @@
+-- The proofs on the actors of the bus.
+pub mod Serving
