@@ -10,9 +10,19 @@ fn a_page_spells_the_request_that_was_written(rt: HostRuntime) -> Result<(), Fai
     assert!(rt; read_request(rt.alloc(), page.bytes())?.is_none());
     write_request(&mut page, &BusAsk::Claim(8));
     assert!(rt; page.bytes()[..4] == [0, 8, 0, 0]);
-    assert!(rt; matches!(read_request(rt.alloc(), page.bytes())?, Some(BusAsk::Claim(8))));
+    assert!(rt;
+        matches!(
+            read_request(rt.alloc(), page.bytes())?,
+            Some(BusAsk::Claim(8))
+        )
+    );
     write_request(&mut page, &BusAsk::Read(119, 32));
-    assert!(rt; matches!(read_request(rt.alloc(), page.bytes())?, Some(BusAsk::Read(119, 32))));
+    assert!(rt;
+        matches!(
+            read_request(rt.alloc(), page.bytes())?,
+            Some(BusAsk::Read(119, 32))
+        )
+    );
     let bytes = Bytes::from_slice(rt.alloc(), &[5, 0xaa, 0xbb])?;
     let write = BusAsk::Write(80, bytes);
     write_request(&mut page, &write);
