@@ -28,7 +28,9 @@ fn a_page_spells_the_request_that_was_written(rt: HostRuntime) -> Result<(), Fai
     write_request(&mut page, &write);
     assert!(rt; page.bytes()[..7] == [2, 80, 0, 3, 5, 0xaa, 0xbb]);
     match read_request(rt.alloc(), page.bytes())? {
-        Some(BusAsk::Write(80, bytes)) => assert!(rt; bytes.as_slice() == [5, 0xaa, 0xbb]),
+        Some(BusAsk::Write(80, bytes)) => assert!(rt;
+            bytes.as_slice() == [5, 0xaa, 0xbb].as_slice()
+        ),
         _ => assert!(rt; false),
     }
     Ok(())
