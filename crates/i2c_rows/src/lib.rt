@@ -1,0 +1,12 @@
+//! Tests of a bus that clients share: its text, its devices, its pages and the replies of clients by
+//! the plain program.
+#![tactic(auto)]
+
+#[cfg(test)]
+mod device_tests;
+#[cfg(test)]
+mod page_tests;
+#[cfg(test)]
+mod read_tests;
+#[cfg(test)]
+mod reply_tests;
