@@ -35,9 +35,11 @@ value_at name attributes = value_or [] name attributes
 abbrev pub hex_at : List ℕ → List Attribute → ℕ
 hex_at name attributes = hex_value (value_at name attributes)
 
+-- the number that an attribute spells in decimal digits
 abbrev pub decimal_at : List ℕ → List Attribute → ℕ
 decimal_at name attributes = decimal_value (value_at name attributes)
 
+-- the same, and another number where the attribute is absent
 abbrev pub decimal_or : ℕ → List ℕ → List Attribute → ℕ
 decimal_or absent name attributes =
     unwrap_or (option_map decimal_value (value_if name attributes)) absent
