@@ -1,6 +1,6 @@
 -- What is said of an actor of any kind: one case for each kind.
-use Rattle.std.specs.Prelude.{◌≡◌, ◌+◌, ◌-◌, ◌<◌, ◌^◌, ◌==◌, if◌then◌else◌, ℕ, Bool, false, List, []}
-use Rattle.std.specs.Prelude.{length, map, All}
+use Rattle.std.specs.Prelude.{◌≡◌, ◌+◌, ◌-◌, ◌<◌, ◌^◌, ◌==◌, if◌then◌else◌, ℕ, Bool, false}
+use Rattle.std.specs.Prelude.{List, [], length, map, All}
 use Rattle.cargo_core.specs.declared.item.Body.{Body}
 use Rattle.wire_core.specs.Lists.{Passed}
 use Rattle.wire_core.specs.Ends.{Role, End, role_of}
@@ -78,8 +78,8 @@ HasFewClients v = length v.work.desk.clients.items < 2 ^ 31 - 2
 abbrev pub HasFirst : BlkVirt → Type 0
 HasFirst v = v.work.opening.own.no ≡ 0
 
--- the actor's ends are its own, and as it keeps them; a network client's own buffers begin at offset
--- 0, and a block virtualiser has few clients and the first buffer of its pool
+-- the actor's ends are its own, and as it keeps them; a network client's own buffers begin at
+-- offset 0, and a block virtualiser has few clients and the first buffer of its pool
 abbrev pub FitsActor : (Role → ℕ → End) → Actor → Type 0
 FitsActor ends (Kinds.UartDevice x) = FitsTerminal ends x.terminal
 FitsActor ends (Kinds.UartDriver x) = FitsPipes ends (two_pipes x.driver.pipes)

@@ -168,7 +168,8 @@ impl Actor {
         Ok(event)
     }
 
-    /// Discards the last look of each end, and nothing else; a hostile client's journal begins here.
+    /// Discards the last look of each end, and nothing else; a hostile client's journal begins
+    /// here.
     pub fn forget(&mut self)
         ensures after { Forgot self.old self.new }
         ensures part { part_of self.new ≡ part_anew self.old }

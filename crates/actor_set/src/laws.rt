@@ -35,9 +35,9 @@ ghost use Rattle.play_core.specs.Rests.Showing.{HaveItems, HaveBells};
 
 /// An actor of any kind, beside its sheet. Where it stands for its lists and nothing came out of
 /// turn, its sheet's row holds of their items, and, where it isn't hostile, it is at rest exactly
-/// where all that its sheet wants is settled; whatever came, it recorded what its lists say. Its ends are its sheet's, which
-/// speaks of no others; where nothing changes at them, it fits them as before and stands for the
-/// same lists.
+/// where all that its sheet wants is settled; whatever came, it recorded what its lists say. Its
+/// ends are its sheet's, which speaks of no others; where nothing changes at them, it fits them as
+/// before and stands for the same lists.
 pub fn actor_law()
     ensures row { (scene : Scene) (a : Actor) (passed : Passed) (m : Moved)
         → InTurn scene a passed → ActorStandsFor a passed → HaveItems passed m
@@ -71,8 +71,9 @@ pub fn actor_law()
 {}
 
 /// An actor of any kind that isn't hostile takes its ends in turn, each with no drop, and each of
-/// its calls is at one of them; and where one of the notifications that the rows give it is pending,
-/// it is so at one of these ends. All others are hostile clients, which take their acts in turn.
+/// its calls is at one of them; and where one of the notifications that the rows give it is
+/// pending, it is so at one of these ends. All others are hostile clients, which take their acts in
+/// turn.
 pub fn turn_law()
     ensures turned { (old : Actor) (e : Event) (new : Actor) → manner_of (part_of old) ≡ Calm
         → ActorTurned old e new → Turned (actor_round old) e (actor_round new) }

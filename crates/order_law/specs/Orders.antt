@@ -51,8 +51,9 @@ pub record Turn : Type 0 where
   pub deed : Deed
   pub actor : Actor
 
--- it is the turn of one of these actors, at an end of its own or by a store of a hostile client; it fits its ends then, and after its
--- call what was taken at each queue is a beginning of what was put there
+-- it is the turn of one of these actors, at an end of its own or by a store of a hostile client;
+-- it fits its ends then, and after its call what was taken at each queue is a beginning of what was
+-- put there
 pub record IsTurn (actors : List Actor) (passed : Passed) (t : Turn) : Type 0 where
   pub old : Actor
   pub there : slice_get actors t.number ≡ Some old
