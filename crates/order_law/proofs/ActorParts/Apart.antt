@@ -17,7 +17,9 @@ use Rattle.seat_wires.specs.Times.{times_known}
 use Rattle.actor_set.specs.Actors.{ActorEnd, IsWhole, part_anew, part_of}
 use Rattle.actor_set.specs.Parts.{Part}
 use Rattle.actor_set.specs.declared.actor.Actor.{Actor}
+use Rattle.actor_set.specs.Laws.Kinds.{manner_of}
 use Rattle.actor_set.proofs.LawsLemmas.Beside.{stands_beside}
+use Rattle.actor_set.proofs.LawsLemmas.Rounds.{anew_is}
 use Rattle.actor_set.proofs.LawsLemmas.Starts.{fits_whole}
 use Rattle.actor_set.proofs.LawsLemmas.PartEnds.{PartEnd, to_part, from_anew}
 use Rattle.actor_set.specs.Adopting.Looks.{SameButLook}
@@ -136,6 +138,7 @@ module _ (rows : List QueueRow) (actors : List Actor) (rings : List RingIs) (par
       once = λ r i j x y h g same. opened_once r k 0 pairs i j x y (ap (λ (l : List (QueueId × EndIs)). slice_get l i) (sym (ends_are r)) ∙ h) (ap (λ (l : List (QueueId × EndIs)). slice_get l j) (sym (ends_are r)) ∙ g) same;
       on = λ r i x h. let c = from r i x h in let z = zip_there rows rings x.0.0 c.pair (number r i x h) in (c.pair.1, z.1, ap (λ (e : EndIs). e.ring) c.is);
       plain = λ r i x h. let c = from r i x h in ap (λ (e : EndIs). e.knows.wild) c.is ∙ first_sort r c.pair.0.kind;
+      calm = ap manner_of (was.2.part ∙ anew_is was.0 (ready.calm k was.0 was.1)) ∙ ready.calm k was.0 was.1;
       fits = fits_anew (end_at (starts rows)) (apart_end a) was.0 p.0.actor was.2.forgot
           (λ r n e. let o = owned r n e in let x = end_there r n o.0 o.1 o.2 in subst (λ (y : Option EndIs). SameButLook (end_at (starts rows) r n) (end_known y)) (sym x.1) (fresh_end rows n o.0 x.0 r o.1))
           (was.2.fits (end_at (starts rows)) (ready.fits k was.0 was.1));
