@@ -1,11 +1,13 @@
 -- A hostile client among the actors: its ends are its sheet's, and where nothing changes at them it
 -- fits them as before and stands for the same lists; and its start state.
 use Rattle.std.proofs.Common.{◌≡◌, ◌==◌, ◌<◌, ◌≤◌, ◌+◌, ◌++◌, ℕ, zero, suc, Bool, true, false, cond, if◌then◌else◌, Some, List, [], ◌∷◌, length, map, drop, All, get_or, slice_get, inl, inr, refl, sym, ap, ◌∙◌, subst, arith}
+use Rattle.std.proofs.lemmas.List.Sums.{sum_by-cons}
 use Rattle.std.proofs.lemmas.Option.{slice_get-get_or}
-use Rattle.cargo_core.specs.Bodies.{buffers_of}
+use Rattle.cargo_core.specs.Bodies.{buffers_in, buffers_of}
 use Rattle.cargo_core.specs.Pages.{Paged}
 use Rattle.cargo_core.specs.declared.act.Act.{Act}
 use Rattle.cargo_core.specs.declared.act.Act.TheVariants as Acts
+use Rattle.cargo_core.specs.declared.item.Body.TheVariants as Carried
 use Rattle.cargo_core.specs.declared.item.PoolId.{PoolId}
 use Rattle.cargo_core.specs.declared.item.QueueKind.{QueueKind}
 use Rattle.wire_core.specs.declared.names.QueueId.{QueueId}
@@ -112,7 +114,7 @@ module _ (ends : Role → ℕ → End) where
 -- and has the pages that its part tells
 pages_told : (pool : PoolId) (pages : List Paged) → buffers_of pool (page_bodies pages) ≡ length (pages_in (tags_of pages) pool.0)
 pages_told pool [] = refl
-pages_told pool (p ∷ ps) = one (p.pool.0 == pool.0) (pages_told pool ps)
+pages_told pool (p ∷ ps) = sum_by-cons (buffers_in pool) (Carried.Page p) (page_bodies ps) ∙ one (p.pool.0 == pool.0) (pages_told pool ps)
   where
     one : (b : Bool) → buffers_of pool (page_bodies ps) ≡ length (pages_in (tags_of ps) pool.0) → (if b then 1 else 0) + buffers_of pool (page_bodies ps) ≡ length (cond b (p.no ∷ pages_in (tags_of ps) pool.0) (pages_in (tags_of ps) pool.0))
     one true h = omega (arith, h)

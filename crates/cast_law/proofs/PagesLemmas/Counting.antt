@@ -22,7 +22,7 @@ use Rattle.page_law.proofs.LawLemmas.Placing.{below_at}
 use Rattle.net_law.specs.Parts.Parts.{NetDevice, NetDriver, NetReceiver, NetCopier, NetClient}
 use Rattle.blk_law.specs.Sheets.Parts.{DiskDevice, BlkDriver, BlkVirt, BlkClient}
 use Rattle.actor_set.specs.Parts.{Part, UartPart, DriverPart, RxPart, TxPart, ClientPart, NetworkPart, SendingPart, BlockPart}
-use Rattle.actor_set.specs.Laws.Kinds.{sheet, scene_of}
+use Rattle.actor_set.specs.Laws.Kinds.{AllCalm, sheet, scene_of}
 use Rattle.cast_law.specs.Pools.Places.{PoolPlace, IsPlaced, HasPools, place_sizes}
 use Rattle.cast_law.specs.Pools.Pooling.{keepers_at}
 use Rattle.cast_law.specs.Pages.Paging.{part_pools, pool_weighs, pools_weigh}
@@ -101,24 +101,24 @@ two_least g (z ∷ xs) zero (suc j) x y at at' ne = omega (arith, sum_by-cons g 
 two_least g (z ∷ xs) (suc i) zero x y at at' ne = omega (arith, sum_by-cons g z xs, ap g (some_is at'), at_least g xs i x at)
 two_least g (z ∷ xs) (suc i) (suc j) x y at at' ne = omega (arith, sum_by-cons g z xs, two_least g xs i j x y at at' (λ e. ne (ap (λ n. suc n) e)))
 
-module _ (rows : List QueueRow) (pools : List PoolRow) (place : PoolPlace) (cast : List Part) (seated : AreSeated (sheet (scene_of cast)) rows cast) (placed : IsPlaced rows place cast) (has : HasPools pools place) where
+module _ (rows : List QueueRow) (pools : List PoolRow) (place : PoolPlace) (cast : List Part) (calm : AllCalm cast) (seated : AreSeated (sheet (scene_of cast)) rows cast) (placed : IsPlaced rows place cast) (has : HasPools pools place) where
   abbrev owns : ℕ → ℕ
-  owns = owner rows cast seated place.net place.blk placed.net placed.blk has.numbered
+  owns = owner rows cast calm seated place.net place.blk placed.net placed.blk has.numbered
 
   -- at most once, whatever the number
   pub few : (pool number : ℕ) → pools_weigh (the_page (record { 0 = pool }) number) cast ≤ 1
   few pool number =
-      let dealt = spread_dealt (place_sizes place) owns (keepers_at cast) (are_spread rows cast seated place.net place.blk placed.net placed.blk has.numbered) (record { pool = pool; no = number }) in
+      let dealt = spread_dealt (place_sizes place) owns (keepers_at cast) (are_spread rows cast calm seated place.net place.blk placed.net placed.blk has.numbered) (record { pool = pool; no = number }) in
       omega (arith, parts_count pool number (scene_of cast) cast, dealt)
 
   pub pages_once : (pool number : ℕ) → number < place_sizes place pool → pools_weigh (the_page (record { 0 = pool }) number) cast ≡ 1
-  pages_once pool number lt = by (pool_owned rows cast seated place.net place.blk placed.net placed.blk has.numbered pool)
+  pages_once pool number lt = by (pool_owned rows cast calm seated place.net place.blk placed.net placed.blk has.numbered pool)
     where
       by : (owns pool < length cast) ⊎ (place_sizes place pool ≡ 0) → pools_weigh (the_page (record { 0 = pool }) number) cast ≡ 1
       by (inl there) =
           let same : length (keepers_at cast) ≡ length cast = length-map cast (λ p. keeper_of (sheet (scene_of cast) p)) in
           let p = there_is (keepers_at cast) (owns pool) (omega (arith, there, same)) in
-          let spread = are_spread rows cast seated place.net place.blk placed.net placed.blk has.numbered (owns pool) p.0 p.1 pool in
+          let spread = are_spread rows cast calm seated place.net place.blk placed.net placed.blk has.numbered (owns pool) p.0 p.1 pool in
           let hand : p.0.hand pool ≡ numbers_from 0 (place_sizes place pool) = spread ∙ ap (λ t. cond t (numbers_from 0 (place_sizes place pool)) []) (eq-eqb (owns pool) (owns pool) refl) in
           let mine : at_start p.0.hand (record { pool = pool; no = number }) ≡ count_by (λ x. x == number) (numbers_from 0 (place_sizes place pool)) = ap (count_by (λ x. x == number)) hand in
           let some = number_there 0 (place_sizes place pool) number (omega arith) (omega (arith, lt)) in
