@@ -41,11 +41,13 @@ ghost use Rattle.cast_law.specs.Pools.Pooling.{HasOwners, AreKindly, IsCall};
 pub fn holder_law()
     ensures hands_on { (naming : Naming) (scene : Scene) (x : Actor) (passed : Passed) (m : Moved)
         → HaveItems passed m → IsInOrder naming m → manner_of (part_of x) ≡ Calm
-        → NamesAt naming scene (part_of x) → TakesNet x passed → IsWhole x → InTurn scene x passed → ActorStandsFor x passed
+        → NamesAt naming scene (part_of x) → TakesNet x passed → IsWhole x
+        → InTurn scene x passed → ActorStandsFor x passed
         → HandsOn naming m passed (sheet scene (part_of x)).ends }
     ensures holds { (naming : Naming) (sizes : ℕ → ℕ) (scene : Scene) (x : Actor)
         (passed : Passed) (m : Moved) → HaveItems passed m → manner_of (part_of x) ≡ Calm
-        → NamesAt naming scene (part_of x) → IsSized sizes (part_of x) → IsWhole x → InTurn scene x passed → ActorStandsFor x passed
+        → NamesAt naming scene (part_of x) → IsSized sizes (part_of x) → IsWhole x
+        → InTurn scene x passed → ActorStandsFor x passed
         → TakesPages naming m passed (sheet scene (part_of x)).ends
         → HoldsIts naming sizes m passed (actor_holder scene x) }
     ensures bad { (scene : Scene) (x : Actor) (passed : Passed) → InTurn scene x passed

@@ -44,8 +44,8 @@ AddUp world holders pools = (k : ℕ) (row : PoolRow) → slice_get pools k ≡ 
 
 -- a cast at play whose queues had this before its journal begins: no actor is hostile, and each has
 -- just the ends that the rows give it, fits them and stands for what passed there, of which nothing
--- came out of turn; the journal is legal, at each moment queues hand over and rows hold; and in each
--- queue stands what was put there and not taken
+-- came out of turn; the journal is legal, at each moment queues hand over and rows hold; and in
+-- each queue stands what was put there and not taken
 pub record AreAtPlay (history : History) (rows : List QueueRow) (actors : List Actor)
     (journal : List Entry) (passed : Passed) (world : List Queue) : Type 0 where
   pub calm : AllCalm (map part_of actors)
@@ -95,9 +95,8 @@ AreKindly history rows journal =
     (n : ℕ) → IsKindly (slice_get rows n) (sent history n journal) (taken history n journal)
 
 -- entries carried what their items name, and actor k of a cast without a hostile client made a call
--- on an end of its own,
--- and is then x; it stands for what passed by then, of which nothing came out of turn; queues hand
--- over what is of their kind, and rows hold, before the call and after it
+-- on an end of its own, and is then x; it stands for what passed by then, of which nothing came out
+-- of turn; queues hand over what is of their kind, and rows hold, before the call and after it
 pub record IsCall (rows : List QueueRow) (place : PoolPlace) (cast : List Part) (m m' : Moved)
     (passed : Passed) (d : Deed) (k : ℕ) (x : Actor) : Type 0 where
   pub calm : AllCalm cast
