@@ -1,4 +1,4 @@
--- Nobody is hostile yet, so what is said by the names that are kept is what is said without names.
+-- Where nobody is hostile, what is said by the names that are kept is what is said without names.
 use Rattle.std.proofs.Common.{◌≡◌, ℕ, List}
 use Rattle.wire_core.specs.declared.names.Entry.{Entry}
 use Rattle.wire_core.specs.Journal.{EachMoment}
@@ -8,7 +8,7 @@ use Rattle.play_core.specs.Runs.{runnable}
 use Rattle.play_core.specs.Sheets.{RowsHold, needful}
 use Rattle.play_core.proofs.Moments.{each_moment}
 use Rattle.actor_set.specs.Parts.{Part}
-use Rattle.actor_set.specs.Laws.Kinds.{sheet}
+use Rattle.actor_set.specs.Laws.Kinds.{AllCalm, sheet}
 use Rattle.actor_set.proofs.LawsLemmas.Told.{calm_row, calm_wants, none_hostile, row_calm, runs_calm}
 use Rattle.system_core.specs.Shows.{Setting, RowsStand, hostile_in, manner_in, moved_in, runs, sheet_in}
 
@@ -20,18 +20,18 @@ plain_runs s journal = runnable (manner_in s) s.history s.rows (needful (sheet s
 abbrev pub PlainRows : Setting → List Entry → Type 0
 PlainRows s journal = RowsHold (sheet s.scene) (hostile_in s) s.cast (moved_in s journal)
 
-pub runs_plain : (s : Setting) (journal : List Entry) → runs s journal ≡ plain_runs s journal
-runs_plain s journal = runs_calm s.scene (told_by s.names) (manner_in s) s.history s.rows s.cast journal
+pub runs_plain : (s : Setting) → AllCalm s.cast → (journal : List Entry) → runs s journal ≡ plain_runs s journal
+runs_plain s calm journal = runs_calm s.scene (told_by s.names) (manner_in s) s.history s.rows s.cast journal calm
 
-pub rows_plain : (s : Setting) (journal : List Entry) → RowsStand s journal → PlainRows s journal
-rows_plain s journal rows k p calm at = calm_row s.scene (wild_in (hostile_in s) s.rows) (told_by s.names) p (moved_in s journal) (none_hostile s.cast s.rows p) (rows k p calm at)
+pub rows_plain : (s : Setting) → AllCalm s.cast → (journal : List Entry) → RowsStand s journal → PlainRows s journal
+rows_plain s calm journal rows k p still at = calm_row s.scene (wild_in (hostile_in s) s.rows) (told_by s.names) p (moved_in s journal) (none_hostile s.cast calm s.rows p) (rows k p still at)
 
-pub rows_told : (s : Setting) (journal : List Entry) → PlainRows s journal → RowsStand s journal
-rows_told s journal rows k p calm at = row_calm s.scene (wild_in (hostile_in s) s.rows) (told_by s.names) p (moved_in s journal) (none_hostile s.cast s.rows p) (rows k p calm at)
+pub rows_told : (s : Setting) → AllCalm s.cast → (journal : List Entry) → PlainRows s journal → RowsStand s journal
+rows_told s calm journal rows k p still at = row_calm s.scene (wild_in (hostile_in s) s.rows) (told_by s.names) p (moved_in s journal) (none_hostile s.cast calm s.rows p) (rows k p still at)
 
 -- so at each moment
-pub each_plain : (s : Setting) (journal : List Entry) → EachMoment (RowsStand s) journal → EachMoment (PlainRows s) journal
-each_plain s journal rows = each_moment (RowsStand s) (RowsStand s) (PlainRows s) (λ j a b. rows_plain s j a) journal rows rows
+pub each_plain : (s : Setting) → AllCalm s.cast → (journal : List Entry) → EachMoment (RowsStand s) journal → EachMoment (PlainRows s) journal
+each_plain s calm journal rows = each_moment (RowsStand s) (RowsStand s) (PlainRows s) (λ j a b. rows_plain s calm j a) journal rows rows
 
-pub wants_plain : (s : Setting) (p : Part) (m : Moved) → (sheet_in s p).wants m ≡ (sheet s.scene p).wants m
-wants_plain s p m = calm_wants s.scene (wild_in (hostile_in s) s.rows) (told_by s.names) p m (none_hostile s.cast s.rows p)
+pub wants_plain : (s : Setting) → AllCalm s.cast → (p : Part) (m : Moved) → (sheet_in s p).wants m ≡ (sheet s.scene p).wants m
+wants_plain s calm p m = calm_wants s.scene (wild_in (hostile_in s) s.rows) (told_by s.names) p m (none_hostile s.cast calm s.rows p)
