@@ -3,3 +3,5 @@ pub mod Places
 pub mod Spelling
 pub mod Answering
 pub mod Replying
+pub mod Owning
+pub mod Desking

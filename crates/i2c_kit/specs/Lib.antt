@@ -7,3 +7,5 @@ pub mod Devices
 pub mod Grants
 pub mod Replies
 pub mod Serving
+pub mod Owners
+pub mod Desks

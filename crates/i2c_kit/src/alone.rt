@@ -50,7 +50,7 @@ pub fn owner_after(taken: &[Request], address: u8) -> Option<u32>
 }
 
 // Whether no client but this has an address.
-fn is_free_for(owner: Option<u32>, client: u32) -> bool
+pub fn is_free_for(owner: Option<u32>, client: u32) -> bool
     ensures { result ≡ is_free_for owner client }
 {
     match owner {
@@ -60,7 +60,7 @@ fn is_free_for(owner: Option<u32>, client: u32) -> bool
 }
 
 // Whether this client has an address.
-fn is_owner(owner: Option<u32>, client: u32) -> bool
+pub fn is_owner(owner: Option<u32>, client: u32) -> bool
     ensures { result ≡ is_owner owner client }
 {
     match owner {

@@ -4,13 +4,16 @@
 #![tactic(auto)]
 
 mod alone;
+mod desk;
 mod device;
 mod devices;
 mod entries;
+mod owners;
 mod page;
 mod serving;
 
 pub use alone::{Request, granted_to, owner_after, replies_alone, replies_by};
+pub use desk::Desk;
 pub use device::Device;
 pub use devices::{answer, new_devices};
 pub use entries::{is_bus_request, is_own_request, is_reply_in, item_at, own_place, shared_place};
