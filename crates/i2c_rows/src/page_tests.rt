@@ -9,16 +9,28 @@ fn a_page_spells_the_request_that_was_written(rt: HostRuntime) -> Result<(), Fai
     let mut page = Page::new(rt.alloc(), PoolId(0), 0, BUFFER_BYTES as u32)?;
     assert!(rt; read_request(rt.alloc(), page.bytes())?.is_none());
     write_request(&mut page, &BusAsk::Claim(8));
-    assert!(rt; page.bytes()[..4] == [0, 8, 0, 0]);
-    assert!(rt; matches!(read_request(rt.alloc(), page.bytes())?, Some(BusAsk::Claim(8))));
+    assert!(rt; page.bytes().starts_with(&[0, 8, 0, 0]));
+    assert!(rt;
+        matches!(
+            read_request(rt.alloc(), page.bytes())?,
+            Some(BusAsk::Claim(8))
+        )
+    );
     write_request(&mut page, &BusAsk::Read(119, 32));
-    assert!(rt; matches!(read_request(rt.alloc(), page.bytes())?, Some(BusAsk::Read(119, 32))));
+    assert!(rt;
+        matches!(
+            read_request(rt.alloc(), page.bytes())?,
+            Some(BusAsk::Read(119, 32))
+        )
+    );
     let bytes = Bytes::from_slice(rt.alloc(), &[5, 0xaa, 0xbb])?;
     let write = BusAsk::Write(80, bytes);
     write_request(&mut page, &write);
-    assert!(rt; page.bytes()[..7] == [2, 80, 0, 3, 5, 0xaa, 0xbb]);
+    assert!(rt; page.bytes().starts_with(&[2, 80, 0, 3, 5, 0xaa, 0xbb]));
     match read_request(rt.alloc(), page.bytes())? {
-        Some(BusAsk::Write(80, bytes)) => assert!(rt; bytes.as_slice() == [5, 0xaa, 0xbb]),
+        Some(BusAsk::Write(80, bytes)) => assert!(rt;
+            bytes.as_slice() == [5, 0xaa, 0xbb].as_slice()
+        ),
         _ => assert!(rt; false),
     }
     Ok(())
@@ -48,7 +60,7 @@ fn a_reply_stands_in_the_page_of_its_request(rt: HostRuntime) -> Result<(), Fail
     let mut page = Page::new(rt.alloc(), PoolId(0), 0, BUFFER_BYTES as u32)?;
     write_request(&mut page, &BusAsk::Read(80, 2));
     write_answer(&mut page, BusStatus::Ok, &[0xaa, 0xbb]);
-    assert!(rt; page.bytes()[..6] == [1, 80, 0, 2, 0xaa, 0xbb]);
+    assert!(rt; page.bytes().starts_with(&[1, 80, 0, 2, 0xaa, 0xbb]));
     assert!(rt; read_status(page.bytes()) == Some(BusStatus::Ok));
     write_answer(&mut page, BusStatus::NoAck, &[]);
     assert!(rt; read_status(page.bytes()) == Some(BusStatus::NoAck));

@@ -59,7 +59,7 @@ fn only_the_first_claim_of_an_address_is_good(rt: HostRuntime) -> Result<(), Fai
         assert!(rt; is_reply(&replies, 1, BusStatus::Taken, &[]));
         assert!(rt; owner_after(&taken, 80) == Some(order[0]));
         assert!(rt; owner_after(&taken, 81).is_none());
-        assert!(rt; granted_to(alloc, order[0], &taken)?.as_slice() == [80, 80]);
+        assert!(rt; granted_to(alloc, order[0], &taken)?.as_slice() == [80, 80].as_slice());
         assert!(rt; granted_to(alloc, order[1], &taken)?.is_empty());
     }
     Ok(())
