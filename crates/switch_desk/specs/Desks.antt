@@ -3,7 +3,7 @@ use Rattle.std.specs.Prelude.{◌≡◌, ◌+◌, ◌<◌, ◌^◌, ◌==◌, �
 use Rattle.std.specs.Prelude.{is_none, is_some}
 use Rattle.std.specs.Prelude.{Option, Some, None, List, [], ◌∷◌, ◌++◌, length, map, drop, count_by}
 use Rattle.std.specs.Prelude.{slice_get, slice_set, slice_index_or, false, true}
-use Rattle.std.specs.List.{filter, filter_map}
+use Rattle.std.specs.List.{filter, filter_map, find}
 use Rattle.std.specs.Option.{ForSome, option_map, option_to_list}
 use Rattle.cargo_core.specs.declared.item.QueueKind.TheVariants as Kind
 use Rattle.cargo_core.specs.Items.{kind_of}
@@ -72,6 +72,10 @@ owes d sender port =
 abbrev pub owing_to : Desk → ℕ → List ℕ
 owing_to d port = filter (λ sender. owes d sender port) d.order
 
+-- the first of them
+abbrev pub first_owing : Desk → ℕ → Option ℕ
+first_owing d port = find (λ sender. owes d sender port) d.order
+
 -- what is owed to the port at a place
 abbrev pub owed_to : Desk → ℕ → List Sent
 owed_to d port =
@@ -88,7 +92,7 @@ is_returning d port = is_so is_copied (slice_get d.slots.items port)
 -- a copy is owed to the port at a place, and no buffer for one is in hand
 abbrev pub is_wanting : Desk → ℕ → Bool
 is_wanting d port = is_so (λ s. not (has_copy s)) (slice_get d.slots.items port)
-    && nat_lt 0 (length (owing_to d port))
+    && is_some (first_owing d port)
 
 -- a copy is to be put to the port at a place
 abbrev pub is_loaded : Desk → ℕ → Bool
@@ -108,7 +112,8 @@ pub record IsDesk (d : Desk) : Type 0 where
   pub each : (k : ℕ) (s : Slot) → slice_get d.slots.items k ≡ Some s
       → IsSlot (length d.macs.items) s
   pub order : AreOnce (length d.macs.items) d.order
-  pub copied : (port : ℕ) → is_loaded d port ≡ true → owing_to d port ≡ [] → ⊥
+  pub copied : (port : ℕ) → is_loaded d port ≡ true
+      → is_some (first_owing d port) ≡ true
 
 -- how it stands for what it took of all ports, one after another, the buffers that each port gave
 -- for its copies, the copies that went to each port, and the buffers that went back to each port:

@@ -1,12 +1,11 @@
 //! What a switch holds of all its ports.
 ghost use Rattle.std.specs.Prelude.{◌≡◌, ◌<◌, ◌^◌, [], ◌∷◌, ℕ, IfOk, Some, None, true, length};
-ghost use Rattle.std.specs.Prelude.{MatchOption, slice_get, List};
 ghost use Rattle.cargo_core.specs.Items.{kind_of};
 ghost use Rattle.cargo_core.specs.declared.item.QueueKind.TheVariants as Kind;
 ghost use Rattle.frame_core.specs.declared.mac.Mac.{Mac};
 ghost use Rattle.wire_core.specs.Deeds.{Cargo};
 ghost use Rattle.switch_desk.specs.Desks.{IsDesk, IsNewDesk, Moved, DeskStands, is_taking};
-ghost use Rattle.switch_desk.specs.Desks.{is_returning, is_wanting, is_loaded, owes, owing_to};
+ghost use Rattle.switch_desk.specs.Desks.{is_returning, is_wanting, is_loaded, owes, first_owing};
 ghost use Rattle.switch_desk.specs.Desks.{held_at, copy_at, with_copy, with_frame};
 
 use crate::order::Order;
@@ -147,15 +146,13 @@ impl Desk {
 
     // The port whose frame was taken first, of those that are owed to the port at a place.
     fn first_owing(&self, port: usize) -> Option<usize>
-        ensures { MatchOption result (owing_to self.now port ≡ [])
-            (λ s. (rest : List ℕ) × (owing_to self.now port ≡ s ∷ rest)) }
+        ensures { result ≡ first_owing self.now port }
     {
-        for sender in self.order.as_slice() {
-            if self.owes(*sender, port) {
-                return Some(*sender);
-            }
-        }
-        None
+        let senders = self.order.as_slice();
+        senders
+            .iter()
+            .find(|sender| self.owes(**sender, port))
+            .copied()
     }
 
     /// Whether a copy is owed to the port at a place, and no buffer for one is in hand.
