@@ -4,6 +4,8 @@
 
 mod address;
 mod line;
+#[cfg(test)]
+mod port_tests;
 mod ports;
 mod read;
 mod reader;
