@@ -41,15 +41,39 @@ none-of : (b : ℕ) → (b == 38) ≡ false → (b == 60) ≡ false → (b == 62
 none-of b h1 h2 h3 h4 h5 h6 h7 h8 = rw (h1, h2, h3, h4, h5, h6, h7, h8) refl
 
 sort-of : (b : ℕ) → Sort b
-sort-of b = elim (cases_Bool (b == 38)) [ inl e ↦ amp (eqb-true b 38 e) | inr e1 ↦
-    elim (cases_Bool (b == 60)) [ inl e ↦ lt (eqb-true b 60 e) | inr e2 ↦
-    elim (cases_Bool (b == 62)) [ inl e ↦ gt (eqb-true b 62 e) | inr e3 ↦
-    elim (cases_Bool (b == 34)) [ inl e ↦ quot (eqb-true b 34 e) | inr e4 ↦
-    elim (cases_Bool (b == 39)) [ inl e ↦ apos (eqb-true b 39 e) | inr e5 ↦
-    elim (cases_Bool (b == 9)) [ inl e ↦ tab (eqb-true b 9 e) | inr e6 ↦
-    elim (cases_Bool (b == 10)) [ inl e ↦ line (eqb-true b 10 e) | inr e7 ↦
-    elim (cases_Bool (b == 13)) [ inl e ↦ back (eqb-true b 13 e) | inr e8 ↦
-    plain (none-of b e1 e2 e3 e4 e5 e6 e7 e8) ] ] ] ] ] ] ] ]
+sort-of b = elim (cases_Bool (b == 38)) [
+  | inl e ↦ amp (eqb-true b 38 e)
+  | inr e1 ↦
+      elim (cases_Bool (b == 60)) [
+        | inl e ↦ lt (eqb-true b 60 e)
+        | inr e2 ↦
+            elim (cases_Bool (b == 62)) [
+              | inl e ↦ gt (eqb-true b 62 e)
+              | inr e3 ↦
+                  elim (cases_Bool (b == 34)) [
+                    | inl e ↦ quot (eqb-true b 34 e)
+                    | inr e4 ↦
+                        elim (cases_Bool (b == 39)) [
+                          | inl e ↦ apos (eqb-true b 39 e)
+                          | inr e5 ↦
+                              elim (cases_Bool (b == 9)) [
+                                | inl e ↦ tab (eqb-true b 9 e)
+                                | inr e6 ↦
+                                    elim (cases_Bool (b == 10)) [
+                                      | inl e ↦ line (eqb-true b 10 e)
+                                      | inr e7 ↦
+                                          elim (cases_Bool (b == 13)) [
+                                            | inl e ↦ back (eqb-true b 13 e)
+                                            | inr e8 ↦
+                                                plain (none-of b e1 e2 e3 e4 e5 e6 e7 e8)
+                                          ]
+                                    ]
+                              ]
+                        ]
+                  ]
+            ]
+      ]
+]
 
 -- a reader in a value takes the byte of what is written of it
 abbrev TakesByte : List Tag → Head → List ℕ → List ℕ → List ℕ → ℕ → Type 0

@@ -1,0 +1,5 @@
+mod ElementLemmas
+mod NumberLemmas
+mod NameLemmas
+mod FieldLemmas
+mod FileLemmas

@@ -1,0 +1,75 @@
+//! What the words and the description decide, one function for each stage.
+ghost use Rattle.std.specs.Prelude.{◌≡◌, IfOk, IfErr, ℕ, List};
+ghost use Rattle.sdf_plan.specs.declared.place.Refusal.{Refusal};
+ghost use Rattle.command_words.specs.Words.{texts_of};
+ghost use Rattle.shelf_core.specs.Reading.{WasRead};
+ghost use Rattle.shelf_core.specs.Shelves.{ReadsFrom};
+ghost use Rattle.view_core.specs.Codes.{code_of};
+ghost use Rattle.view_core.specs.Deciding.{Decision, Refuse, decision_of, TextShows, Decides};
+ghost use Rattle.view_core.specs.Lines.{refused_line};
+ghost use Rattle.view_core.specs.Words.{Spells};
+ghost use Rattle.view_core.specs.Opening.{OpensFor, LeavesAny};
+
+use crate::answer::Answer;
+use crate::ask::{View, read_words};
+use crate::drawing::draw;
+use crate::ended::Ended;
+use crate::judging::judge;
+use crate::line::{write_refused, write_too_long, write_usage};
+use cargo_core::Memory;
+use sdf_model::TEXT_MOST;
+use sdf_plan::SdfFault;
+use shelf_core::{ReadStop, Shelf, read_text};
+use std::alloc::Global;
+
+// A description isn't accepted.
+fn refuse(alloc: Global, fault: SdfFault) -> Result<Answer, Memory>
+    ensures { IfOk result (λ answer. (refusal : Refusal) × (fault ≡ SdfFault.Refused refusal)
+        × (decision_of answer
+        ≡ Refuse (Ended.Refused refusal.rule) (refused_line refusal))) }
+{
+    match fault {
+        SdfFault::Refused(refusal) => {
+            let line = write_refused(alloc, &refusal)?;
+            Ok(Answer::Refuse(Ended::Refused(refusal.rule), line))
+        }
+        SdfFault::Memory(memory) => Err(memory),
+    }
+}
+
+// What is decided for the bytes of a description.
+fn decide_text(alloc: Global, view: View, text: &[u8]) -> Result<Answer, Memory>
+    ensures { IfOk result (λ answer. TextShows view text.now (decision_of answer)) }
+{
+    if text.len() > TEXT_MOST {
+        let line = write_too_long(alloc)?;
+        return Ok(Answer::Refuse(Ended::TooLong, line));
+    }
+    match judge(alloc, text) {
+        Ok(plan) => draw(alloc, view, &plan),
+        Err(fault) => refuse(alloc, fault),
+    }
+}
+
+/// What the words decide. The whole text is made before any of it is written.
+pub fn decide_view<F: Shelf>(
+    alloc: Global,
+    words: &[String],
+    shelf: &mut F,
+) -> Result<Answer, ReadStop>
+    ensures decides { IfOk result (λ answer. Decides (WasRead (F.text shelf.old))
+        (texts_of words.now) (decision_of answer)) }
+    ensures reads { ReadsFrom F.text F.left F.opens F.faults F.failed
+        (OpensFor (texts_of words.now)) LeavesAny shelf.old shelf.new result }
+{
+    match read_words(words) {
+        Ok(view) => {
+            let text = read_text(alloc, shelf, words[1].as_str())?;
+            Ok(decide_text(alloc, view, text.as_slice())?)
+        }
+        Err(k) => {
+            let line = write_usage(alloc, k)?;
+            Ok(Answer::Refuse(Ended::Usage(k), line))
+        }
+    }
+}

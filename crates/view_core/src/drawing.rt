@@ -1,0 +1,43 @@
+//! What is shown of a description that is accepted.
+ghost use Rattle.std.specs.Prelude.{◌≡◌, IfOk};
+ghost use Rattle.sdf_plan.specs.Elements.{IsNumbered};
+ghost use Rattle.sdf_check.specs.Valid.{Valid};
+ghost use Rattle.region_layout.specs.Layouts.{layout_of};
+ghost use Rattle.config_text.specs.Config.{config_text};
+ghost use Rattle.view_core.specs.Deciding.{decision_of, PlanShows};
+
+use crate::answer::Answer;
+use crate::ask::View;
+use crate::ended::Ended;
+use crate::line::write_no_identifier;
+use cargo_core::{Bytes, Memory};
+use config_text::write_config;
+use export_text::{first_bad_symbol, write_system};
+use region_layout::lay_out;
+use sdf_plan::Plan;
+use std::alloc::Global;
+
+// The header of a plan.
+fn write_header(alloc: Global, plan: &Plan) -> Result<Bytes, Memory>
+    requires { Valid plan.now }
+    ensures { IfOk result (λ text. text ≡ config_text plan.now (layout_of plan.now)) }
+{
+    let layout = lay_out(alloc, plan)?;
+    write_config(alloc, plan, &layout)
+}
+
+/// What is shown of a plan that is accepted, or that it names a variable as no program in C can.
+pub fn draw(alloc: Global, view: View, plan: &Plan) -> Result<Answer, Memory>
+    requires valid { Valid plan.now }
+    requires numbered { IsNumbered plan.now }
+    ensures { IfOk result (λ answer. PlanShows plan.now view (decision_of answer)) }
+{
+    if let Some(place) = first_bad_symbol(plan) {
+        let line = write_no_identifier(alloc, place)?;
+        return Ok(Answer::Refuse(Ended::NoIdentifier, line));
+    }
+    match view {
+        View::System => Ok(Answer::Show(write_system(alloc, plan)?)),
+        View::Config => Ok(Answer::Show(write_header(alloc, plan)?)),
+    }
+}
