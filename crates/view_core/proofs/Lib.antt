@@ -1,1 +1,3 @@
+mod DecisionLemmas
+mod ViewLemmas
 mod WordLemmas

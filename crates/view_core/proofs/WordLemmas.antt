@@ -1,4 +1,4 @@
-use Rattle.std.proofs.Common.{◌≡◌, ◌⊎◌, inl, inr, ◌+◌, ◌<◌, ◌≤◌, ℕ, Some, None, List, [], ◌∷◌, ◌++◌, length, take, codes, slice_get, refl, sym, ap, ◌∙◌, arith}
+use Rattle.std.proofs.Common.{◌≡◌, ◌⊎◌, inl, inr, ◌+◌, ◌<◌, ◌≤◌, ℕ, Some, None, List, [], ◌∷◌, ◌++◌, length, take, codes, slice_get, refl, sym, ap, ◌∙◌, subst, arith}
 use Rattle.command_words.specs.Words.{IsName}
 use Rattle.view_core.specs.declared.ask.View.{View}
 use Rattle.view_core.specs.declared.ask.View.TheVariants as Of
@@ -115,5 +115,20 @@ asks-config (a ∷ b ∷ []) is named config few = absurd (cc config)
 asks-config (a ∷ b ∷ c ∷ []) is named config few =
     (b, record { words_are = cc (is, config); named = let same : named.0 ≡ b = cc named.1 in rw same at named.2 })
 asks-config (a ∷ b ∷ c ∷ d ∷ rest) is named config few = absurd (omega (arith, few))
+
+-- words that ask for something are two at least
+pub two-words : (words : List (List ℕ)) (view : View) → Spells words view → 1 < length words
+two-words words view s = (let f = shape words view s in rw f.words_are (omega arith))
+
+-- the second of them names the description
+pub second-named : (words : List (List ℕ)) (view : View) (w : List ℕ) → Spells words view → slice_get words 1 ≡ Some w → AsksFor words w view
+second-named words Of.System w s at =
+    let there : slice_get words 1 ≡ Some s.0 = rw s.1.words_are refl in
+    let same : s.0 ≡ w = cc in
+    subst (λ x. AsksFor words x Of.System) same s.1
+second-named words Of.Config w s at =
+    let there : slice_get words 1 ≡ Some s.0 = rw s.1.words_are refl in
+    let same : s.0 ≡ w = cc in
+    subst (λ x. AsksFor words x Of.Config) same s.1
 
 pub ruleset word_lemmas = (bad-first, bad-second, bad-third, bad-fourth, asks-system, asks-config)

@@ -18,6 +18,11 @@ pub data IsTold {K : Type 0} (written : K → Option (List ℕ)) (faults : K →
       → FailsLast (faults old) (faults new) (failed new)
       → IsTold written faults failed old new text ended End.WriteFault
 
+-- how a call ends that writes an answer: as the answer says, or by a fault of writing
+abbrev pub EndsFor : Decision → Ended → Type 0
+EndsFor (Show text) ended = (ended ≡ End.Ok) ⊎ (ended ≡ End.WriteFault)
+EndsFor (Refuse why line) ended = (ended ≡ why) ⊎ (ended ≡ End.WriteFault)
+
 -- what became of the answer: what is shown was written to the first sink and nothing to the second,
 -- or the line of a refusal to the second and nothing to the first; after a fault of reading and
 -- want of memory nothing was written to either

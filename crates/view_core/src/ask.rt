@@ -1,5 +1,5 @@
 //! The words of the program: what they ask for, or which of them is the first bad one.
-ghost use Rattle.std.specs.Prelude.{◌≡◌, ◌↔◌, IsTrue, IfOk, IfErr, Some, length, slice_get};
+ghost use Rattle.std.specs.Prelude.{◌≡◌, ◌↔◌, ◌<◌, IsTrue, IfOk, IfErr, Some, length, slice_get};
 ghost use Rattle.command_words.specs.Words.{texts_of, IsName};
 ghost use Rattle.view_core.specs.Words.{Spells, IsBadWord, IsNameAt};
 
@@ -64,4 +64,12 @@ pub fn read_words(words: &[String]) -> Result<View, u32>
         return Err(3);
     }
     Ok(View::Config)
+}
+
+/// The word that names the description.
+pub fn name_of(words: &[String]) -> &str
+    requires { 1 < length (texts_of words.now) }
+    ensures { slice_get (texts_of words.now) 1 ≡ Some result.now }
+{
+    words[1].as_str()
 }

@@ -1,17 +1,15 @@
 //! What the words and the description decide, one function for each stage.
-ghost use Rattle.std.specs.Prelude.{◌≡◌, IfOk, IfErr, ℕ, List};
+ghost use Rattle.std.specs.Prelude.{◌≡◌, IfOk, ℕ, List};
 ghost use Rattle.sdf_plan.specs.declared.place.Refusal.{Refusal};
 ghost use Rattle.command_words.specs.Words.{texts_of};
 ghost use Rattle.shelf_core.specs.Reading.{WasRead};
-ghost use Rattle.shelf_core.specs.Shelves.{ReadsFrom};
-ghost use Rattle.view_core.specs.Codes.{code_of};
-ghost use Rattle.view_core.specs.Deciding.{Decision, Refuse, decision_of, TextShows, Decides};
-ghost use Rattle.view_core.specs.Lines.{refused_line};
-ghost use Rattle.view_core.specs.Words.{Spells};
+ghost use Rattle.shelf_core.specs.Shelves.{ReadsFrom, Opens};
+ghost use Rattle.view_core.specs.Deciding.{Refuse, decision_of, TextShows, Decides};
+ghost use Rattle.view_core.specs.Lines.{refused_line, long_line, usage_line};
 ghost use Rattle.view_core.specs.Opening.{OpensFor, LeavesAny};
 
 use crate::answer::Answer;
-use crate::ask::{View, read_words};
+use crate::ask::{View, name_of, read_words};
 use crate::drawing::draw;
 use crate::ended::Ended;
 use crate::judging::judge;
@@ -37,18 +35,50 @@ fn refuse(alloc: Global, fault: SdfFault) -> Result<Answer, Memory>
     }
 }
 
+// A description is too long.
+fn refuse_long(alloc: Global) -> Result<Answer, Memory>
+    ensures { IfOk result (λ answer. decision_of answer ≡ Refuse Ended.TooLong long_line) }
+{
+    let line = write_too_long(alloc)?;
+    Ok(Answer::Refuse(Ended::TooLong, line))
+}
+
+// The words ask for nothing.
+fn refuse_words(alloc: Global, k: u32) -> Result<Answer, Memory>
+    ensures { IfOk result (λ answer. decision_of answer
+        ≡ Refuse (Ended.Usage k) (usage_line k)) }
+{
+    let line = write_usage(alloc, k)?;
+    Ok(Answer::Refuse(Ended::Usage(k), line))
+}
+
 // What is decided for the bytes of a description.
 fn decide_text(alloc: Global, view: View, text: &[u8]) -> Result<Answer, Memory>
     ensures { IfOk result (λ answer. TextShows view text.now (decision_of answer)) }
 {
     if text.len() > TEXT_MOST {
-        let line = write_too_long(alloc)?;
-        return Ok(Answer::Refuse(Ended::TooLong, line));
+        return refuse_long(alloc);
     }
     match judge(alloc, text) {
         Ok(plan) => draw(alloc, view, &plan),
         Err(fault) => refuse(alloc, fault),
     }
+}
+
+// What is decided for the description of a name.
+fn decide_named<F: Shelf>(
+    alloc: Global,
+    view: View,
+    name: &str,
+    shelf: &mut F,
+) -> Result<Answer, ReadStop>
+    ensures decides { IfOk result (λ answer. (bytes : List ℕ)
+        × WasRead (F.text shelf.old) name.now bytes × TextShows view bytes (decision_of answer)) }
+    ensures reads { ReadsFrom F.text F.left F.opens F.faults F.failed (Opens name.now) LeavesAny
+        shelf.old shelf.new result }
+{
+    let text = read_text(alloc, shelf, name)?;
+    Ok(decide_text(alloc, view, text.as_slice())?)
 }
 
 /// What the words decide. The whole text is made before any of it is written.
@@ -63,13 +93,7 @@ pub fn decide_view<F: Shelf>(
         (OpensFor (texts_of words.now)) LeavesAny shelf.old shelf.new result }
 {
     match read_words(words) {
-        Ok(view) => {
-            let text = read_text(alloc, shelf, words[1].as_str())?;
-            Ok(decide_text(alloc, view, text.as_slice())?)
-        }
-        Err(k) => {
-            let line = write_usage(alloc, k)?;
-            Ok(Answer::Refuse(Ended::Usage(k), line))
-        }
+        Ok(view) => decide_named(alloc, view, name_of(words), shelf),
+        Err(k) => Ok(refuse_words(alloc, k)?),
     }
 }

@@ -4,7 +4,8 @@ ghost use Rattle.sdf_plan.specs.Elements.{IsNumbered};
 ghost use Rattle.sdf_check.specs.Valid.{Valid};
 ghost use Rattle.region_layout.specs.Layouts.{layout_of};
 ghost use Rattle.config_text.specs.Config.{config_text};
-ghost use Rattle.view_core.specs.Deciding.{decision_of, PlanShows};
+ghost use Rattle.view_core.specs.Deciding.{Show, Refuse, decision_of, view_text, PlanShows};
+ghost use Rattle.view_core.specs.Lines.{identifier_line};
 
 use crate::answer::Answer;
 use crate::ask::View;
@@ -14,7 +15,7 @@ use cargo_core::{Bytes, Memory};
 use config_text::write_config;
 use export_text::{first_bad_symbol, write_system};
 use region_layout::lay_out;
-use sdf_plan::Plan;
+use sdf_plan::{Place, Plan};
 use std::alloc::Global;
 
 // The header of a plan.
@@ -26,18 +27,34 @@ fn write_header(alloc: Global, plan: &Plan) -> Result<Bytes, Memory>
     write_config(alloc, plan, &layout)
 }
 
+// That a plan names a variable as no program in C can.
+fn refuse_name(alloc: Global, place: Place) -> Result<Answer, Memory>
+    ensures { IfOk result (λ answer. decision_of answer
+        ≡ Refuse Ended.NoIdentifier (identifier_line place)) }
+{
+    let line = write_no_identifier(alloc, place)?;
+    Ok(Answer::Refuse(Ended::NoIdentifier, line))
+}
+
+// What a view shows of a plan.
+fn show(alloc: Global, view: View, plan: &Plan) -> Result<Answer, Memory>
+    requires { Valid plan.now }
+    ensures { IfOk result (λ answer. decision_of answer ≡ Show (view_text plan.now view)) }
+{
+    match view {
+        View::System => Ok(Answer::Show(write_system(alloc, plan)?)),
+        View::Config => Ok(Answer::Show(write_header(alloc, plan)?)),
+    }
+}
+
 /// What is shown of a plan that is accepted, or that it names a variable as no program in C can.
 pub fn draw(alloc: Global, view: View, plan: &Plan) -> Result<Answer, Memory>
     requires valid { Valid plan.now }
     requires numbered { IsNumbered plan.now }
     ensures { IfOk result (λ answer. PlanShows plan.now view (decision_of answer)) }
 {
-    if let Some(place) = first_bad_symbol(plan) {
-        let line = write_no_identifier(alloc, place)?;
-        return Ok(Answer::Refuse(Ended::NoIdentifier, line));
-    }
-    match view {
-        View::System => Ok(Answer::Show(write_system(alloc, plan)?)),
-        View::Config => Ok(Answer::Show(write_header(alloc, plan)?)),
+    match first_bad_symbol(plan) {
+        Some(place) => refuse_name(alloc, place),
+        None => show(alloc, view, plan),
     }
 }

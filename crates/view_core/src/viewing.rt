@@ -1,7 +1,8 @@
 //! The program as one call: the answer is made whole, and then written.
-ghost use Rattle.std.specs.Prelude.{◌≡◌};
+ghost use Rattle.std.specs.Prelude.{ℕ, List};
 ghost use Rattle.command_words.specs.Words.{texts_of};
-ghost use Rattle.view_core.specs.Viewed.{IsViewed, IsTold};
+ghost use Rattle.view_core.specs.Deciding.{Decides, decision_of};
+ghost use Rattle.view_core.specs.Viewed.{IsViewed, IsTold, Views, EndsFor};
 
 use crate::answer::Answer;
 use crate::deciding::decide_view;
@@ -16,6 +17,20 @@ fn write_to<K: Sink>(sink: &mut K, text: &[u8], ended: Ended) -> Ended
     match write_text(sink, text) {
         Ok(()) => ended,
         Err(_) => Ended::WriteFault,
+    }
+}
+
+// Writes an answer to the sink that it goes to, and answers the status.
+fn write_answer<K: Sink, E: Sink>(answer: Answer, out: &mut K, err: &mut E) -> Ended
+    ensures views { (reads : List ℕ → List ℕ → Type 0) (words : List (List ℕ))
+        → Decides reads words (decision_of answer)
+        → Views K.written K.faults K.failed E.written E.faults E.failed reads words
+        out.old out.new err.old err.new result }
+    ensures ends { EndsFor (decision_of answer) result }
+{
+    match answer {
+        Answer::Show(text) => write_to(out, text.as_slice(), Ended::Ok),
+        Answer::Refuse(ended, line) => write_to(err, line.as_bytes(), ended),
     }
 }
 
@@ -36,8 +51,7 @@ pub fn view<F: Shelf, K: Sink, E: Sink>(
         out.old out.new err.old err.new result }
 {
     match decide_view(alloc, words, shelf) {
-        Ok(Answer::Show(text)) => write_to(out, text.as_slice(), Ended::Ok),
-        Ok(Answer::Refuse(ended, line)) => write_to(err, line.as_str().as_bytes(), ended),
+        Ok(answer) => write_answer(answer, out, err),
         Err(ReadStop::Failed) => Ended::ReadFault,
         Err(ReadStop::Memory(memory)) => Ended::Memory(memory),
     }
