@@ -1,6 +1,6 @@
 -- Which names of variables can be exported: the identifiers of C.
-use Rattle.std.specs.Prelude.{ℕ, ◌+◌, ◌==◌, ◌&&◌, ◌||◌, not, nat_lt, Bool, true, false, Option, Some}
-use Rattle.std.specs.Prelude.{None, List, [], ◌∷◌, if◌then◌else◌}
+use Rattle.std.specs.Prelude.{ℕ, ◌+◌, ◌==◌, ◌&&◌, ◌||◌, not, nat_lt, Bool, true, false, Option}
+use Rattle.std.specs.Prelude.{Some, None, List, [], ◌∷◌, if◌then◌else◌}
 use Rattle.std.specs.List.{list_all}
 use Rattle.sdf_plan.specs.declared.place.Place.{Place}
 use Rattle.sdf_plan.specs.declared.place.Place.TheVariants as At
@@ -12,7 +12,8 @@ use Rattle.xml_text.specs.Reading.{is_from_to, is_name_byte}
 -- whether a text is an identifier of C: letters, digits and `_`, and no digit in front
 abbrev pub is_identifier : List ℕ → Bool
 is_identifier [] = false
-is_identifier (b ∷ rest) = not (is_from_to 48 57 b) && (is_name_byte b && list_all is_name_byte rest)
+is_identifier (b ∷ rest) =
+    not (is_from_to 48 57 b) && (is_name_byte b && list_all is_name_byte rest)
 
 -- whether the name of a map's variable is one, or there is none
 abbrev pub is_symbol : Option (List ℕ) → Bool

@@ -1,5 +1,5 @@
--- The words (Words), the status codes (Codes), the lines of refusals (Lines), which descriptions are
--- accepted (Judged), what is decided (Deciding), which texts are opened (Opening), and what becomes
+-- The words (Words), the status codes (Codes), the lines of refusals (Lines), which descriptions
+-- are accepted (Judged), what is decided (Deciding), which texts are opened (Opening), and what becomes
 -- of the answer (Viewed).
 pub mod Codes
 pub mod Deciding
