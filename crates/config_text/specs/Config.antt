@@ -17,7 +17,7 @@ use Rattle.sdf_plan.specs.declared.plan.Blk.{Blk}
 use Rattle.sdf_plan.specs.declared.plan.BlkClient.{BlkClient}
 use Rattle.wire_core.specs.declared.names.QueueRow.{QueueRow}
 use Rattle.wire_core.specs.declared.names.PoolRow.{PoolRow}
-use Rattle.region_layout.specs.declared.layout.Layout.{Layout}
+use Rattle.config_text.specs.declared.config.Rows.{Rows}
 use Rattle.config_text.specs.Code.{code}
 use Rattle.config_text.specs.Lines.{constant_of, definition, hex_value, each_numbered, if_there}
 
@@ -143,15 +143,35 @@ beginning =
 abbrev pub ending : List ℕ
 ending = codes "#endif\n"
 
--- the header: the classes, the actors, the regions, the pools, the queues, and what each domain
--- knows of maps, interrupts and channels
-unfoldable pub config_text : Plan → Layout → List ℕ
+-- the rows of a layout: its actors, its pools and its queues
+pub record HeaderRows : Type 0 where
+  pub actors : List (List ℕ)
+  pub pools : List PoolRow
+  pub queues : List QueueRow
+
+-- the rows that the program has behind references
+abbrev pub rows_shown : Rows → HeaderRows
+rows_shown rows = record {
+  actors = rows.actors.now;
+  pools = rows.pools.now;
+  queues = rows.queues.now;
+}
+
+-- the actors, the regions, the pools and the queues
+abbrev pub rows_text : List Region → HeaderRows → List ℕ
+rows_text regions layout =
+    each_numbered actor_text 0 layout.actors
+    ++ (each_numbered region_text 0 regions
+    ++ (each_numbered pool_text 0 layout.pools ++ each_numbered queue_text 0 layout.queues))
+
+-- what each domain knows of maps, interrupts and channels
+abbrev pub ids_text : Plan → List ℕ
+ids_text plan =
+    each_numbered domain_text 0 plan.protection_domain ++ each_numbered channel_text 0 plan.channel
+
+-- the header
+unfoldable pub config_text : Plan → HeaderRows → List ℕ
 config_text plan layout =
     beginning
     ++ (classes_text plan
-    ++ (each_numbered actor_text 0 layout.actors
-    ++ (each_numbered region_text 0 plan.memory_region
-    ++ (each_numbered pool_text 0 layout.pools
-    ++ (each_numbered queue_text 0 layout.queues
-    ++ (each_numbered domain_text 0 plan.protection_domain
-    ++ (each_numbered channel_text 0 plan.channel ++ ending)))))))
+    ++ (rows_text plan.memory_region layout ++ (ids_text plan ++ ending)))

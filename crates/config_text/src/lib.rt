@@ -11,5 +11,5 @@ mod line;
 mod row;
 
 pub use code::push_code;
-pub use config::write_config;
+pub use config::{Rows, write_config};
 pub use law::code_law;

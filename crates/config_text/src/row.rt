@@ -6,9 +6,9 @@ ghost use Rattle.config_text.specs.Config.{kind_number, decimal_of, hex_of};
 
 use crate::line::{Thing, push_decimal, push_hex};
 use cargo_core::{Bytes, Memory, QueueKind, Text};
-use region_layout::{PoolRow, QueueRow};
 use sdf_plan::Region;
 use std::alloc::Global;
+use wire_core::{PoolRow, QueueRow};
 
 // Appends an address where there is one.
 fn push_hex_if(

@@ -7,7 +7,8 @@ use Rattle.sdf_model.specs.Counts.{text_most}
 use Rattle.region_layout.specs.Layouts.{layout_of}
 use Rattle.export_text.specs.System.{system_text}
 use Rattle.export_text.specs.Symbols.{bad_symbol}
-use Rattle.config_text.specs.Config.{config_text}
+use Rattle.region_layout.specs.declared.layout.Layout.{Layout}
+use Rattle.config_text.specs.Config.{config_text, HeaderRows}
 use Rattle.view_core.specs.declared.answer.Answer.{Answer}
 use Rattle.view_core.specs.declared.answer.Answer.TheVariants as Is
 use Rattle.view_core.specs.declared.ended.Ended.{Ended}
@@ -28,10 +29,18 @@ abbrev pub decision_of : Answer → Decision
 decision_of (Is.Show text) = Show text
 decision_of (Is.Refuse ended line) = Refuse ended (string_bytes line)
 
+-- the rows of a layout
+abbrev pub rows_of : Layout → HeaderRows
+rows_of layout = record {
+  actors = layout.actors;
+  pools = layout.pools;
+  queues = layout.queues;
+}
+
 -- what a view shows of a plan: the system file, or the header for its layout
 abbrev pub view_text : Plan → View → List ℕ
 view_text plan Of.System = system_text plan
-view_text plan Of.Config = config_text plan (layout_of plan)
+view_text plan Of.Config = config_text plan (rows_of (layout_of plan))
 
 -- what is decided for the plan of a description that is accepted
 pub data PlanShows (plan : Plan) (view : View) : Decision → Type 0 where

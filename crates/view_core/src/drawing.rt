@@ -4,7 +4,7 @@ ghost use Rattle.sdf_plan.specs.Elements.{IsNumbered};
 ghost use Rattle.sdf_check.specs.Valid.{Valid};
 ghost use Rattle.region_layout.specs.Layouts.{layout_of};
 ghost use Rattle.config_text.specs.Config.{config_text};
-ghost use Rattle.view_core.specs.Deciding.{Show, Refuse, decision_of, view_text, PlanShows};
+ghost use Rattle.view_core.specs.Deciding.{Show, Refuse, decision_of, view_text, rows_of, PlanShows};
 ghost use Rattle.view_core.specs.Lines.{identifier_line};
 
 use crate::answer::Answer;
@@ -12,7 +12,7 @@ use crate::ask::View;
 use crate::ended::Ended;
 use crate::line::write_no_identifier;
 use cargo_core::{Bytes, Memory};
-use config_text::write_config;
+use config_text::{Rows, write_config};
 use export_text::{first_bad_symbol, write_system};
 use region_layout::lay_out;
 use sdf_plan::{Place, Plan};
@@ -21,10 +21,15 @@ use std::alloc::Global;
 // The header of a plan.
 fn write_header(alloc: Global, plan: &Plan) -> Result<Bytes, Memory>
     requires { Valid plan.now }
-    ensures { IfOk result (λ text. text ≡ config_text plan.now (layout_of plan.now)) }
+    ensures { IfOk result (λ text. text ≡ config_text plan.now (rows_of (layout_of plan.now))) }
 {
     let layout = lay_out(alloc, plan)?;
-    write_config(alloc, plan, &layout)
+    let rows = Rows {
+        actors: layout.actors(),
+        pools: layout.pools(),
+        queues: layout.queues(),
+    };
+    write_config(alloc, plan, &rows)
 }
 
 // That a plan names a variable as no program in C can.
