@@ -18,14 +18,15 @@ use Rattle.sdf_plan.specs.declared.plan.BlkClient.{BlkClient}
 use Rattle.wire_core.specs.declared.names.QueueRow.{QueueRow}
 use Rattle.wire_core.specs.declared.names.PoolRow.{PoolRow}
 use Rattle.config_text.specs.declared.config.Rows.{Rows}
+use Rattle.config_text.specs.declared.config.TheConstants.{BEGINNING}
 use Rattle.config_text.specs.Code.{code}
 use Rattle.config_text.specs.Lines.{constant_of, definition, hex_value, each_numbered, if_there}
 
 -- a decimal constant and a hexadecimal one, of one thing
-abbrev pub decimal_of : List ℕ → List ℕ → List ℕ → ℕ → List ℕ
+unfoldable pub decimal_of : List ℕ → List ℕ → List ℕ → ℕ → List ℕ
 decimal_of kind name rest n = definition (constant_of kind name rest) (decimal n)
 
-abbrev pub hex_of : List ℕ → List ℕ → List ℕ → ℕ → List ℕ
+unfoldable pub hex_of : List ℕ → List ℕ → List ℕ → ℕ → List ℕ
 hex_of kind name rest n = definition (constant_of kind name rest) (hex_value n)
 
 -- a region: its number, its size, and its physical address where it is given
@@ -101,7 +102,7 @@ abbrev pub channel_text : ℕ → Channel → List ℕ
 channel_text n channel = ends_text n channel.end
 
 -- a constant of a class
-abbrev pub class_number : List ℕ → ℕ → List ℕ
+unfoldable pub class_number : List ℕ → ℕ → List ℕ
 class_number constant n = definition constant (decimal n)
 
 -- the network class: how many clients it has, and how long a frame is at most
@@ -130,14 +131,6 @@ abbrev pub classes_text : Plan → List ℕ
 classes_text plan =
     option_map_or net_text plan.net []
     ++ (option_map_or serial_text plan.serial [] ++ option_map_or blk_text plan.blk [])
-
--- what the header begins with: what it is, a guard, and the kinds of queues
-abbrev pub beginning : List ℕ
-beginning =
-    codes "/* What this system has beside the Microkit's system file. */\n"
-    ++ (codes "#ifndef SDDF_CONFIG_H\n#define SDDF_CONFIG_H\n"
-    ++ (codes "#define SDDF_KIND_NET 0\n#define SDDF_KIND_BYTE 1\n"
-    ++ codes "#define SDDF_KIND_REQ 2\n#define SDDF_KIND_RESP 3\n"))
 
 -- what it ends with
 abbrev pub ending : List ℕ
@@ -172,6 +165,6 @@ ids_text plan =
 -- the header
 unfoldable pub config_text : Plan → HeaderRows → List ℕ
 config_text plan layout =
-    beginning
+    BEGINNING.now
     ++ (classes_text plan
     ++ (rows_text plan.memory_region layout ++ (ids_text plan ++ ending)))

@@ -1,6 +1,6 @@
 //! The header of a plan.
 ghost use Rattle.std.specs.Prelude.{◌≡◌, ◌++◌, IfOk, OnOk};
-ghost use Rattle.config_text.specs.Config.{beginning, rows_text, ids_text, config_text, rows_shown};
+ghost use Rattle.config_text.specs.Config.{rows_text, ids_text, config_text, rows_shown};
 
 use crate::class::push_classes;
 use crate::domain::{push_channels, push_domains};
@@ -21,15 +21,15 @@ pub struct Rows<'a> {
     pub queues: &'a [QueueRow],
 }
 
-// Appends what the header begins with: what it is, a guard, and the kinds of queues.
-fn push_beginning(to: &mut Bytes) -> Result<(), Memory>
-    ensures { OnOk result (to.new ≡ to.old ++ beginning) }
-{
-    to.extend_from_slice(b"/* What this system has beside the Microkit's system file. */\n")?;
-    to.extend_from_slice(b"#ifndef SDDF_CONFIG_H\n#define SDDF_CONFIG_H\n")?;
-    to.extend_from_slice(b"#define SDDF_KIND_NET 0\n#define SDDF_KIND_BYTE 1\n")?;
-    to.extend_from_slice(b"#define SDDF_KIND_REQ 2\n#define SDDF_KIND_RESP 3\n")
-}
+/// What the header begins with: what it is, a guard, and the kinds of queues.
+const BEGINNING: &str = r#"/* What this system has beside the Microkit's system file. */
+#ifndef SDDF_CONFIG_H
+#define SDDF_CONFIG_H
+#define SDDF_KIND_NET 0
+#define SDDF_KIND_BYTE 1
+#define SDDF_KIND_REQ 2
+#define SDDF_KIND_RESP 3
+"#;
 
 // Appends the actors, the regions, the pools and the queues.
 fn push_rows(
@@ -62,8 +62,7 @@ fn push_ids(alloc: Global, to: &mut Bytes, plan: &Plan) -> Result<(), Memory>
 pub fn write_config(alloc: Global, plan: &Plan, rows: &Rows<'_>) -> Result<Bytes, Memory>
     ensures { IfOk result (λ text. text ≡ config_text plan.now (rows_shown rows.now)) }
 {
-    let mut text = Bytes::new(alloc);
-    push_beginning(&mut text)?;
+    let mut text = Bytes::from_slice(alloc, BEGINNING.as_bytes())?;
     push_classes(alloc, &mut text, plan)?;
     push_rows(alloc, &mut text, plan.memory_region.as_slice(), rows)?;
     push_ids(alloc, &mut text, plan)?;

@@ -44,6 +44,7 @@ fn push_definition(
 }
 
 /// Appends a constant of a thing whose value is decimal.
+#[tactic(auto, unfolding(crate::specs::Config::decimal_of))]
 pub fn push_decimal(
     alloc: Global,
     to: &mut Bytes,
@@ -59,6 +60,7 @@ pub fn push_decimal(
 }
 
 /// Appends a constant of a thing whose value is an address or a size.
+#[tactic(auto, unfolding(crate::specs::Config::hex_of))]
 pub fn push_hex(
     alloc: Global,
     to: &mut Bytes,
@@ -74,6 +76,7 @@ pub fn push_hex(
 }
 
 /// Appends a constant of a class.
+#[tactic(auto, unfolding(crate::specs::Config::class_number))]
 pub fn push_class(alloc: Global, to: &mut Bytes, constant: &str, value: u64) -> Result<(), Memory>
     ensures { OnOk result (to.new ≡ to.old ++ class_number constant.now value) }
 {
