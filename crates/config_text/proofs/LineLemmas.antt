@@ -13,3 +13,12 @@ numbered-step {T = T} text xs at x old new whole less is wrote was =
     let rest = each_numbered text (at + 1) (drop (at + 1) xs) in
     ap (λ l. l ++ rest) wrote ∙ append_assoc old (text at x) rest
     ∙ sym (ap (λ (l : List T). old ++ each_numbered text at l) (drop-at xs at x less is)) ∙ was
+
+-- three texts were written one behind another
+pub three-written : (old one two new a b c : List ℕ) → one ≡ old ++ a → two ≡ one ++ b → new ≡ two ++ c → new ≡ old ++ (a ++ (b ++ c))
+three-written old one two new a b c e f g =
+    g ∙ ap (λ l. l ++ c) (f ∙ ap (λ l. l ++ b) e) ∙ append_assoc (old ++ a) b c ∙ append_assoc old a (b ++ c)
+
+-- a text was written, and then others
+pub written-before : (old one new a rest : List ℕ) → one ≡ old ++ a → new ≡ one ++ rest → new ≡ old ++ (a ++ rest)
+written-before old one new a rest e f = f ∙ ap (λ l. l ++ rest) e ∙ append_assoc old a rest

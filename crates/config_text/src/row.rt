@@ -54,7 +54,8 @@ fn push_region(alloc: Global, to: &mut Bytes, number: usize, region: &Region) ->
     };
     push_decimal(alloc, to, &thing, b"", number as u64)?;
     push_hex(alloc, to, &thing, b"_SIZE", region.size)?;
-    push_hex_if(alloc, to, &thing, b"_PHYS_ADDR", region.phys_addr)
+    push_hex_if(alloc, to, &thing, b"_PHYS_ADDR", region.phys_addr)?;
+    Ok(())
 }
 
 /// Appends each region: its number in file order, its size, and its physical address where the
@@ -94,7 +95,8 @@ fn push_queue(alloc: Global, to: &mut Bytes, number: usize, queue: &QueueRow) ->
     push_decimal(alloc, to, &thing, b"_CONSUMER", u64::from(queue.consumer.0))?;
     push_decimal(alloc, to, &thing, b"_CAPACITY", u64::from(queue.capacity))?;
     push_decimal_if(alloc, to, &thing, b"_REGION", queue.region)?;
-    push_hex(alloc, to, &thing, b"_OFFSET", queue.offset)
+    push_hex(alloc, to, &thing, b"_OFFSET", queue.offset)?;
+    Ok(())
 }
 
 /// Appends each queue: its number, its kind, who puts and who takes by their numbers among the
@@ -120,7 +122,8 @@ fn push_pool(alloc: Global, to: &mut Bytes, number: usize, pool: &PoolRow) -> Re
     push_decimal(alloc, to, &thing, b"", number as u64)?;
     push_decimal(alloc, to, &thing, b"_REGION", u64::from(pool.region))?;
     push_decimal(alloc, to, &thing, b"_BUFFERS", u64::from(pool.buffers))?;
-    push_decimal(alloc, to, &thing, b"_BUFFER_SIZE", u64::from(pool.size))
+    push_decimal(alloc, to, &thing, b"_BUFFER_SIZE", u64::from(pool.size))?;
+    Ok(())
 }
 
 /// Appends each pool: its number, the number of its region, and how many buffers it has, of how
