@@ -22,3 +22,19 @@ three-written old one two new a b c e f g =
 -- a text was written, and then others
 pub written-before : (old one new a rest : List ℕ) → one ≡ old ++ a → new ≡ one ++ rest → new ≡ old ++ (a ++ rest)
 written-before old one new a rest e f = f ∙ ap (λ l. l ++ rest) e ∙ append_assoc old a rest
+
+-- four texts were written one behind another
+pub four-written : (old one two three new a b c d : List ℕ) → one ≡ old ++ a → two ≡ one ++ b → three ≡ two ++ c → new ≡ three ++ d
+    → new ≡ old ++ (a ++ (b ++ (c ++ d)))
+four-written old one two three new a b c d e f g h =
+    written-before old one new a (b ++ (c ++ d)) e (three-written one two three new b c d f g h)
+
+-- seven texts were written one behind another
+pub seven-written : (old one two three four five six new a b c d e f g : List ℕ) → one ≡ old ++ a → two ≡ one ++ b → three ≡ two ++ c
+    → four ≡ three ++ d → five ≡ four ++ e → six ≡ five ++ f → new ≡ six ++ g
+    → new ≡ old ++ (a ++ (b ++ (c ++ (d ++ (e ++ (f ++ g))))))
+seven-written old one two three four five six new a b c d e f g wrote-a wrote-b wrote-c wrote-d wrote-e wrote-f wrote-g =
+    written-before old one new a (b ++ (c ++ (d ++ (e ++ (f ++ g))))) wrote-a
+    (written-before one two new b (c ++ (d ++ (e ++ (f ++ g)))) wrote-b
+    (written-before two three new c (d ++ (e ++ (f ++ g))) wrote-c
+    (four-written three four five six new d e f g wrote-d wrote-e wrote-f wrote-g)))
