@@ -1,7 +1,7 @@
 -- How a name of a description stands in the name of a constant: letters and digits stay, and any
 -- other byte has a code of its own behind a `_`.
 use Rattle.std.specs.Prelude.{ℕ, ◌+◌, ◌==◌, ◌&&◌, ◌||◌, not, nat_lt, Bool, true, false, List}
-use Rattle.std.specs.Prelude.{[], ◌∷◌, ◌++◌, if◌then◌else◌}
+use Rattle.std.specs.Prelude.{[], ◌∷◌, if◌then◌else◌}
 use Rattle.std.specs.List.{flat_map}
 
 -- whether a number is from one to another

@@ -1,6 +1,6 @@
 -- The lines of the header: one constant each, by its name and its value.
 use Rattle.std.specs.Prelude.{ℕ, ◌+◌, false, Option, Some, None, List, [], ◌∷◌, ◌++◌, codes}
-use Rattle.std.specs.Fmt.{digits, decimal}
+use Rattle.std.specs.Fmt.{digits}
 use Rattle.config_text.specs.Code.{code}
 
 -- the name of a constant of one thing: what it is of, the thing's name, and what it tells of it
