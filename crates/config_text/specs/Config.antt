@@ -26,6 +26,7 @@ use Rattle.config_text.specs.Lines.{constant_of, definition, hex_value, each_num
 unfoldable pub decimal_of : List ℕ → List ℕ → List ℕ → ℕ → List ℕ
 decimal_of kind name rest n = definition (constant_of kind name rest) (decimal n)
 
+-- a line that gives a constant of these words a number, in hexadecimal digits
 unfoldable pub hex_of : List ℕ → List ℕ → List ℕ → ℕ → List ℕ
 hex_of kind name rest n = definition (constant_of kind name rest) (hex_value n)
 
