@@ -1,0 +1,4 @@
+mod DecisionLemmas
+mod ViewLemmas
+mod WordLemmas
+mod WrittenLemmas

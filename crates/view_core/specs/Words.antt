@@ -1,0 +1,45 @@
+-- The grammar of the program's words, and the first bad word of those that have none of its forms.
+use Rattle.std.specs.Prelude.{◌≡◌, ◌+◌, ◌<◌, ◌≤◌, ℕ, Some, List, [], ◌∷◌, ◌++◌, length, take}
+use Rattle.std.specs.Prelude.{slice_get, codes}
+use Rattle.command_words.specs.Words.{IsName}
+use Rattle.view_core.specs.declared.ask.View.{View}
+use Rattle.view_core.specs.declared.ask.View.TheVariants as Of
+
+-- a word at a place may name a text
+abbrev pub IsNameAt : List (List ℕ) → ℕ → Type 0
+IsNameAt words k = (w : List ℕ) × (slice_get words k ≡ Some w) × IsName w
+
+-- there is a word at a place, and it is this one
+abbrev pub HasWordAt : List (List ℕ) → ℕ → List ℕ → Type 0
+HasWordAt words k word = (w : List ℕ) × (slice_get words k ≡ Some w) × (w ≡ word)
+
+-- `export` and the name of a description
+pub record IsExport (words : List (List ℕ)) (desc : List ℕ) : Type 0 where
+  pub words_are : words ≡ codes "export" ∷ desc ∷ []
+  pub named : IsName desc
+
+-- `export`, the name of a description, and `--config`
+pub record IsConfig (words : List (List ℕ)) (desc : List ℕ) : Type 0 where
+  pub words_are : words ≡ codes "export" ∷ desc ∷ codes "--config" ∷ []
+  pub named : IsName desc
+
+-- the words ask for this of the description of this name
+abbrev pub AsksFor : List (List ℕ) → List ℕ → View → Type 0
+AsksFor words desc Of.System = IsExport words desc
+AsksFor words desc Of.Config = IsConfig words desc
+
+-- the words ask for this
+abbrev pub Spells : List (List ℕ) → View → Type 0
+Spells words view = (desc : List ℕ) × AsksFor words desc view
+
+-- a form of the program begins with these words
+abbrev pub Begins : List (List ℕ) → Type 0
+Begins words = (more : List (List ℕ)) × (view : View) × Spells (words ++ more) view
+
+-- the first bad word: the least place up to which no form begins with the words, or the number of
+-- the words where a form begins with all of them and they are none
+pub record IsBadWord (words : List (List ℕ)) (k : ℕ) : Type 0 where
+  pub within : k ≤ length words
+  pub before : Begins (take k words)
+  pub here : k < length words → Begins (take (k + 1) words) → ⊥
+  pub whole : k ≡ length words → (view : View) → Spells words view → ⊥

@@ -1,0 +1,89 @@
+//! The words of the program: what they ask for, or which of them is the first bad one.
+ghost use Rattle.std.specs.Prelude.{◌≡◌, ◌↔◌, ◌<◌, IsTrue, IfOk, IfErr, Some, length, slice_get};
+ghost use Rattle.command_words.specs.Words.{texts_of, IsName};
+ghost use Rattle.view_core.specs.Words.{Spells, IsBadWord, IsNameAt, HasWordAt};
+
+/// What the words ask for. The description's name is word 1.
+#[derive(Clone, Copy, Debug, PartialEq, Eq)]
+pub enum View {
+    /// `export DESC`: the Microkit's system file.
+    System,
+    /// `export DESC --config`: the constants of classes, queues and pools, as a header of C.
+    Config,
+}
+
+// Whether a word may name a text.
+fn is_name(word: &str) -> bool
+    ensures { IsTrue result ↔ IsName word.now }
+{
+    !word.is_empty() && !word.starts_with("--")
+}
+
+// Whether a word at a place may name a text.
+fn is_name_at(words: &[String], at: usize) -> bool
+    ensures { IsTrue result ↔ IsNameAt (texts_of words.now) at }
+{
+    words.get(at).is_some_and(|w| is_name(w.as_str()))
+}
+
+// Whether a word is this one.
+fn is_word(word: &str, other: &str) -> bool
+    ensures { IsTrue result ↔ (word.now ≡ other.now) }
+{
+    word == other
+}
+
+// Whether there is a word at a place, and it is this one.
+fn has_word_at(words: &[String], at: usize, word: &str) -> bool
+    ensures { IsTrue result ↔ HasWordAt (texts_of words.now) at word.now }
+{
+    words.get(at).is_some_and(|w| is_word(w.as_str(), word))
+}
+
+// Whether the word at a place is this one.
+fn is_word_at(words: &[String], at: usize, word: &str) -> bool
+    ensures { IsTrue result ↔ (slice_get (texts_of words.now) at ≡ Some word.now) }
+{
+    has_word_at(words, at, word)
+}
+
+// How many words there are.
+fn count(words: &[String]) -> usize
+    ensures { result ≡ length (texts_of words.now) }
+{
+    words.len()
+}
+
+/// What the words ask for, or the place of the first bad word, counted from 0: the least place such
+/// that none of the program's forms begins with the words up to it, or the number of the words
+/// where a form begins with all of them and they are none.
+#[tactic(auto, using(crate::proofs::WordLemmas::word_lemmas))]
+pub fn read_words(words: &[String]) -> Result<View, u32>
+    ensures view { IfOk result (Spells (texts_of words.now)) }
+    ensures bad { IfErr result (IsBadWord (texts_of words.now)) }
+{
+    if !is_word_at(words, 0, "export") {
+        return Err(0);
+    }
+    if !is_name_at(words, 1) {
+        return Err(1);
+    }
+    if count(words) == 2 {
+        return Ok(View::System);
+    }
+    if !is_word_at(words, 2, "--config") {
+        return Err(2);
+    }
+    if count(words) > 3 {
+        return Err(3);
+    }
+    Ok(View::Config)
+}
+
+/// The word that names the description.
+pub fn name_of(words: &[String]) -> &str
+    requires { 1 < length (texts_of words.now) }
+    ensures { slice_get (texts_of words.now) 1 ≡ Some result.now }
+{
+    words[1].as_str()
+}

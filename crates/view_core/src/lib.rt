@@ -1,0 +1,22 @@
+//! The program beside the main one, as one call over a shelf of texts and two sinks: it shows a
+//! description in other forms. A word for another form is one case of `View`, of `read_words` and
+//! of `draw`.
+#![tactic(auto)]
+
+mod answer;
+mod ask;
+mod deciding;
+mod drawing;
+mod ended;
+mod err_sink;
+mod hosting;
+mod judging;
+mod line;
+mod viewing;
+
+pub use answer::Answer;
+pub use ask::{View, read_words};
+pub use deciding::decide_view;
+pub use ended::Ended;
+pub use hosting::view_host;
+pub use viewing::view;
