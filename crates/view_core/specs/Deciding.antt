@@ -15,7 +15,7 @@ use Rattle.view_core.specs.declared.ended.Ended.{Ended}
 use Rattle.view_core.specs.declared.ended.Ended.TheVariants as End
 use Rattle.view_core.specs.declared.ask.View.{View}
 use Rattle.view_core.specs.declared.ask.View.TheVariants as Of
-use Rattle.view_core.specs.Judged.{IsAccepted, IsRefusedText}
+use Rattle.decision_core.specs.Judged.{IsAccepted, IsRefusedText}
 use Rattle.view_core.specs.Lines.{usage_line, refused_line, long_line, identifier_line}
 use Rattle.view_core.specs.Words.{AsksFor, IsBadWord}
 

@@ -1,9 +1,7 @@
--- The words (Words), the status codes (Codes), the lines of refusals (Lines), which descriptions
--- are accepted (Judged), what is decided (Deciding), which texts are opened (Opening), and what becomes
--- of the answer (Viewed).
+-- The words (Words), the status codes (Codes), the lines of refusals (Lines), what is decided
+-- (Deciding), which texts are opened (Opening), and what becomes of the answer (Viewed).
 pub mod Codes
 pub mod Deciding
-pub mod Judged
 pub mod Lines
 pub mod Opening
 pub mod Viewed

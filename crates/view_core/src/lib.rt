@@ -10,7 +10,6 @@ mod drawing;
 mod ended;
 mod err_sink;
 mod hosting;
-mod judging;
 mod line;
 mod viewing;
 

@@ -1,32 +1,12 @@
 //! The lines of refusals, which go to standard error.
 ghost use Rattle.std.specs.Prelude.{◌≡◌, IfOk, string_bytes};
-ghost use Rattle.view_core.specs.Lines.{place_text, usage_line, refused_line, long_line};
+ghost use Rattle.view_core.specs.Lines.{usage_line, refused_line, long_line};
 ghost use Rattle.view_core.specs.Lines.{identifier_line};
 
 use cargo_core::Memory;
+use report_text::write_place;
 use sdf_plan::{Place, Refusal};
 use std::alloc::Global;
-
-// The text of a place in a description, as `protection_domain[2].map[0]`.
-fn write_place(alloc: Global, place: Place) -> Result<String, Memory>
-    ensures { IfOk result (λ s. string_bytes s ≡ place_text place) }
-{
-    match place {
-        Place::System => Ok(String::from_str(alloc, "system")?),
-        Place::Region(r) => Ok(format!(in alloc; "memory_region[{r}]")?),
-        Place::Domain(d) => Ok(format!(in alloc; "protection_domain[{d}]")?),
-        Place::Map(d, m) => Ok(format!(in alloc; "protection_domain[{d}].map[{m}]")?),
-        Place::Irq(d, i) => Ok(format!(in alloc; "protection_domain[{d}].irq[{i}]")?),
-        Place::Channel(c) => Ok(format!(in alloc; "channel[{c}]")?),
-        Place::End(c, e) => Ok(format!(in alloc; "channel[{c}].end[{e}]")?),
-        Place::Net => Ok(String::from_str(alloc, "net")?),
-        Place::NetClient(c) => Ok(format!(in alloc; "net.client[{c}]")?),
-        Place::Serial => Ok(String::from_str(alloc, "serial")?),
-        Place::SerialClient(c) => Ok(format!(in alloc; "serial.client[{c}]")?),
-        Place::Blk => Ok(String::from_str(alloc, "blk")?),
-        Place::BlkClient(c) => Ok(format!(in alloc; "blk.client[{c}]")?),
-    }
-}
 
 /// The line for words that ask for nothing: the place of the first bad word, counted from 0. The
 /// spellings are those of the main program; the only error of each is want of memory.
