@@ -1,0 +1,4 @@
+-- The proofs on classes.
+pub mod Keeping
+pub mod Resting
+pub mod Bounding
