@@ -1,22 +1,20 @@
-use Rattle.std.proofs.Common.{◌≡◌, ◌<◌, ◌++◌, ℕ, List, [], ◌∷◌, Some, length, slice_get, refl, sym, ap, ◌∙◌, subst, arith, tt}
+use Rattle.std.proofs.Common.{◌≡◌, ◌<◌, ◌++◌, ℕ, List, [], ◌∷◌, Some, length, slice_get, refl, sym, ap, ◌∙◌, subst, arith}
 use Rattle.wire_core.specs.declared.names.QueueRow.{QueueRow}
 use Rattle.wire_core.specs.declared.names.Entry.{Entry}
-use Rattle.wire_core.specs.Ends.{Role}
 use Rattle.wire_core.specs.Lists.{Passed, with_deed, nothing_passed}
 use Rattle.wire_core.specs.Journal.{start_history, nobody, EachFrom, EachMoment, QueuesFlow, owner_of}
-use Rattle.play_core.specs.Moved.{Seat, moved}
-use Rattle.play_core.specs.Sheets.{IsSeat}
+use Rattle.play_core.specs.Moved.{moved}
 use Rattle.play_core.proofs.Lists.{there_is, there_below}
 use Rattle.play_core.proofs.Moments.{each_moment}
 use Rattle.owner_law.specs.Things.{Naming}
 use Rattle.owner_law.specs.Owners.{AreCounted}
-use Rattle.owner_law.specs.Keeping.{Keeper, Keeps, all_taken, all_put, AreKeepers, IsKept, IsOwned, IsShownBy, AreDealt, start_table}
+use Rattle.owner_law.specs.Keeping.{Keeper, Keeps, all_taken, all_put, AreKeepers, IsKept, IsOwned, IsShownBy, start_table}
 use Rattle.small_system.specs.Meanings.{Means, Lawful}
 use Rattle.small_system.specs.Tales.{Moment, Turn, start_of, moment_after, IsTale, entry_of, journal_of}
 use Rattle.small_system.specs.Standing.{Begins, Holds}
-use Rattle.small_system.proofs.Telling.{start_small, turn_holds, told_holds, tale_count, tale_parts, items_shown}
+use Rattle.small_system.proofs.Telling.{start_small, turn_holds, tale_count, tale_parts, items_shown}
 use Rattle.small_system.proofs.Paced.{tale_lawful}
-use Rattle.small_law.specs.Keepers.{HasKeeper, HaveKeepers}
+use Rattle.small_law.specs.Keepers.{HaveKeepers}
 
 -- Each actor puts only what was in its hand, at each moment of a tale.
 

@@ -1,8 +1,7 @@
-use Rattle.std.proofs.Common.{◌≡◌, ◌+◌, ◌<◌, ℕ, zero, suc, List, [], ◌∷◌, Option, Some, None, length, map, slice_get, refl, sym, ap, ◌∙◌, subst, arith, add-zero}
-use Rattle.wire_core.specs.declared.names.QueueRow.{QueueRow}
+use Rattle.std.proofs.Common.{◌≡◌, ◌+◌, ℕ, suc, List, [], ◌∷◌, Option, Some, None, length, map, slice_get, refl, ap, subst, arith}
 use Rattle.wire_core.specs.declared.names.Event.{Event}
 use Rattle.play_core.specs.Moved.{Moved}
-use Rattle.play_core.specs.Wants.{Want, Needful}
+use Rattle.play_core.specs.Wants.{Want}
 use Rattle.small_system.specs.Wants.{Wanting, wanted_from}
 
 -- What actors want at one moment, as a wanting that is the same at each.
