@@ -102,14 +102,14 @@ module _ (c : ℕ) (log : List Request) where
     abbrev has : Bool
     has = has_it before r
 
-    abbrev D1 : List Device
-    D1 = reached_after has D r.ask
+    abbrev all_then : List Device
+    all_then = reached_after has D r.ask
 
     abbrev claimed : Bool
     claimed = is_claimed granted (asks_of c before) a
 
-    abbrev D1' : List Device
-    D1' = reached_after claimed D' r.ask
+    abbrev own_then : List Device
+    own_then = reached_after claimed D' r.ask
 
     abbrev with_it : List Request
     with_it = before ++ r ∷ []
@@ -133,16 +133,16 @@ module _ (c : ℕ) (log : List Request) where
           (λ claim. ap (is_free_for (owner_after before a)) same ∙ may_is c log before more r is same claim) has_same
           (λ h. answer_at D r.ask ∙ (ap (λ o. answer_by o r.ask) (agree a (free_owner (owner_after before a) c (sym (ap (is_owner (owner_after before a)) same) ∙ h))) ∙ sym (answer_at D' r.ask)))
 
-      agree_mine : Agree with_it D1 D1'
+      agree_mine : Agree with_it all_then own_then
       agree_mine z free = reached_same has claimed D D' r.ask z has_same (agree z (still_free z free))
 
       asked : asks_of c with_it ≡ asks_of c before ++ r.ask ∷ []
       asked = asks_append c before (r ∷ []) ∙ ap (λ t. asks_of c before ++ cond t (r.ask ∷ []) []) mine
 
-      step_mine : replies_for c more (replies_from with_it D1 more) ≡ alone_from granted (asks_of c with_it) D1' (asks_of c more) → replies_for c (r ∷ more) (replies_from before D (r ∷ more)) ≡ alone_from granted (asks_of c before) D' (asks_of c (r ∷ more))
+      step_mine : replies_for c more (replies_from with_it all_then more) ≡ alone_from granted (asks_of c with_it) own_then (asks_of c more) → replies_for c (r ∷ more) (replies_from before D (r ∷ more)) ≡ alone_from granted (asks_of c before) D' (asks_of c (r ∷ more))
       step_mine tail =
-          ap (λ t. cond t (reply_to (may_have_it before r) has D r.ask ∷ replies_for c more (replies_from with_it D1 more)) (replies_for c more (replies_from with_it D1 more))) mine
-          ∙ (front head (tail ∙ ap (λ b. alone_from granted b D1' (asks_of c more)) asked)
+          ap (λ t. cond t (reply_to (may_have_it before r) has D r.ask ∷ replies_for c more (replies_from with_it all_then more)) (replies_for c more (replies_from with_it all_then more))) mine
+          ∙ (front head (tail ∙ ap (λ b. alone_from granted b own_then (asks_of c more)) asked)
           ∙ sym (ap (λ t. alone_from granted (asks_of c before) D' (cond t (r.ask ∷ asks_of c more) (asks_of c more))) mine))
 
     -- a request of another
@@ -157,15 +157,15 @@ module _ (c : ℕ) (log : List Request) where
               let owner : is_owner (owner_after before z) r.client ≡ true = subst (λ y. is_owner (owner_after before y) r.client ≡ true) at_z h in
               absurd (not_free (owner_after before z) (owner_after (r ∷ []) z) c r.client other owner (free_then z free))
 
-      agree_other : Agree with_it D1 D'
+      agree_other : Agree with_it all_then D'
       agree_other z free = reached_at has D r.ask z (λ h. off z free h) ∙ agree z (still_free z free)
 
       unasked : asks_of c with_it ≡ asks_of c before
       unasked = asks_append c before (r ∷ []) ∙ (ap (λ t. asks_of c before ++ cond t (r.ask ∷ []) []) other ∙ append-nil (asks_of c before))
 
-      step_other : replies_for c more (replies_from with_it D1 more) ≡ alone_from granted (asks_of c with_it) D' (asks_of c more) → replies_for c (r ∷ more) (replies_from before D (r ∷ more)) ≡ alone_from granted (asks_of c before) D' (asks_of c (r ∷ more))
+      step_other : replies_for c more (replies_from with_it all_then more) ≡ alone_from granted (asks_of c with_it) D' (asks_of c more) → replies_for c (r ∷ more) (replies_from before D (r ∷ more)) ≡ alone_from granted (asks_of c before) D' (asks_of c (r ∷ more))
       step_other tail =
-          ap (λ t. cond t (reply_to (may_have_it before r) has D r.ask ∷ replies_for c more (replies_from with_it D1 more)) (replies_for c more (replies_from with_it D1 more))) other
+          ap (λ t. cond t (reply_to (may_have_it before r) has D r.ask ∷ replies_for c more (replies_from with_it all_then more)) (replies_for c more (replies_from with_it all_then more))) other
           ∙ (tail ∙ (ap (λ b. alone_from granted b D' (asks_of c more)) unasked
           ∙ sym (ap (λ t. alone_from granted (asks_of c before) D' (cond t (r.ask ∷ asks_of c more) (asks_of c more))) other)))
 
