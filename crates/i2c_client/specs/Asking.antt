@@ -79,8 +79,8 @@ due_after pool put came y = nat_lt came put && is_reply pool came y
 abbrev pub is_due : Asking → Cargo → Bool
 is_due w y = due_after w.pool w.sent (length w.replies.shown) y
 
--- what it keeps fits together: the buffers in hand are those of the requests that aren't made ready,
--- and all that aren't out
+-- what it keeps fits together: the buffers in hand are those of the requests that aren't made
+-- ready, and all that aren't out
 pub record IsMade (w : Asking) : Type 0 where
   pub good : AreRequests w.script
   pub few : length w.script < 2 ^ 32

@@ -28,8 +28,8 @@ pub record FitsClient (ends : Role → ℕ → End) (c : BusClient) : Type 0 whe
   pub goes : (ends Producer c.requests.queue.0).kind ≡ Kind.Net
   pub asking : IsAsking c.asking
 
--- what it took is what came in turn and at most one entry, which came last and out of turn; it asked
--- and recorded by what came in turn
+-- what it took is what came in turn and at most one entry, which came last and out of turn; it
+-- asked and recorded by what came in turn
 pub record ClientStands (responses requests : ℕ) (w : Asking) (stray : Option Cargo)
     (passed : Passed) : Type 0 where
   pub came : List Cargo
@@ -44,9 +44,10 @@ abbrev pub ClientStandsFor : BusClient → Passed → Type 0
 ClientStandsFor c passed =
     ClientStands c.responses.queue.0 c.requests.queue.0 c.asking c.stray passed
 
--- of the entries that it took in turn, which are all but for one that came last: what it put are its
--- requests in their order, each in its buffer, which was in its hand: request k goes in the buffer
--- of this number modulo 2, and no more than 2 aren't answered; and its replies are what it took
+-- of the entries that it took in turn, which are all but for one that came last: what it put are
+-- its requests in their order, each in its buffer, which was in its hand: request k goes in the
+-- buffer of this number modulo 2, and no more than 2 aren't answered; and its replies are what it
+-- took
 pub record ClientRow (pool : PoolId) (script : List BusAsk) (req resp : ℕ)
     (replies : List BusReply) (passed : Passed) : Type 0 where
   pub came : List Cargo
