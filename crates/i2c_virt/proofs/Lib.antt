@@ -1,2 +1,11 @@
 -- The proofs on the actors of the bus.
 pub mod Serving
+pub mod Owning
+pub mod Desking
+pub mod Working
+pub mod Ordering
+pub mod Due
+pub mod Stepping
+pub mod Turning
+pub mod Rows
+pub mod Starting

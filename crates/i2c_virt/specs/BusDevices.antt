@@ -28,8 +28,8 @@ pub record FitsBus (ends : Role → ℕ → End) (b : BusDevice) : Type 0 where
   pub whole : AreWhole b.devices.items
 
 -- on devices of its addresses, which were zeros at the start, it did the requests that it took in
--- turn, in their order, and put its answers or has the last one in its hand; so it has one that came
--- out of turn
+-- turn, in their order, and put its answers or has the last one in its hand; so it has one that
+-- came out of turn
 pub record BusStandsFor (b : BusDevice) (passed : Passed) : Type 0 where
   pub requests : List Cargo
   pub taken : passed.taken b.input.queue.0 ≡ requests ++ option_to_list b.stray
