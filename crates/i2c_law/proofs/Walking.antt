@@ -15,7 +15,7 @@ use Rattle.i2c_law.proofs.Owning.{owner_or, owner_append, asks_append, may_is, h
 
 -- All requests and those of one client, side by side.
 
-front : {T : Type 0} {x y : T} {xs ys : List T} → x ≡ y → xs ≡ ys → x ∷ xs ≡ y ∷ ys
+pub front : {T : Type 0} {x y : T} {xs ys : List T} → x ≡ y → xs ≡ ys → x ∷ xs ≡ y ∷ ys
 front e f = cc
 
 free_owner : (o : Option ℕ) (c : ℕ) → is_owner o c ≡ true → is_free_for o c ≡ true
@@ -36,7 +36,7 @@ not_free (Some e) w c d off owner free =
     cc
 
 -- what a reply is by
-reply_same : (m m' h h' : Bool) (D D' : List Device) (ask : BusAsk) → (is_claim ask ≡ true → m ≡ m') → h ≡ h' → (h ≡ true → devices_answer D ask ≡ devices_answer D' ask) → reply_to m h D ask ≡ reply_to m' h' D' ask
+pub reply_same : (m m' h h' : Bool) (D D' : List Device) (ask : BusAsk) → (is_claim ask ≡ true → m ≡ m') → h ≡ h' → (h ≡ true → devices_answer D ask ≡ devices_answer D' ask) → reply_to m h D ask ≡ reply_to m' h' D' ask
 reply_same m m' h h' D D' ask may has answer = by (is_claim ask) refl
   where
     second : (t : Bool) → h ≡ t → cond h (devices_answer D ask) (bare_reply Ended.Unclaimed) ≡ cond h' (devices_answer D' ask) (bare_reply Ended.Unclaimed)

@@ -2,13 +2,20 @@
 //! virtualiser took and on the devices, which knows no queues.
 #![tactic(auto)]
 
-ghost use Rattle.std.specs.Prelude.{◌≡◌, ℕ, Option, List};
+ghost use Rattle.std.specs.Prelude.{◌≡◌, ◌<◌, ℕ, Option, List, []};
+ghost use Rattle.cargo_core.specs.declared.item.PoolId.{PoolId};
 ghost use Rattle.cargo_core.specs.Lists.{IsPrefix};
+ghost use Rattle.wire_core.specs.Deeds.{Cargo};
 ghost use Rattle.i2c_text.specs.declared.bus.BusAsk.{BusAsk};
+ghost use Rattle.i2c_text.specs.declared.report.BusReply.{BusReply};
 ghost use Rattle.i2c_kit.specs.declared.alone.Request.{Request};
 ghost use Rattle.i2c_kit.specs.declared.device.Device.{Device};
+ghost use Rattle.i2c_kit.specs.Devices.{new_devices};
 ghost use Rattle.i2c_kit.specs.Grants.{granted_to};
 ghost use Rattle.i2c_kit.specs.Replies.{replies_by, replies_alone};
+ghost use Rattle.i2c_virt.specs.Works.{Took, requests_in};
+ghost use Rattle.i2c_law.specs.Moments.{AreServed, IsServed};
+ghost use Rattle.i2c_law.specs.Judging.{verdicts_of, transfers_of, combined};
 ghost use Rattle.i2c_law.specs.Shares.{asks_of, replies_for, served_by, asks_in, AtTheirOwn};
 
 /// Of the replies to all requests, in the order in which they were taken, those to one client are
@@ -31,4 +38,26 @@ pub fn serve_law()
         (client : ℕ) → AtTheirOwn owner transfers
         → replies_for client transfers (served_by devices (asks_in transfers))
         ≡ served_by devices (asks_of client transfers) }
+{}
+
+/// Where the virtualiser judges each request by those that it took before, of whatever client, and
+/// the devices do what goes to the driver of one client in its order, what it is answered is what
+/// its own requests, the devices and the addresses that were granted to it determine.
+pub fn judge_law()
+    ensures { (addresses : List ℕ) (taken : List Request) (client : ℕ)
+        → combined (verdicts_of client [] taken)
+        (served_by (new_devices addresses) (transfers_of client [] taken))
+        ≡ replies_alone (granted_to client taken) addresses (asks_of client taken) }
+{}
+
+/// Of one moment's lists alone: where each client puts its requests in their order and records what
+/// it is given, the virtualiser judges, forwards and answers as its row says, and what came back
+/// from the driver are the first of the bus's answers, what a client recorded is a beginning of
+/// what its own requests, the devices and the addresses that were granted to it determine.
+pub fn moment_law()
+    ensures { (clients : ℕ) (addresses : List ℕ) (log : List Took) (sent back : List Cargo)
+        → AreServed clients addresses log sent back → (client : ℕ) → client < clients
+        → (pool : PoolId) (script : List BusAsk) (put given came : List Cargo)
+        (replies : List BusReply) → IsServed client pool script log back put given came replies
+        → IsPrefix replies (replies_alone (granted_to client (requests_in log)) addresses script) }
 {}
