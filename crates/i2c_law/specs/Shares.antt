@@ -1,5 +1,6 @@
 -- The share of one client in all requests and all replies.
-use Rattle.std.specs.Prelude.{◌≡◌, ℕ, ◌==◌, if◌then◌else◌, Option, Some, List, [], ◌∷◌, map, slice_get}
+use Rattle.std.specs.Prelude.{◌≡◌, ℕ, ◌==◌, if◌then◌else◌, Option, Some, List, [], ◌∷◌, map}
+use Rattle.std.specs.Prelude.{slice_get}
 use Rattle.i2c_text.specs.declared.bus.BusAsk.{BusAsk}
 use Rattle.i2c_text.specs.declared.report.BusReply.{BusReply}
 use Rattle.i2c_kit.specs.declared.alone.Request.{Request}
