@@ -1,0 +1,2 @@
+-- The proofs on the actors of the bus as one type.
+pub mod Membering
