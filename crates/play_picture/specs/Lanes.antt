@@ -1,5 +1,5 @@
 -- Where the parts of a chart are: a lane for each actor, and below their names a row for each step.
--- Lanes are as far apart as the longest name asks, and rows 14 pixels.
+-- Lanes are as far apart as the longest name asks, and the steps lie 14 pixels apart.
 use Rattle.std.specs.Prelude.{ℕ, ◌+◌, ◌-◌, ◌*◌, ◌<◌, ◌≤◌, ◌^◌}
 use Rattle.play_picture.specs.declared.lanes.Lanes.{Lanes}
 
