@@ -83,10 +83,16 @@ shapes_text shapes = flat_map shape_text shapes
 unfoldable pub opening : List ℕ
 opening = codes "<svg xmlns=\"http://www.w3.org/2000/svg\" role=\"img\""
 
+-- that its places are counted from its upper left corner
+abbrev pub view_text : ℕ → ℕ → List ℕ
+view_text width height =
+    codes " viewBox=\"0 0 " ++ (decimal width ++ (codes " " ++ (decimal height ++ codes "\">\n")))
+
 -- its size
 unfoldable pub size_text : ℕ → ℕ → List ℕ
 size_text width height =
-    number_text (codes "width") width ++ (number_text (codes "height") height ++ codes ">\n")
+    number_text (codes "width") width ++ (number_text (codes "height") height
+    ++ view_text width height)
 
 -- an element with a text in it
 unfoldable pub element_text : List ℕ → List ℕ → List ℕ

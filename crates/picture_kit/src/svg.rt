@@ -1,10 +1,9 @@
 //! A picture as SVG: an element for each shape, in order, below a title and a description.
-ghost use Rattle.std.specs.Prelude.{◌≡◌, ◌++◌, IfOk, OnOk};
+ghost use Rattle.std.specs.Prelude.{◌≡◌, ◌++◌, IfOk, OnOk, string_bytes};
 ghost use Rattle.picture_kit.specs.Svg.{area_text, segment_text, dot_text, spot_text, form_name};
 ghost use Rattle.picture_kit.specs.Svg.{place_text, words_text, note_text, begin_text, end_text};
-ghost use Rattle.picture_kit.specs.Svg.{shape_text};
-ghost use Rattle.picture_kit.specs.Svg.{shapes_text, opening, size_text, element_text, front_text};
-ghost use Rattle.picture_kit.specs.Svg.{svg_text};
+ghost use Rattle.picture_kit.specs.Svg.{shape_text, shapes_text, opening, view_text, size_text};
+ghost use Rattle.picture_kit.specs.Svg.{element_text, front_text, svg_text};
 
 use crate::ink::push_ink;
 use crate::numbers::push_number;
@@ -146,6 +145,13 @@ fn push_opening(to: &mut Bytes) -> Result<(), Memory>
     to.extend_from_slice(b"<svg xmlns=\"http://www.w3.org/2000/svg\" role=\"img\"")
 }
 
+// That its places are counted from its upper left corner.
+fn view_text(alloc: Global, width: u64, height: u64) -> Result<String, Memory>
+    ensures { IfOk result (λ text. string_bytes text ≡ view_text width height) }
+{
+    Ok(format!(in alloc; " viewBox=\"0 0 {width} {height}\">\n")?)
+}
+
 // Appends its size behind that.
 #[tactic(auto, unfolding(crate::specs::Svg::size_text))]
 fn push_size(alloc: Global, to: &mut Bytes, width: u64, height: u64) -> Result<(), Memory>
@@ -153,7 +159,8 @@ fn push_size(alloc: Global, to: &mut Bytes, width: u64, height: u64) -> Result<(
 {
     push_number(alloc, to, "width", width)?;
     push_number(alloc, to, "height", height)?;
-    to.extend_from_slice(b">\n")
+    let view = view_text(alloc, width, height)?;
+    to.extend_from_slice(view.as_bytes())
 }
 
 // Appends an element with a text in it.

@@ -1,0 +1,3 @@
+mod GridLemmas
+mod DrawLemmas
+mod ColumnLemmas

@@ -1,0 +1,2 @@
+-- What is drawn of a layout (Drawn).
+pub mod Drawn

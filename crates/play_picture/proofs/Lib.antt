@@ -1,0 +1,4 @@
+mod LaneLemmas
+mod DrawLemmas
+mod PairLemmas
+mod PartnerLemmas

@@ -1,0 +1,15 @@
+//! A sequence chart of a journal: a lane for each actor, an arrow from each put to its take, and
+//! marks for what is done to bells.
+#![tactic(auto)]
+
+mod arrows;
+mod chart;
+mod lanes;
+mod law;
+mod pairs;
+mod picture;
+mod words;
+
+pub use law::pair_law;
+pub use pairs::{Way, count, moves, place_of_nth};
+pub use picture::{Cast, is_drawable, play_picture};
