@@ -63,6 +63,7 @@ ends_edge c (first ∷ (second ∷ ends)) =
     edge first.pd second.pd (codes "dir=none, style=dashed, ")
     (ids_text c first second)
 
+-- the edge of a channel
 abbrev pub channel_edge : ℕ → Channel → List ℕ
 channel_edge c channel = ends_edge c channel.end
 

@@ -4,10 +4,11 @@
 use Rattle.std.specs.Prelude.{ℕ, ◌+◌, ◌*◌, ◌^◌, ◌≤◌, ◌==◌, max, if◌then◌else◌}
 use Rattle.layout_picture.specs.declared.grid.Grid.{Grid}
 
--- where the boxes begin, from above, and how high they are
+-- where the boxes begin, from above
 abbrev pub box_top : ℕ
 box_top = 48
 
+-- and how high they are
 abbrev pub box_height : ℕ
 box_height = 68
 
@@ -47,10 +48,11 @@ region_y g r = 272 + 24 * (g.queues + g.channels + r)
 abbrev pub memory_width : Grid → ℕ
 memory_width g = if g.pools == 0 then 600 else 8 * g.letters + 944
 
--- how wide and how high the picture is
+-- how wide the picture is
 abbrev pub width : Grid → ℕ
 width g = max (column_x g g.columns) (left g + memory_width g)
 
+-- and how high: to a margin below the last row
 abbrev pub height : Grid → ℕ
 height g = region_y g g.regions + 16
 

@@ -35,6 +35,7 @@ drawn_as l queue label journal k e Do.Put = put_shapes l queue journal k e
 drawn_as l queue label journal k e Do.Take = take_shapes l journal k e
 drawn_as l queue label journal k e _ = tick_shapes l label k e
 
+-- the same of an entry
 abbrev pub drawn_shapes : Lanes → List ℕ → List ℕ → List Entry → ℕ → Entry → List Shape
 drawn_shapes l queue label journal k e = drawn_as l queue label journal k e e.event.op
 

@@ -19,10 +19,11 @@ middle_x l actor = lane_x l actor + 4 * l.letters + 4
 abbrev pub step_y : Lanes → ℕ → ℕ
 step_y l step = 96 + 14 * (step - l.from)
 
--- how wide and how high the chart is
+-- how wide the chart is
 abbrev pub width : Lanes → ℕ
 width l = lane_x l l.actors + 200
 
+-- and how high
 abbrev pub height : Lanes → ℕ
 height l = step_y l l.to + 16
 

@@ -35,6 +35,7 @@ abbrev pub held_text : Census → List ℕ
 held_text pool =
     decimal pool.queues ++ (codes " in queues, " ++ (decimal pool.hands ++ codes " in hands, "))
 
+-- the same with those that are lent, and all
 abbrev pub words_of : Census → List ℕ
 words_of pool =
     held_text pool ++ (decimal pool.lent ++ (codes " lent, of " ++ decimal pool.buffers))
