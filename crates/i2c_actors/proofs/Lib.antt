@@ -1,2 +1,3 @@
 -- The proofs on the actors of the bus as one type.
 pub mod Membering
+pub mod Queueing

@@ -1,3 +1,5 @@
--- What the actors of the bus mean to who plays them (Members), and the laws of that (MemberLaws).
+-- What the actors of the bus mean to who plays them (Members), the laws of that (MemberLaws), and
+-- the queues between them (Queues).
 pub mod Members
 pub mod MemberLaws
+pub mod Queues
