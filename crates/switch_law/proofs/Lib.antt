@@ -1,0 +1,3 @@
+-- The proofs on what ports get.
+pub mod Going
+pub mod Merging

@@ -1,0 +1,12 @@
+use Rattle.switch_law.proofs.Going.{lost_nowhere, kept_somewhere}
+use Rattle.switch_law.proofs.Merging.{merged}
+use Rattle.switch_law.proofs.ports_law.Goals as goal
+
+pub returns-clause-merges : goal.returns-clause-merges
+returns-clause-merges c = λ macs receiver mac sends sent many at first. merged macs receiver mac at sends sent first
+
+pub returns-clause-lost : goal.returns-clause-lost
+returns-clause-lost c = lost_nowhere
+
+pub returns-clause-kept : goal.returns-clause-kept
+returns-clause-kept c = kept_somewhere
