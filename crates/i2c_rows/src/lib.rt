@@ -1,7 +1,9 @@
-//! Tests of a bus that clients share: its text, its devices, its pages and the replies of clients by
-//! the plain program.
+//! Tests of a bus that clients share: its text, its devices, its pages and the replies of clients
+//! by the plain program.
 #![tactic(auto)]
 
+#[cfg(test)]
+mod claim_tests;
 #[cfg(test)]
 mod device_tests;
 #[cfg(test)]
