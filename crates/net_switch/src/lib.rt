@@ -7,4 +7,4 @@ mod ends;
 mod switch;
 
 pub use ends::{SwitchEnd, SwitchEnds};
-pub use switch::{NetSwitch, PortEnds};
+pub use switch::{NetSwitch, PortEnds, row_law};

@@ -2,8 +2,19 @@
 //! picture or a page as they are.
 #![tactic(auto)]
 
+ghost use Rattle.std.specs.Prelude.{◌≡◌, take, codes};
+ghost use Rattle.picture_style.specs.declared.page.TheConstants.{PAGE_FRONT};
+ghost use Rattle.picture_style.specs.declared.sheet.TheConstants.{PICTURE_STYLE};
+
 mod page;
 mod sheet;
 
 pub use page::{PAGE_END, PAGE_FRONT};
 pub use sheet::PICTURE_STYLE;
+
+/// Where each is put it begins as it must there: a picture's style is an element, and a page says
+/// of itself that it is HTML before all else.
+pub fn style_law()
+    ensures style { take 7 PICTURE_STYLE.now ≡ codes "<style>" }
+    ensures front { take 15 PAGE_FRONT.now ≡ codes "<!DOCTYPE html>" }
+{}
