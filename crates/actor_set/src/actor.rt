@@ -49,7 +49,6 @@ impl Actor {
     /// Whether nothing is to be done before a notification comes, or, of a hostile client, ever.
     #[inline(always)]
     pub fn at_rest(&self) -> bool
-        requires { IsWhole self.now }
         ensures { result ≡ actor_rests self.now }
     {
         match self {

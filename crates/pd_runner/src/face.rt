@@ -1,8 +1,7 @@
 //! Actors apart are given a thread each.
 ghost use Rattle.std.specs.Prelude.{◌≡◌, ◌≤◌, ◌⊎◌, ℕ, IfOk, Some, None, Ok, true, length, map};
 ghost use Rattle.std.specs.Prelude.{slice_get};
-ghost use Rattle.actor_set.specs.Actors.{IsWhole};
-ghost use Rattle.order_law.specs.ActorParts.Given.{Kept, apart_of};
+ghost use Rattle.order_law.specs.ActorParts.Given.{apart_of};
 ghost use Rattle.order_law.specs.ActorParts.Numbered.{numbered};
 ghost use Rattle.order_law.specs.ActorParts.Parting.{Apart, AreApart};
 ghost use Rattle.order_law.specs.ActorParts.Placing.{AreWithin};
@@ -127,7 +126,6 @@ fn number_all(alloc: Global, parts: Vec<Part>) -> Result<Vec<order_law::actor_pa
 
 // Whether all of them are at rest.
 fn all_rest(parts: &[order_law::actor_parts::Part]) -> bool
-    requires { (k : ℕ) (p : Kept) → slice_get parts.now k ≡ Some p → IsWhole p.0.actor }
     ensures yes { result ≡ true → AreResting (map apart_of parts.now) }
     ensures no { AreResting (map apart_of parts.now) → result ≡ true }
 {

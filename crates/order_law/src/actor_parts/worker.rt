@@ -2,7 +2,7 @@
 
 ghost use Rattle.std.specs.Prelude.{◌≡◌, IfOk, IfErr, OnErr, Some, None, true};
 ghost use Rattle.wire_core.specs.Lists.{Stepped};
-ghost use Rattle.actor_set.specs.Actors.{FitsActor, ActorStandsFor, IsActorCall, IsWhole, MayStep};
+ghost use Rattle.actor_set.specs.Actors.{FitsActor, ActorStandsFor, IsActorCall, MayStep};
 ghost use Rattle.actor_set.specs.Actors.{actor_rests, part_of, record_length};
 ghost use Rattle.order_law.specs.Tales.{is_waiting};
 
@@ -42,7 +42,6 @@ impl Worker {
 
     /// Whether nothing is to be done before a notification comes.
     pub fn at_rest(&self) -> bool
-        requires { IsWhole self.now.actor }
         ensures { result ≡ actor_rests self.now.actor }
     {
         self.actor.at_rest()

@@ -7,9 +7,6 @@ use Rattle.pd_runner.specs.Facing.{IsResting}
 use Rattle.pd_runner.proofs.Eaches.{up_to}
 use Rattle.pd_runner.proofs.face.all_rest.Goals as goal
 
-pub at_rest-requires : goal.at_rest-requires
-at_rest-requires c = c.requires c.loop-part.part-index c.part-item.result (slice_get_read c.args.parts.now _ c.loop-part.part-index c.part-item.result refl c.loop-part-test.true c.part-item.is)
-
 pub returns-then-not-at_rest-clause-no : goal.returns-then-not-at_rest-clause-no
 returns-then-not-at_rest-clause-no c = λ rest.
     let at = slice_get_read c.args.parts.now _ c.loop-part.part-index c.part-item.result refl c.loop-part-test.true c.part-item.is in

@@ -1,5 +1,4 @@
 use Rattle.std.proofs.Common.{arith, rules, refl, ap, ◌+◌, ◌∙◌}
-use Rattle.seat_wires.specs.Places.{seat_end}
 use Rattle.actor_set.specs.Laws.Kinds.{manner_of}
 use Rattle.actor_set.proofs.LawsLemmas.Rounds.{may_is}
 use Rattle.pd_runner.proofs.Stepping.{worked_none, worked_on, worked_of}
@@ -14,9 +13,6 @@ loop-worker-init g c = record {
   fine = c.requires.ready.fine;
   within = c.requires.within;
 }
-
-pub at_rest-requires : goal.at_rest-requires
-at_rest-requires g c = c.actor_law.ensures.whole (seat_end c.loop-worker.seats) c.loop-worker.worker.actor c.loop-worker.invariant.worked.comes.sits.fits
 
 pub step-requires-clause-may : goal.step-requires-clause-may
 step-requires-clause-may g c = may_is _ c.loop-worker.worker.actor (ap manner_of c.loop-worker.invariant.worked.comes.same ∙ c.requires.ready.calm)

@@ -1,15 +1,11 @@
 use Rattle.std.proofs.Common.{arith, ap, ◌∙◌}
 use Rattle.order_law.specs.declared.actor_parts.worker.Worker.{Worker}
-use Rattle.seat_wires.specs.Places.{seat_end}
 use Rattle.actor_set.specs.Laws.Kinds.{manner_of}
 use Rattle.actor_set.proofs.LawsLemmas.Rounds.{may_is}
 use Rattle.pd_runner.specs.Running.{Comes, part_seats}
 use Rattle.pd_runner.proofs.Stepping.{comes_on, comes_same, came_of}
 use Rattle.pd_runner.proofs.work.work.Goals.{in-None, in-Some+then-is_unmanned, in-Some+else-is_unmanned+else-is_over+then-made-limit, in-Some+else-is_unmanned+else-is_over+else-made-limit+else-calm-ends+in-Err}
 use Rattle.pd_runner.proofs.work.work.Goals as goal
-
-pub at_rest-requires : goal.at_rest-requires
-at_rest-requires g c = c.actor_law.ensures.whole (seat_end c.loop.seats) c.loop.worker.actor c.loop.invariant.comes.sits.fits
 
 pub step-requires-clause-may : goal.step-requires-clause-may
 step-requires-clause-may g c = may_is _ c.loop.worker.actor (ap manner_of c.loop.invariant.comes.same ∙ c.requires.calm)
