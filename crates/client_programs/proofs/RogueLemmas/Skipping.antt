@@ -45,4 +45,4 @@ rest_is acts i n many = rw many (done (drop i acts) refl)
   where
     done : (rest : List Act) → drop i acts ≡ rest → nat_le (length acts) i ≡ is_none_left (drop i acts)
     done [] e = let l : length acts - i ≡ 0 = sym (length-drop i acts) ∙ ap length e in le-leb (length acts) i (omega (arith, l)) ∙ ap is_none_left (sym e)
-    done (x ∷ xs) e = let l : length acts - i ≡ 1 + length xs = sym (length-drop i acts) ∙ ap length e in lt-leb (length acts) i (omega (arith, l)) ∙ ap is_none_left (sym e)
+    done (x ∷ xs) e = let l : length acts - i ≡ suc (length xs) = sym (length-drop i acts) ∙ ap length e in lt-leb (length acts) i (omega (arith, l)) ∙ ap is_none_left (sym e)
