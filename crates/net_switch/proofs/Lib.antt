@@ -1,0 +1,3 @@
+-- The proofs on a switch.
+pub mod Fits
+pub mod Rounds
