@@ -1,7 +1,10 @@
 -- The ends of a switch go on to agree where one of them moved.
-use Rattle.std.proofs.Common.{◌≡◌, ℕ, Some, slice_get, length, sym, ap, ◌∙◌, subst}
+use Rattle.std.proofs.Common.{◌≡◌, ◌↔◌, ℕ, false, true, Option, Some, None, IsSome, is_some, slice_get, length, refl, sym, ap, ◌∙◌, subst}
 use Rattle.wire_core.specs.declared.names.QueueId.{QueueId}
 use Rattle.wire_core.specs.declared.names.Event.{Event}
+use Rattle.wire_core.specs.declared.names.Op.{Op}
+use Rattle.wire_core.specs.declared.names.Op.TheVariants as Do
+use Rattle.wire_core.specs.Deeds.{Cargo}
 use Rattle.wire_core.specs.Ends.{Role, Consumer, Producer, End, Moves, role_of}
 use Rattle.turn_kit.specs.Table.{Agrees}
 use Rattle.turn_kit.specs.ManyEnds.{FitsIntakes, FitsOutlets, intake_queues, outlet_queues}
@@ -12,7 +15,7 @@ use Rattle.turn_kit.specs.declared.outlets.Outlets.{Outlets}
 use Rattle.turn_kit.specs.declared.end_state.EndState.{EndState}
 use Rattle.turn_kit.proofs.Offers.{get_map}
 use Rattle.net_switch.specs.declared.ends.SwitchEnds.{SwitchEnds}
-use Rattle.net_switch.specs.Ends.{FitsEnds, come_queues, back_queues, room_queues, copy_queues}
+use Rattle.net_switch.specs.Ends.{FitsEnds, is_take, come_queues, back_queues, room_queues, copy_queues}
 
 module _ (ends ends' : Role → ℕ → End) (e : Event) (moves : Moves ends e ends') where
   still : (r : Role) (n : ℕ) (s : EndState) → (r ≡ role_of e.op → n ≡ e.queue.0 → ⊥) → Agrees (ends r n) s → Agrees (ends' r n) s
@@ -116,3 +119,36 @@ module _ (ends ends' : Role → ℕ → End) (e : Event) (moves : Moves ends e e
       some = h.some;
       few = h.few;
     }
+
+none_came : (o : Op) (c : Option Cargo) → (IsSome c ↔ (o ≡ Do.Take)) → (o ≡ Do.Take → ⊥) → false ≡ is_some c
+none_came o None h off = refl
+none_came o (Some c) h off = absurd (off (h.0 tt))
+
+-- a call took an entry just where one came
+pub takes_told : (o : Op) (c : Option Cargo) → (IsSome c ↔ (o ≡ Do.Take)) → is_take o ≡ is_some c
+takes_told Do.Take None h = absurd (h.1 refl)
+takes_told Do.Take (Some c) h = refl
+takes_told Do.Put c h = none_came Do.Put c h (λ e. cc)
+takes_told Do.See c h = none_came Do.See c h (λ e. cc)
+takes_told Do.Room c h = none_came Do.Room c h (λ e. cc)
+takes_told (Do.Ask s) c h = none_came (Do.Ask s) c h (λ e. cc)
+takes_told (Do.Waive s) c h = none_came (Do.Waive s) c h (λ e. cc)
+takes_told (Do.Wake s) c h = none_came (Do.Wake s) c h (λ e. cc)
+takes_told (Do.Wanted s) c h = none_came (Do.Wanted s) c h (λ e. cc)
+takes_told (Do.Settle s) c h = none_came (Do.Settle s) c h (λ e. cc)
+takes_told (Do.Ring s) c h = none_came (Do.Ring s) c h (λ e. cc)
+takes_told (Do.Store w v) c h = none_came (Do.Store w v) c h (λ e. cc)
+
+-- a producing end takes nothing
+pub takes_nothing : (o : Op) → role_of o ≡ Producer → is_take o ≡ false
+takes_nothing Do.Take h = absurd (let bad : Consumer ≡ Producer = h in cc)
+takes_nothing Do.Put h = refl
+takes_nothing Do.See h = refl
+takes_nothing Do.Room h = refl
+takes_nothing (Do.Ask s) h = refl
+takes_nothing (Do.Waive s) h = refl
+takes_nothing (Do.Wake s) h = refl
+takes_nothing (Do.Wanted s) h = refl
+takes_nothing (Do.Settle s) h = refl
+takes_nothing (Do.Ring s) h = refl
+takes_nothing (Do.Store w v) h = refl

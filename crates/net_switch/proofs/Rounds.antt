@@ -121,6 +121,10 @@ module _ (e : SwitchEnds) (t r n l : ℕ → Bool) where
       ∙ ap (λ b. settled_all (outlet_posts e.back) (needs_from r 0 (back_queues e)) && b)
       (settled_append (intake_posts e.room) (outlet_posts e.copy) (needs_from n 0 (room_queues e)) (needs_from l 0 (copy_queues e)) room_long))
 
+  pub rest_of : (a b x y : Bool) → a ≡ settled_all (intake_posts e.come) (needs_from t 0 (come_queues e)) → b ≡ settled_all (outlet_posts e.back) (needs_from r 0 (back_queues e))
+      → x ≡ settled_all (intake_posts e.room) (needs_from n 0 (room_queues e)) → y ≡ settled_all (outlet_posts e.copy) (needs_from l 0 (copy_queues e)) → (a && (b && (x && y))) ≡ is_at_rest (ends_round e t r n l)
+  rest_of a b x y sa sb sx sy = rw (sa, sb, sx, sy) (sym all_settled)
+
   -- the need of an end that is there
   need_in : (need : ℕ → Bool) (qs : List QueueId) (k : ℕ) → k < length qs → slice_get (needs_from need 0 qs) k ≡ Some (need k)
   need_in need qs k less = get_need need 0 qs k (slice_index_or qs k no_queue) (slice_get-get_or qs k no_queue less) ∙ ap (λ i. Some (need i)) (zero-add k)

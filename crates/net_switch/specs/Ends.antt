@@ -1,8 +1,10 @@
 -- The ends of a switch: four for each port.
-use Rattle.std.specs.Prelude.{◌≡◌, ◌⊎◌, ◌+◌, ◌<◌, ◌^◌, ℕ, Bool, Some, List, ◌++◌, length, map}
-use Rattle.std.specs.Prelude.{slice_get}
+use Rattle.std.specs.Prelude.{◌≡◌, ◌+◌, ◌<◌, ◌^◌, ℕ, Bool, true, false, Some, List, ◌++◌, length}
+use Rattle.std.specs.Prelude.{map, slice_get}
 use Rattle.cargo_core.specs.declared.item.QueueKind.TheVariants as Kind
 use Rattle.wire_core.specs.declared.names.QueueId.{QueueId}
+use Rattle.wire_core.specs.declared.names.Op.{Op}
+use Rattle.wire_core.specs.declared.names.Op.TheVariants as Do
 use Rattle.wire_core.specs.Ends.{Role, Consumer, Producer, End}
 use Rattle.turn_kit.specs.Turns.{Post, Round}
 use Rattle.turn_kit.specs.ManyEnds.{FitsIntakes, FitsOutlets, intake_queues, outlet_queues}
@@ -11,6 +13,20 @@ use Rattle.buffer_kit.specs.Virtualising.{new_intake, new_outlet}
 use Rattle.net_switch.specs.declared.ends.SwitchEnd.{SwitchEnd}
 use Rattle.net_switch.specs.declared.ends.SwitchEnd.TheVariants as At
 use Rattle.net_switch.specs.declared.ends.SwitchEnds.{SwitchEnds}
+
+-- the call took an entry
+abbrev pub is_take : Op → Bool
+is_take Do.Take = true
+is_take Do.Put = false
+is_take Do.See = false
+is_take Do.Room = false
+is_take (Do.Ask s) = false
+is_take (Do.Waive s) = false
+is_take (Do.Wake s) = false
+is_take (Do.Wanted s) = false
+is_take (Do.Settle s) = false
+is_take (Do.Ring s) = false
+is_take (Do.Store w v) = false
 
 -- the queues on which the ports' frames come
 abbrev pub come_queues : SwitchEnds → List QueueId

@@ -1,40 +1,25 @@
 -- A switch: the order of its takes, what it stands for, its row, and the turn that it is at.
-use Rattle.std.specs.Prelude.{◌≡◌, ◌+◌, ◌<◌, ◌≤◌, ◌==◌, ◌&&◌, ℕ, Bool, true, false}
-use Rattle.std.specs.Prelude.{if◌then◌else◌, Option, None, List, [], ◌∷◌, ◌++◌, length, map}
+use Rattle.std.specs.Prelude.{◌≡◌, ◌+◌, ◌<◌, ◌≤◌, ◌==◌, ◌&&◌, if◌then◌else◌, ℕ, true, Option, None}
+use Rattle.std.specs.Prelude.{List, [], ◌∷◌, ◌++◌, length, map}
 use Rattle.std.specs.Prelude.{count_by, position, slice_get, slice_index_or}
 use Rattle.std.specs.Option.{option_and_then, option_map, option_to_list}
 use Rattle.cargo_core.specs.Lists.{IsPrefix}
 use Rattle.frame_core.specs.declared.mac.Mac.{Mac}
 use Rattle.wire_core.specs.declared.names.QueueId.{QueueId}
 use Rattle.wire_core.specs.declared.names.Event.{Event}
-use Rattle.wire_core.specs.declared.names.Op.{Op}
-use Rattle.wire_core.specs.declared.names.Op.TheVariants as Do
 use Rattle.wire_core.specs.Ends.{Role, End}
 use Rattle.wire_core.specs.Lists.{Passed, Lists}
 use Rattle.turn_kit.specs.Turns.{Round}
 use Rattle.buffer_kit.specs.Clients.{capped, queue_at}
 use Rattle.buffer_kit.specs.Entries.{all_filled}
+use Rattle.switch_desk.specs.declared.desk.Desk.{Desk}
 use Rattle.switch_desk.specs.Frames.{Sent, goes_to, is_lost, sent_to, frames_to, entries_from}
 use Rattle.switch_desk.specs.Desks.{IsDesk, DeskStands, is_taking, is_returning, is_wanting}
 use Rattle.switch_desk.specs.Desks.{IsNewDesk, is_loaded}
 use Rattle.net_switch.specs.declared.switch.NetSwitch.{NetSwitch}
 use Rattle.net_switch.specs.declared.switch.PortEnds.{PortEnds}
-use Rattle.net_switch.specs.Ends.{FitsEnds, SameEnds, AreNewEnds, ends_round, come_queues}
+use Rattle.net_switch.specs.Ends.{FitsEnds, SameEnds, AreNewEnds, is_take, ends_round, come_queues}
 use Rattle.net_switch.specs.Ends.{back_queues, room_queues, copy_queues}
-
--- the call took an entry
-abbrev pub is_take : Op → Bool
-is_take Do.Take = true
-is_take Do.Put = false
-is_take Do.See = false
-is_take Do.Room = false
-is_take (Do.Ask s) = false
-is_take (Do.Waive s) = false
-is_take (Do.Wake s) = false
-is_take (Do.Wanted s) = false
-is_take (Do.Settle s) = false
-is_take (Do.Ring s) = false
-is_take (Do.Store w v) = false
 
 -- how many of these calls took from a queue
 abbrev pub takes_on : ℕ → List Event → ℕ
@@ -73,6 +58,8 @@ pub record FitsSwitch (ends : Role → ℕ → End) (v : NetSwitch) : Type 0 whe
 
 -- its desk stands for what passed at its ends, and each entry that came was taken by a call
 pub record SwitchStandsFor (v : NetSwitch) (passed : Passed) : Type 0 where
+  pub fits : IsDesk v.desk
+  pub ports : length v.desk.macs.items ≡ length (come_queues v.ends)
   pub desk : DeskStands v.desk (all_sent v passed)
       (λ k. passed.taken (queue_at (room_queues v.ends) k))
       (λ k. passed.sent (queue_at (copy_queues v.ends) k))
@@ -103,7 +90,7 @@ pub record SwitchRow (v : NetSwitch) (passed : Passed) : Type 0 where
       ≤ length (frames_to v.desk.macs.items k (all_sent v passed))
   -- of each frame whose buffer went back, all copies were put before
   pub after_copies : (before after : List Sent) (x : Sent) (port : ℕ)
-      → all_sent v passed ≡ before ++ x ∷ after
+      → x.0 < length (come_queues v.ends) → all_sent v passed ≡ before ++ x ∷ after
       → length (entries_from x.0 before) < length (passed.sent (queue_at (back_queues v.ends) x.0))
       → goes_to v.desk.macs.items port x ≡ true
       → length (sent_to v.desk.macs.items port before)
@@ -122,7 +109,14 @@ switch_round v = ends_round v.ends (is_taking v.desk) (is_returning v.desk) (is_
 -- the queues and the addresses stay
 pub record SameSwitch (old new : NetSwitch) : Type 0 where
   pub ends : SameEnds old.ends new.ends
-  pub macs : new.desk.macs ≡ old.desk.macs
+  pub macs : new.desk.macs.items ≡ old.desk.macs.items
+
+-- what it holds stays
+pub record SameDesk (old new : Desk) : Type 0 where
+  pub macs : new.macs.items ≡ old.macs.items
+  pub slots : new.slots.items ≡ old.slots.items
+  pub order : new.order ≡ old.order
+  pub lost : new.lost ≡ old.lost
 
 -- the queue of a place among those of a port
 abbrev pub queue_of : List QueueId → ℕ → QueueId

@@ -1,7 +1,7 @@
 //! All ends of a switch: for each port one where its frames come, one where its buffers go back,
 //! one where buffers for copies come and one where copies go.
-ghost use Rattle.std.specs.Prelude.{◌≡◌, ◌==◌, ◌+◌, ◌<◌, ◌^◌, ◌++◌, ◌&&◌, ℕ, [], IfOk, IfSome};
-ghost use Rattle.std.specs.Prelude.{IsSome, length, map, is_some, slice_get, Some, None, true};
+ghost use Rattle.std.specs.Prelude.{◌≡◌, ◌==◌, ◌+◌, ◌<◌, ◌^◌, ◌*◌, ◌++◌, ◌&&◌, ℕ, [], IfOk};
+ghost use Rattle.std.specs.Prelude.{IfSome, IsSome, length, map, is_some, slice_get, Some, None, true};
 ghost use Rattle.std.specs.Prelude.{false};
 ghost use Rattle.std.specs.Option.{ForSome, option_to_list};
 ghost use Rattle.cargo_core.specs.Items.{kind_of};
@@ -13,7 +13,7 @@ ghost use Rattle.turn_kit.specs.Turns.{PostedAt, choice_of, chosen_place, last_a
 ghost use Rattle.buffer_kit.specs.Virtualising.{new_intake, new_outlet};
 ghost use Rattle.net_switch.specs.Ends.{FitsEnds, SameEnds, AreNewEnds, switch_posts, ends_round};
 ghost use Rattle.net_switch.specs.Ends.{place_of, IsThere, come_queues, back_queues, room_queues};
-ghost use Rattle.net_switch.specs.Ends.{copy_queues};
+ghost use Rattle.net_switch.specs.Ends.{copy_queues, is_take};
 
 use cargo_core::{Body, Item, Memory};
 use std::alloc::Global;
@@ -38,6 +38,13 @@ pub struct SwitchEnds {
     pub room: Intakes,
     pub copy: Outlets,
     pub turn: Turn,
+}
+
+// Whether all four are so.
+fn are_all(first: bool, second: bool, third: bool, fourth: bool) -> bool
+    ensures { result ≡ (first && (second && (third && fourth))) }
+{
+    first && second && third && fourth
 }
 
 // Consuming ends in their start state.
@@ -93,10 +100,11 @@ impl SwitchEnds {
         ensures { result ≡ is_at_rest (ends_round self.now (T.need taking.now)
             (R.need returning.now) (N.need wanting.now) (L.need loaded.now)) }
     {
-        self.come.settled(taking)
-            && self.back.settled(returning)
-            && self.room.settled(wanting)
-            && self.copy.settled(loaded)
+        let come = self.come.settled(taking);
+        let back = self.back.settled(returning);
+        let room = self.room.settled(wanting);
+        let copy = self.copy.settled(loaded);
+        are_all(come, back, room, copy)
     }
 
     // All ends, offered in their order.
@@ -183,6 +191,7 @@ impl SwitchEnds {
         ensures same { SameEnds self.old self.new }
         ensures did { W.did wires.old (deed_of result.0 result.1) wires.new }
         ensures on { slice_get (come_queues self.old) k ≡ Some result.0.queue }
+        ensures takes_one { is_take result.0.op ≡ is_some result.1 }
         ensures needed { IsSome result.1 → need ≡ true }
         ensures takes { (n : ℕ) → taken_by (deed_of result.0 result.1) n
             ≡ if_there (result.0.queue.0 == n) (option_to_list result.1) }
@@ -211,6 +220,7 @@ impl SwitchEnds {
         ensures same { SameEnds self.old self.new }
         ensures did { W.did wires.old (deed_of result (put_of result load.old)) wires.new }
         ensures on { slice_get (back_queues self.old) k ≡ Some result.queue }
+        ensures takes_none { is_take result.op ≡ false }
         ensures load { option_to_list load.old ≡ option_to_list (put_of result load.old)
             ++ option_to_list load.new }
         ensures takes { (n : ℕ) → taken_by (deed_of result (put_of result load.old)) n ≡ [] }
@@ -238,6 +248,7 @@ impl SwitchEnds {
         ensures same { SameEnds self.old self.new }
         ensures did { W.did wires.old (deed_of result.0 result.1) wires.new }
         ensures on { slice_get (room_queues self.old) k ≡ Some result.0.queue }
+        ensures takes_one { is_take result.0.op ≡ is_some result.1 }
         ensures needed { IsSome result.1 → need ≡ true }
         ensures takes { (n : ℕ) → taken_by (deed_of result.0 result.1) n
             ≡ if_there (result.0.queue.0 == n) (option_to_list result.1) }
@@ -266,6 +277,7 @@ impl SwitchEnds {
         ensures same { SameEnds self.old self.new }
         ensures did { W.did wires.old (deed_of result (put_of result load.old)) wires.new }
         ensures on { slice_get (copy_queues self.old) k ≡ Some result.queue }
+        ensures takes_none { is_take result.op ≡ false }
         ensures load { option_to_list load.old ≡ option_to_list (put_of result load.old)
             ++ option_to_list load.new }
         ensures takes { (n : ℕ) → taken_by (deed_of result (put_of result load.old)) n ≡ [] }

@@ -203,9 +203,9 @@ module _ (old new : Desk) (port : ℕ) (s : Slot) (x : Cargo) (h : IsDesk old) (
           let was = st.ports k (within_old old new k w.macs less) in
           elim (same_or_not k port) [
             | inl is ↦ rw is (port_at new port ss (ss ++ []) (gs port) (with_more gs port [] port) (ws port) (with_more ws port [] port) (bs port ++ x ∷ []) (with_more bs port (x ∷ []) port)
-              (append-nil ss) (still_more gs port port) (still_more ws port port) (there_more bs port port (x ∷ []) refl) (back_at ss (gs port) (ws port) (bs port) (rw (sym is) was)))
+                (append-nil ss) (still_more gs port port) (still_more ws port port) (there_more bs port port (x ∷ []) refl) (back_at ss (gs port) (ws port) (bs port) (rw (sym is) was)))
             | inr ne ↦ port_at new k ss (ss ++ []) (gs k) (with_more gs port [] k) (ws k) (with_more ws port [] k) (bs k) (with_more bs port (x ∷ []) k)
-              (append-nil ss) (still_more gs port k) (still_more ws port k) (other_more bs port k (x ∷ []) (λ e. ne (sym e))) (back_else k ne ss (gs k) (ws k) (bs k) was)
+                (append-nil ss) (still_more gs port k) (still_more ws port k) (other_more bs port k (x ∷ []) (λ e. ne (sym e))) (back_else k ne ss (gs k) (ws k) (bs k) was)
           ];
       lost = rw (append-nil ss, w.macs, w.lost) st.lost;
     };
@@ -260,13 +260,14 @@ module _ (old mid new : Desk) (port sender : ℕ) (s t : Slot) (x : Cargo) (h : 
   -- what was owed there is what is owed now, behind one more
   owed_one : (c : Sent) × (owed_to old port ≡ c ∷ owed_to new port)
   owed_one =
-      let f = first_held old h port sender first_old in
-      ((sender, f.1),
-      owed_settled (owed_by old port) (owed_by new port) sender
-      (λ y ne. ap (owed_in port y) (get_beside mid.slots.items new.slots.items sender t paid then v.slots y ne) ∙ get_same old.slots.items mid.slots.items port s bare there w.slots (owed_in port y) refl y)
-      (λ y. owes old y port) (sender, f.1) old.order first_old (λ y isnt. gives_none old port y isnt) (gives old port sender f.0 f.1 f.2 f.3 f.4)
-      (gives_none new port sender (ap (is_so (λ (u : Slot). slice_index_or u.owed port false)) (get_here mid.slots.items new.slots.items sender t paid then v.slots) ∙ cleared t.owed port)) f.5
-      ∙ ap (λ l. (sender, f.1) ∷ flat_map (owed_by new port) l) (sym order_stays))
+      let f = first_held old h port sender first_old in (
+        (sender, f.1),
+        owed_settled (owed_by old port) (owed_by new port) sender
+            (λ y ne. ap (owed_in port y) (get_beside mid.slots.items new.slots.items sender t paid then v.slots y ne) ∙ get_same old.slots.items mid.slots.items port s bare there w.slots (owed_in port y) refl y)
+            (λ y. owes old y port) (sender, f.1) old.order first_old (λ y isnt. gives_none old port y isnt) (gives old port sender f.0 f.1 f.2 f.3 f.4)
+            (gives_none new port sender (ap (is_so (λ (u : Slot). slice_index_or u.owed port false)) (get_here mid.slots.items new.slots.items sender t paid then v.slots) ∙ cleared t.owed port)) f.5
+            ∙ ap (λ l. (sender, f.1) ∷ flat_map (owed_by new port) l) (sym order_stays),
+      )
 
   settle_desk : IsDesk new
   settle_desk =
@@ -313,9 +314,9 @@ module _ (old mid new : Desk) (port sender : ℕ) (s t : Slot) (x : Cargo) (h : 
           let was = st.ports k (within_old old new k macs_stay less) in
           elim (same_or_not k port) [
             | inl is ↦ rw is (port_at new port ss (ss ++ []) (gs port) (with_more gs port [] port) (ws port ++ x ∷ []) (with_more ws port (x ∷ []) port) (bs port) (with_more bs port [] port)
-              (append-nil ss) (still_more gs port port) (there_more ws port port (x ∷ []) refl) (still_more bs port port) (settle_at ss (gs port) (ws port) (bs port) (rw (sym is) was)))
+                (append-nil ss) (still_more gs port port) (there_more ws port port (x ∷ []) refl) (still_more bs port port) (settle_at ss (gs port) (ws port) (bs port) (rw (sym is) was)))
             | inr ne ↦ port_at new k ss (ss ++ []) (gs k) (with_more gs port [] k) (ws k) (with_more ws port (x ∷ []) k) (bs k) (with_more bs port [] k)
-              (append-nil ss) (still_more gs port k) (other_more ws port k (x ∷ []) (λ e. ne (sym e))) (still_more bs port k) (settle_else k ne ss (gs k) (ws k) (bs k) was)
+                (append-nil ss) (still_more gs port k) (other_more ws port k (x ∷ []) (λ e. ne (sym e))) (still_more bs port k) (settle_else k ne ss (gs k) (ws k) (bs k) was)
           ];
       lost = rw (append-nil ss, macs_stay, v.lost, w.lost) st.lost;
     };
@@ -403,10 +404,10 @@ module _ (old new : Desk) (port : ℕ) (s : Slot) (entry copy : Cargo) (h : IsDe
           let was = st.ports k (within_old old new k w.macs less) in
           elim (same_or_not k port) [
             | inl is ↦ rw is (port_at new port ss (ss ++ []) (gs port ++ entry ∷ []) (with_more gs port (entry ∷ []) port) (ws port) (with_more ws port [] port) (bs port) (with_more bs port [] port)
-              (append-nil ss) (there_more gs port port (entry ∷ []) refl) (still_more ws port port) (still_more bs port port) (copy_at_port ss (gs port) (ws port) (bs port) (rw (sym is) was)))
+                (append-nil ss) (there_more gs port port (entry ∷ []) refl) (still_more ws port port) (still_more bs port port) (copy_at_port ss (gs port) (ws port) (bs port) (rw (sym is) was)))
             | inr ne ↦ port_at new k ss (ss ++ []) (gs k) (with_more gs port (entry ∷ []) k) (ws k) (with_more ws port [] k) (bs k) (with_more bs port [] k)
-              (append-nil ss) (other_more gs port k (entry ∷ []) (λ e. ne (sym e))) (still_more ws port k) (still_more bs port k)
-              (port_same old new k ss (gs k) (ws k) (bs k) w.macs (still_held k) (ap (entry_in (λ (u : Slot). u.copy)) (get_beside old.slots.items new.slots.items port s full there w.slots k ne)) (still_owed k) was)
+                (append-nil ss) (other_more gs port k (entry ∷ []) (λ e. ne (sym e))) (still_more ws port k) (still_more bs port k)
+                (port_same old new k ss (gs k) (ws k) (bs k) w.macs (still_held k) (ap (entry_in (λ (u : Slot). u.copy)) (get_beside old.slots.items new.slots.items port s full there w.slots k ne)) (still_owed k) was)
           ];
       lost = rw (append-nil ss, w.macs, w.lost) st.lost;
     };
@@ -527,9 +528,9 @@ module _ (old new : Desk) (port : ℕ) (s : Slot) (entry : Cargo) (h : IsDesk ol
           let was = st.ports k (within_old old new k macs less) in
           elim (same_or_not k port) [
             | inl is ↦ rw is (port_at new port (ss ++ one ∷ []) (ss ++ one ∷ []) (gs port) (with_more gs port [] port) (ws port) (with_more ws port [] port) (bs port) (with_more bs port [] port)
-              refl (still_more gs port port) (still_more ws port port) (still_more bs port port) (receive_at ss (gs port) (ws port) (bs port) (rw (sym is) was)))
+                refl (still_more gs port port) (still_more ws port port) (still_more bs port port) (receive_at ss (gs port) (ws port) (bs port) (rw (sym is) was)))
             | inr ne ↦ port_at new k (ss ++ one ∷ []) (ss ++ one ∷ []) (gs k) (with_more gs port [] k) (ws k) (with_more ws port [] k) (bs k) (with_more bs port [] k)
-              refl (still_more gs port k) (still_more ws port k) (still_more bs port k) (receive_else k ne ss (gs k) (ws k) (bs k) was)
+                refl (still_more gs port k) (still_more ws port k) (still_more bs port k) (receive_else k ne ss (gs k) (ws k) (bs k) was)
           ];
       lost = lost_more ss st.lost;
     };

@@ -89,11 +89,7 @@ impl<'a> Needs for Loaded<'a> {
 fn counted(count: u64, more: bool) -> u64
     ensures { result ≡ (if more then capped (count + 1) else count) }
 {
-    if more {
-        count.saturating_add(1)
-    } else {
-        count
-    }
+    if more { count.saturating_add(1) } else { count }
 }
 
 // Of so many ports nothing is held.

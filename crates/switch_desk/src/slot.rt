@@ -76,10 +76,10 @@ impl Slot {
     }
 
     /// A copy of its frame isn't owed to the port at a place any more.
-    pub fn settle(&mut self, port: usize)
-        requires { port < length self.old.owed }
-        ensures { self.new ≡ record self.old { owed = slice_set self.old.owed port false } }
+    pub fn settle(&mut self, receiver: usize)
+        requires { receiver < length self.old.owed }
+        ensures { self.new ≡ record self.old { owed = slice_set self.old.owed receiver false } }
     {
-        self.owed.remove(port);
+        self.owed.remove(receiver);
     }
 }

@@ -1,4 +1,4 @@
-use Rattle.std.proofs.Common.{◌≡◌, ◌==◌, ◌+◌, ℕ, zero, suc, Bool, Option, Some, None, List, true, false, not, cond, ltb, eqb, slice_get, slice_set, refl, sym, ap, ◌∙◌, arith}
+use Rattle.std.proofs.Common.{◌≡◌, ◌==◌, ◌+◌, ℕ, zero, suc, Bool, Option, Some, None, List, true, false, not, cond, ltb, eqb, slice_get, slice_set, refl, sym, ap, ◌∙◌, arith, ne_eqb}
 use Rattle.std.specs.Option.{is_none}
 use Rattle.std.proofs.lemmas.Bool.{lt-ltb}
 use Rattle.std.proofs.lemmas.Option.{slice_get_read, slice_get_within}
@@ -19,7 +19,7 @@ none_there (Some x) h = cc
 
 none_left : (n : ℕ) → not (ltb 0 n) ≡ eqb n 0
 none_left zero = refl
-none_left (suc n) = ap not (lt-ltb 0 (suc n) (omega arith))
+none_left (suc n) = ap not (lt-ltb 0 (suc n) (omega arith)) ∙ sym (ne_eqb (suc n) 0 (λ e. omega (arith, e)))
 
 pub returns : goal.returns
 returns c =
