@@ -4,6 +4,7 @@ use Rattle.std.specs.Option.{option_to_list}
 use Rattle.std.proofs.lemmas.Bool.{and_parts}
 use Rattle.std.proofs.lemmas.Option.{slice_get_read, slice_get_within}
 use Rattle.std.proofs.lemmas.List.{append-nil}
+use Rattle.cargo_core.specs.declared.item.Item.{Item}
 use Rattle.wire_core.specs.declared.names.QueueId.{QueueId}
 use Rattle.wire_core.specs.declared.names.Event.{Event}
 use Rattle.wire_core.specs.declared.names.Op.TheVariants as Do
@@ -27,13 +28,9 @@ use Rattle.net_switch.proofs.Steps.{goes_on_off, goes_on_here, desk_stays}
 pub is_there : (o : Option Cargo) (c : Cargo) → o ≡ Some c → is_some o ≡ true
 is_there o c e = ap is_some e
 
-pub is_nothing : (o : Option Cargo) → is_none o ≡ true → o ≡ None
+pub is_nothing : (o : Option Cargo) → is_some o ≡ false → o ≡ None
 is_nothing None h = refl
 is_nothing (Some c) h = cc
-
-pub is_something : (o : Option Cargo) → is_none o ≡ false → is_some o ≡ true
-is_something None h = cc
-is_something (Some c) h = refl
 
 no_and : (b : Bool) → (b && false) ≡ false
 no_and true = refl
@@ -43,7 +40,7 @@ no_and false = refl
 pub puts_none : (e : Event) → put_of e None ≡ None
 puts_none e = go e.item
   where
-    go : (i : Option _) → given i None ≡ None
+    go : (i : Option Item) → given i None ≡ None
     go None = refl
     go (Some i) = refl
 

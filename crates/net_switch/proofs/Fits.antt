@@ -1,5 +1,6 @@
 -- The ends of a switch go on to agree where one of them moved.
-use Rattle.std.proofs.Common.{◌≡◌, ◌↔◌, ℕ, false, true, Option, Some, None, IsSome, is_some, slice_get, length, refl, sym, ap, ◌∙◌, subst}
+use Rattle.std.proofs.Common.{◌≡◌, ◌↔◌, ℕ, false, true, Option, Some, None, IsSome, is_some, slice_get, length, inl, inr, refl, sym, ap, ◌∙◌, subst}
+use Rattle.std.proofs.lemmas.Bool.{cases_Bool}
 use Rattle.wire_core.specs.declared.names.QueueId.{QueueId}
 use Rattle.wire_core.specs.declared.names.Event.{Event}
 use Rattle.wire_core.specs.declared.names.Op.{Op}
@@ -120,24 +121,26 @@ module _ (ends ends' : Role → ℕ → End) (e : Event) (moves : Moves ends e e
       few = h.few;
     }
 
-none_came : (o : Op) (c : Option Cargo) → (IsSome c ↔ (o ≡ Do.Take)) → (o ≡ Do.Take → ⊥) → false ≡ is_some c
-none_came o None h off = refl
-none_came o (Some c) h off = absurd (off (h.0 tt))
+is_it : (o : Op) → is_take o ≡ true → o ≡ Do.Take
+is_it Do.Take h = refl
+is_it Do.Put h = cc
+is_it Do.See h = cc
+is_it Do.Room h = cc
+is_it (Do.Ask s) h = cc
+is_it (Do.Waive s) h = cc
+is_it (Do.Wake s) h = cc
+is_it (Do.Wanted s) h = cc
+is_it (Do.Settle s) h = cc
+is_it (Do.Ring s) h = cc
+is_it (Do.Store w v) h = cc
 
 -- a call took an entry just where one came
 pub takes_told : (o : Op) (c : Option Cargo) → (IsSome c ↔ (o ≡ Do.Take)) → is_take o ≡ is_some c
-takes_told Do.Take None h = absurd (h.1 refl)
-takes_told Do.Take (Some c) h = refl
-takes_told Do.Put c h = none_came Do.Put c h (λ e. cc)
-takes_told Do.See c h = none_came Do.See c h (λ e. cc)
-takes_told Do.Room c h = none_came Do.Room c h (λ e. cc)
-takes_told (Do.Ask s) c h = none_came (Do.Ask s) c h (λ e. cc)
-takes_told (Do.Waive s) c h = none_came (Do.Waive s) c h (λ e. cc)
-takes_told (Do.Wake s) c h = none_came (Do.Wake s) c h (λ e. cc)
-takes_told (Do.Wanted s) c h = none_came (Do.Wanted s) c h (λ e. cc)
-takes_told (Do.Settle s) c h = none_came (Do.Settle s) c h (λ e. cc)
-takes_told (Do.Ring s) c h = none_came (Do.Ring s) c h (λ e. cc)
-takes_told (Do.Store w v) c h = none_came (Do.Store w v) c h (λ e. cc)
+takes_told o None h = elim (cases_Bool (is_take o)) [
+  | inl is ↦ absurd (let bad = h.1 (is_it o is) in cc)
+  | inr isnt ↦ isnt
+]
+takes_told o (Some c) h = ap is_take (h.0 refl)
 
 -- a producing end takes nothing
 pub takes_nothing : (o : Op) → role_of o ≡ Producer → is_take o ≡ false

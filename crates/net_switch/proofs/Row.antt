@@ -57,7 +57,7 @@ same_pair x y true (Some c) (l ∷ []) rs h = cc
 same_pair x y true (Some c) (l ∷ m ∷ ls) rs h = cc
 
 -- an element of two lists is in one of them
-in_front_or_behind : (x : Sent) (xs ys ls rs : List Sent) → xs ++ ys ≡ ls ++ x ∷ rs → ((as : List Sent) × (bs : List Sent) × (xs ≡ as ++ x ∷ bs)) ⊎ ((as : List Sent) × (bs : List Sent) × (ys ≡ as ++ x ∷ bs))
+in_front_or_behind : (x : Sent) (xs ys ls rs : List Sent) → xs ++ ys ≡ ls ++ x ∷ rs → ((us : List Sent) × (bs : List Sent) × (xs ≡ us ++ x ∷ bs)) ⊎ ((us : List Sent) × (bs : List Sent) × (ys ≡ us ++ x ∷ bs))
 in_front_or_behind x [] ys ls rs h = inr (ls, rs, h)
 in_front_or_behind x (z ∷ xs) ys [] rs h = let e : z ≡ x = cc in inl ([], xs, ap (λ y. y ∷ xs) e)
 in_front_or_behind x (z ∷ xs) ys (l ∷ ls) rs h =
@@ -84,7 +84,7 @@ last_counts macs port s c (y ∷ ys) zs h goes = elim (cases_Bool (eqb y.0 s)) [
   | inl is ↦
       let here : y.0 ≡ s = eqb-true y.0 s is in
       let first : y.1 ∷ entries_from s ys ≡ zs ++ c ∷ [] = sym (subst (λ n. entries_from n (y ∷ ys) ≡ y.1 ∷ entries_from n ys) here (entries_one y ys)) ∙ h in
-      ended zs first here
+      ended zs first here (λ ws e. last_counts macs port s c ys ws e goes)
   | inr isnt ↦
       let rest = last_counts macs port s c ys zs (sym (ap (λ b. map (λ (x : Sent). x.1) (cond b (y ∷ filter (λ (x : Sent). x.0 == s) ys) (filter (λ (x : Sent). x.0 == s) ys))) isnt) ∙ h) goes in
       more (goes_to macs port y) rest
@@ -97,8 +97,8 @@ last_counts macs port s c (y ∷ ys) zs h goes = elim (cases_Bool (eqb y.0 s)) [
         let long = length-append (entries_from s (y ∷ [])) (entries_from s (sent_to macs port ys)) in
         omega (arith, rest, all, long)
 
-    ended : (ws : List Cargo) → y.1 ∷ entries_from s ys ≡ ws ++ c ∷ [] → y.0 ≡ s → 1 ≤ length (entries_from s (sent_to macs port (y ∷ ys)))
-    ended [] e here =
+    ended : (ws : List Cargo) → y.1 ∷ entries_from s ys ≡ ws ++ c ∷ [] → y.0 ≡ s → ((vs : List Cargo) → entries_from s ys ≡ vs ++ c ∷ [] → 1 ≤ length (entries_from s (sent_to macs port ys))) → 1 ≤ length (entries_from s (sent_to macs port (y ∷ ys)))
+    ended [] e here later =
         let same : y.1 ≡ c = cc in
         let is : y ≡ (s, c) = (λ i. (here i, same i)) in
         let goes_too : goes_to macs port y ≡ true = ap (goes_to macs port) is ∙ goes in
@@ -106,15 +106,15 @@ last_counts macs port s c (y ∷ ys) zs h goes = elim (cases_Bool (eqb y.0 s)) [
         let long = length-append (entries_from s (y ∷ [])) (entries_from s (sent_to macs port ys)) in
         let mine = ap length (subst (λ n. entries_from n (y ∷ []) ≡ y.1 ∷ entries_from n []) here (entries_one y [])) in
         rw goes_too (omega (arith, one, long, mine))
-    ended (w ∷ ws) e here =
+    ended (w ∷ ws) e here later =
         let rest : entries_from s ys ≡ ws ++ c ∷ [] = cc in
-        more (goes_to macs port y) (last_counts macs port s c ys ws rest goes)
+        more (goes_to macs port y) (later ws rest)
 
 -- the last of a list
-behind : (as bs : List Cargo) (x : Cargo) (ys : List Cargo) → as ++ x ∷ [] ≡ bs ++ ys → length bs < length as + 1 → (zs : List Cargo) × (ys ≡ zs ++ x ∷ [])
-behind as [] x ys h less = (as, sym h)
+behind : (us bs : List Cargo) (x : Cargo) (ys : List Cargo) → us ++ x ∷ [] ≡ bs ++ ys → length bs < length us + 1 → (zs : List Cargo) × (ys ≡ zs ++ x ∷ [])
+behind us [] x ys h less = (us, sym h)
 behind [] (b ∷ bs) x ys h less = absurd (omega (arith, less))
-behind (a ∷ as) (b ∷ bs) x ys h less = behind as bs x ys (let rest : as ++ x ∷ [] ≡ bs ++ ys = cc in rest) (omega (arith, less))
+behind (a ∷ us) (b ∷ bs) x ys h less = behind us bs x ys (let rest : us ++ x ∷ [] ≡ bs ++ ys = cc in rest) (omega (arith, less))
 
 goes_within : (xs : List Bool) (k : ℕ) → slice_index_or xs k false ≡ true → k < length xs
 goes_within [] k h = cc

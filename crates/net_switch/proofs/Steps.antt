@@ -1,9 +1,11 @@
 -- A switch goes on to stand for what passed, where a call comes after the others.
-use Rattle.std.proofs.Common.{◌≡◌, ◌⊎◌, ◌==◌, ◌&&◌, ◌+◌, ◌<◌, ◌≤◌, ℕ, zero, suc, Bool, true, false, cond, Option, Some, None, List, [], ◌∷◌, ◌++◌, length, slice_get, slice_index_or, is_some, eqb, refl, sym, ap, ◌∙◌, inl, inr, arith, eq-eqb, ne_eqb, add-zero}
+use Rattle.std.proofs.Common.{◌≡◌, ◌⊎◌, ◌==◌, ◌&&◌, ◌+◌, ◌<◌, ◌≤◌, ℕ, zero, suc, Bool, true, false, cond, Option, Some, None, List, [], ◌∷◌, ◌++◌, length, slice_get, slice_index_or, is_some, eqb, flat_map, drop, subst, refl, sym, ap, ◌∙◌, inl, inr, arith, eq-eqb, ne_eqb, add-zero}
+use Rattle.std.specs.List.{find, count_by}
 use Rattle.std.specs.Option.{option_to_list}
 use Rattle.std.proofs.lemmas.Bool.{cases_Bool}
 use Rattle.std.proofs.lemmas.Option.{slice_get_within}
 use Rattle.std.proofs.lemmas.List.{append-nil, length-append}
+use Rattle.frame_core.specs.declared.mac.Mac.{Mac}
 use Rattle.wire_core.specs.declared.names.QueueId.{QueueId}
 use Rattle.wire_core.specs.declared.names.Event.{Event}
 use Rattle.wire_core.specs.declared.names.Op.{Op}
@@ -12,14 +14,16 @@ use Rattle.wire_core.specs.Deeds.{Deed, Cargo, cargo_of}
 use Rattle.wire_core.specs.Lists.{Lists, Passed, with, with_deed, taken_by, put_by, if_there, if_taken}
 use Rattle.wire_core.specs.Ends.{Role, End}
 use Rattle.turn_kit.specs.ManyEnds.{AreApart}
-use Rattle.buffer_kit.specs.Clients.{queue_at, with_more}
+use Rattle.buffer_kit.specs.Clients.{queue_at, with_more, entry_in, is_so, capped}
+use Rattle.buffer_kit.specs.Entries.{all_filled}
 use Rattle.buffer_kit.proofs.ManyClients.{none_if, queue_there, queue_is, at_client}
 use Rattle.buffer_kit.proofs.Passing.{beside}
+use Rattle.switch_desk.specs.declared.slot.Slot.{Slot}
 use Rattle.switch_desk.specs.declared.desk.Desk.{Desk}
-use Rattle.switch_desk.specs.Frames.{Sent, entries_from}
-use Rattle.switch_desk.specs.Desks.{DeskStands, PortStands, Moved, IsDesk, IsKept, held_at, copy_at, owed_to}
+use Rattle.switch_desk.specs.Frames.{Sent, entries_from, frames_to, sent_to, is_lost}
+use Rattle.switch_desk.specs.Desks.{DeskStands, PortStands, Moved, IsDesk, IsSlot, held_at, copy_at, owed_to, first_owing, has_copy}
 use Rattle.switch_desk.proofs.Moves.{from_here, from_else}
-use Rattle.switch_desk.proofs.Places.{same_or_not, still_more}
+use Rattle.switch_desk.proofs.Places.{same_or_not, still_more, owed_in}
 use Rattle.net_switch.specs.declared.switch.NetSwitch.{NetSwitch}
 use Rattle.net_switch.specs.Ends.{FitsEnds, SameEnds, ShareNone, is_take, come_queues, back_queues, room_queues, copy_queues}
 use Rattle.net_switch.specs.Switching.{FitsSwitch, SwitchStandsFor, SameSwitch, SameDesk, takes_on, taken_after, taken_in_order, took, all_sent}
@@ -54,30 +58,46 @@ stands_as d ss ss' gs gs' ws ws' bs bs' e g w b h = record {
 }
 
 -- a desk that stays
-port_stays : (old new : Desk) (k : ℕ) (ss : List Sent) (gave went back : List Cargo) → SameDesk old new → PortStands old k ss gave went back → PortStands new k ss gave went back
-port_stays old new k ss gave went back same h = record {
-  backs = rw same.slots h.backs;
-  copies = rw (same.slots, same.macs) h.copies;
-  takes = rw same.slots h.takes;
-  owed = rw (same.slots, same.macs, same.order) h.owed;
-}
+module _ (old new : Desk) (same : SameDesk old new) where
+  first_stays : (k : ℕ) → first_owing new k ≡ first_owing old k
+  first_stays k = (λ i. find (λ x. is_so (λ (s : Slot). slice_index_or s.owed k false) (slice_get (same.slots i) x)) (same.order i))
+
+  owed_stays : (k : ℕ) → owed_to new k ≡ owed_to old k
+  owed_stays k = (λ i. flat_map (λ x. owed_in k x (slice_get (same.slots i) x)) (same.order i))
+
+  held_stays : (k : ℕ) → held_at new k ≡ held_at old k
+  held_stays k = ap (λ (xs : List Slot). entry_in (λ (s : Slot). s.frame) (slice_get xs k)) same.slots
+
+  copy_stays : (k : ℕ) → copy_at new k ≡ copy_at old k
+  copy_stays k = ap (λ (xs : List Slot). entry_in (λ (s : Slot). s.copy) (slice_get xs k)) same.slots
+
+  port_stays : (k : ℕ) (ss : List Sent) (gave went back : List Cargo) → PortStands old k ss gave went back → PortStands new k ss gave went back
+  port_stays k ss gave went back h = record {
+    backs = ap (λ o. back ++ option_to_list o) (held_stays k) ∙ h.backs;
+    copies = ap (λ o. went ++ option_to_list o) (copy_stays k) ∙ (h.copies ∙ ap (λ (m : List Mac). all_filled (frames_to m k ss) gave) (sym same.macs));
+    takes = h.takes ∙ ap (λ o. length (went ++ option_to_list o)) (sym (copy_stays k));
+    owed = ap (λ (m : List Mac). drop (length went) (sent_to m k ss)) same.macs ∙ (h.owed ∙ sym (owed_stays k));
+  }
+
+  desk_is : IsDesk old → IsDesk new
+  desk_is h = record {
+    kept = record {
+      few = rw same.macs h.kept.few;
+      many = ap length same.slots ∙ (h.kept.many ∙ ap length (sym same.macs));
+      each = λ k s at. subst (λ n. IsSlot n s) (ap length (sym same.macs)) (h.kept.each k s (ap (λ (xs : List Slot). slice_get xs k) (sym same.slots) ∙ at));
+      order = rw (same.macs, same.order) h.kept.order;
+    };
+    copied = λ k loaded. ap is_some (first_stays k) ∙ h.copied k (ap (λ (xs : List Slot). is_so has_copy (slice_get xs k)) (sym same.slots) ∙ loaded);
+  }
 
 pub desk_stays : (old new : Desk) (port : ℕ) → SameDesk old new → IsDesk old → Moved old new port [] [] [] []
 desk_stays old new port same h = record {
-  desk = record {
-    kept = record {
-      few = rw same.macs h.kept.few;
-      many = rw (same.slots, same.macs) h.kept.many;
-      each = rw (same.slots, same.macs) h.kept.each;
-      order = rw (same.macs, same.order) h.kept.order;
-    };
-    copied = rw (same.slots, same.order) h.copied;
-  };
+  desk = desk_is old new same h;
   macs = same.macs;
   stands = λ ss gs ws bs st. stands_as new ss (ss ++ []) gs (with_more gs port []) ws (with_more ws port []) bs (with_more bs port []) (append-nil ss) (λ k less. still_more gs port k) (λ k less. still_more ws port k) (λ k less. still_more bs port k)
       (record {
-        ports = λ k less. port_stays old new k ss (gs k) (ws k) (bs k) same (st.ports k (rw (sym same.macs) less));
-        lost = rw (same.macs, same.lost) st.lost;
+        ports = λ k less. port_stays old new same k ss (gs k) (ws k) (bs k) (st.ports k (let e = ap length same.macs in omega (arith, e, less)));
+        lost = same.lost ∙ (st.lost ∙ ap (λ (m : List Mac). capped (count_by (is_lost m) ss)) (sym same.macs));
       });
 }
 
@@ -196,7 +216,7 @@ module _ (v new : NetSwitch) (same : SameEnds v.ends new.ends) (ports : length v
         ])
         (λ k near.
         let a = takes_more (queue_at (come_queues v.ends) k) passed.calls d.event in
-        let b = ap (λ b. cond b 1 0) (takes_at k near) in
+        let b = ap (λ t. cond {A = ℕ} t 1 0) (takes_at k near) in
         let e = length-append (passed.taken (queue_at (come_queues v.ends) k)) (taken_by d (queue_at (come_queues v.ends) k)) in
         let f = ap length (at_port k near) ∙ one_long (port == k) c in
         let i = h.called k near in

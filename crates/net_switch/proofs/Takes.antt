@@ -12,7 +12,8 @@ use Rattle.wire_core.specs.Deeds.{Cargo}
 use Rattle.wire_core.specs.Lists.{Lists, with}
 use Rattle.turn_kit.specs.ManyEnds.{AreApart}
 use Rattle.switch_desk.specs.Frames.{Sent}
-use Rattle.net_switch.specs.Switching.{is_take, takes_on, port_of, took, taken_after}
+use Rattle.net_switch.specs.Ends.{is_take}
+use Rattle.net_switch.specs.Switching.{takes_on, port_of, took, taken_after}
 
 some_eq : {X : Type 0} {a b : X} → Some a ≡ Some b → a ≡ b
 some_eq h = cc
@@ -29,7 +30,7 @@ takes_before : (n : ℕ) (before es : List Event) (e : Event) → takes n e ≡ 
 takes_before n before es e is =
     let a = sum_by-append (λ (x : Event). cond (takes n x) 1 0) before (e ∷ es) in
     let b = sum_by-cons (λ (x : Event). cond (takes n x) 1 0) e es in
-    let one : cond (takes n e) 1 0 ≡ 1 = ap (λ c. cond c 1 0) is in
+    let one : cond {A = ℕ} (takes n e) 1 0 ≡ 1 = ap (λ b. cond {A = ℕ} b 1 0) is in
     omega (arith, a, b, one)
 
 found_at : (m n k : ℕ) → cond (ltb m n) (Some m) None ≡ Some k → (m < n) × (m ≡ k)
@@ -46,7 +47,7 @@ there n (x ∷ qs) h = elim (cases_Bool (eqb x.0 n)) [
   | inr isnt ↦
       let less : position_or_len (λ (q : QueueId). q.0 == n) (x ∷ qs) ≡ suc (position_or_len (λ (q : QueueId). q.0 == n) qs) = rw isnt (omega arith) in
       let rest = there n qs (omega (arith, h, less)) in
-      (rest.0, (rw less rest.1), rest.2)
+      (rest.0, ap (slice_get (x ∷ qs)) less ∙ rest.1, rest.2)
 ]
 
 pub port_there : (qs : List QueueId) (e : Event) (k : ℕ) → port_of qs e ≡ Some k → (q : QueueId) × (slice_get qs k ≡ Some q) × (takes q.0 e ≡ true)
@@ -123,18 +124,15 @@ get_front (x ∷ xs) ys (suc k) h = get_front xs ys k (omega (arith, h))
 took_more : (qs : List QueueId) (taken more : Lists) (before : List Event) (x : Event) → ((k : ℕ) (q : QueueId) → slice_get qs k ≡ Some q → takes q.0 x ≡ true → takes_on q.0 before < length (taken q.0)) → took qs (with taken more) before x ≡ took qs taken before x
 took_more qs taken more before x h = go (port_of qs x) refl
   where
-    go : (o : Option ℕ) → port_of qs x ≡ o → option_to_list (option_and_then (λ (port : ℕ). option_map (λ (c : Cargo). (port, c)) (slice_get (with taken more x.queue.0) (takes_on x.queue.0 before))) (port_of qs x))
-        ≡ option_to_list (option_and_then (λ (port : ℕ). option_map (λ (c : Cargo). (port, c)) (slice_get (taken x.queue.0) (takes_on x.queue.0 before))) (port_of qs x))
+    go : (o : Option ℕ) → port_of qs x ≡ o → option_to_list {X = Sent} (option_and_then (λ (port : ℕ). option_map (λ (c : Cargo). (port, c)) (slice_get (with taken more x.queue.0) (takes_on x.queue.0 before))) (port_of qs x))
+        ≡ option_to_list {X = Sent} (option_and_then (λ (port : ℕ). option_map (λ (c : Cargo). (port, c)) (slice_get (taken x.queue.0) (takes_on x.queue.0 before))) (port_of qs x))
     go None e = rw e refl
     go (Some k) e =
         let t = port_there qs x k e in
-        let same : q_of t.0 ≡ x.queue.0 = sym (eqb-true x.queue.0 (q_of t.0) (second (is_take x.op) (x.queue.0 == q_of t.0) t.2)) in
+        let same : t.0.0 ≡ x.queue.0 = sym (eqb-true x.queue.0 t.0.0 (second (is_take x.op) (x.queue.0 == t.0.0) t.2)) in
         let less : takes_on x.queue.0 before < length (taken x.queue.0) = rw (sym same) (h k t.0 t.1 t.2) in
-        ap (λ g. option_to_list (option_and_then (λ (port : ℕ). option_map (λ (c : Cargo). (port, c)) g) (port_of qs x))) (get_front (taken x.queue.0) (more x.queue.0) (takes_on x.queue.0 before) less)
+        ap (λ g. option_to_list {X = Sent} (option_and_then (λ (port : ℕ). option_map (λ (c : Cargo). (port, c)) g) (port_of qs x))) (get_front (taken x.queue.0) (more x.queue.0) (takes_on x.queue.0 before) less)
       where
-        q_of : QueueId → ℕ
-        q_of q = q.0
-
         second : (a b : Bool) → (a && b) ≡ true → b ≡ true
         second true b h = h
         second false b h = cc

@@ -4,7 +4,6 @@ use Rattle.std.specs.Prelude.{List, [], ◌∷◌, ◌++◌, length, map}
 use Rattle.std.specs.Prelude.{count_by, position, slice_get, slice_index_or}
 use Rattle.std.specs.Option.{option_and_then, option_map, option_to_list}
 use Rattle.cargo_core.specs.Lists.{IsPrefix}
-use Rattle.frame_core.specs.declared.mac.Mac.{Mac}
 use Rattle.wire_core.specs.declared.names.QueueId.{QueueId}
 use Rattle.wire_core.specs.declared.names.Event.{Event}
 use Rattle.wire_core.specs.Ends.{Role, End}

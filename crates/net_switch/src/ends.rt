@@ -1,7 +1,8 @@
 //! All ends of a switch: for each port one where its frames come, one where its buffers go back,
 //! one where buffers for copies come and one where copies go.
 ghost use Rattle.std.specs.Prelude.{◌≡◌, ◌==◌, ◌+◌, ◌<◌, ◌^◌, ◌*◌, ◌++◌, ◌&&◌, ℕ, [], IfOk};
-ghost use Rattle.std.specs.Prelude.{IfSome, IsSome, length, map, is_some, slice_get, Some, None, true};
+ghost use Rattle.std.specs.Prelude.{IfSome, IsSome, length, map, is_some, slice_get, Some, None};
+ghost use Rattle.std.specs.Prelude.{true};
 ghost use Rattle.std.specs.Prelude.{false};
 ghost use Rattle.std.specs.Option.{ForSome, option_to_list};
 ghost use Rattle.cargo_core.specs.Items.{kind_of};

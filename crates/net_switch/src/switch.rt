@@ -82,8 +82,9 @@ impl NetSwitch {
         let back = sending(alloc, &ports, 1)?;
         let copy = receiving(alloc, &ports, 0)?;
         let room = receiving(alloc, &ports, 1)?;
+        let macs = macs_of(alloc, &ports)?;
         let ends = SwitchEnds::new(alloc, &come, &back, &room, &copy)?;
-        let desk = Desk::new(alloc, macs_of(alloc, &ports)?)?;
+        let desk = Desk::new(alloc, macs)?;
         Ok(NetSwitch { ends, desk })
     }
 

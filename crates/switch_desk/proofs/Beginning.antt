@@ -1,5 +1,5 @@
 -- A desk that took nothing yet.
-use Rattle.std.proofs.Common.{◌≡◌, ◌<◌, ◌^◌, ◌++◌, ℕ, zero, suc, Bool, false, true, cond, List, [], ◌∷◌, length, drop, flat_map, replicate, Option, Some, None, slice_get, slice_index_or, refl, ap, sym, ◌∙◌}
+use Rattle.std.proofs.Common.{◌≡◌, ◌<◌, ◌^◌, ◌++◌, ℕ, zero, suc, Bool, false, cond, List, [], ◌∷◌, length, flat_map, replicate, Option, Some, None, slice_get, slice_index_or, refl, ap, sym, ◌∙◌}
 use Rattle.std.specs.Option.{is_some, option_to_list, option_map}
 use Rattle.std.proofs.lemmas.List.{length-replicate}
 use Rattle.frame_core.specs.declared.mac.Mac.{Mac}
@@ -9,7 +9,7 @@ use Rattle.buffer_kit.proofs.ManyClients.{so_there}
 use Rattle.switch_desk.specs.declared.slot.Slot.{Slot}
 use Rattle.switch_desk.specs.declared.desk.Desk.{Desk}
 use Rattle.switch_desk.specs.Frames.{Sent}
-use Rattle.switch_desk.specs.Desks.{IsNewSlot, IsNewDesk, IsDesk, DeskStands, PortStands, held_at, copy_at, owed_by, owed_to, owes, has_copy}
+use Rattle.switch_desk.specs.Desks.{IsNewSlot, IsNewDesk, IsDesk, DeskStands, held_at, copy_at, owed_by, owes, has_copy}
 
 none_set : (n k : ℕ) → slice_index_or (replicate n false) k false ≡ false
 none_set zero k = refl

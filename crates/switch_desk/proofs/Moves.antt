@@ -1,10 +1,10 @@
 -- What a switch holds goes on to stand for what passed, where a frame came, a buffer was filled, a
 -- copy was put or a buffer went back.
-use Rattle.std.proofs.Common.{◌≡◌, ◌⊎◌, ◌+◌, ◌<◌, ◌≤◌, ◌==◌, ℕ, zero, suc, Bool, true, false, not, cond, eqb, List, [], ◌∷◌, ◌++◌, length, map, drop, flat_map, Option, Some, None, slice_get, slice_set, slice_index_or, inl, inr, refl, ap, sym, ◌∙◌, arith, ne_eqb, ltb}
+use Rattle.std.proofs.Common.{◌≡◌, ◌⊎◌, ◌+◌, ◌<◌, ◌≤◌, ◌==◌, ℕ, zero, suc, Bool, true, false, not, cond, List, [], ◌∷◌, ◌++◌, length, map, drop, flat_map, Option, Some, None, slice_get, slice_set, slice_index_or, inl, inr, refl, ap, sym, ◌∙◌, arith, ne_eqb, ltb}
 use Rattle.std.specs.List.{filter, find, count_by}
-use Rattle.std.specs.Option.{is_some, is_none, option_to_list, option_map}
+use Rattle.std.specs.Option.{is_some, option_to_list, option_map}
 use Rattle.std.proofs.lemmas.Bool.{cases_Bool, cases_lt, and_parts, eq-eqb, lt-ltb}
-use Rattle.std.proofs.lemmas.List.{append-nil, append_assoc, length-set, drop-append-le, get_or-set_other, map-append, length-map}
+use Rattle.std.proofs.lemmas.List.{append-nil, length-set, drop-append-le, get_or-set_other, map-append, length-map}
 use Rattle.std.proofs.lemmas.Option.{slice_get_within}
 use Rattle.std.proofs.lemmas.List.Elements.{filter-append}
 use Rattle.std.proofs.lemmas.List.Sums.{sum_by_push}
@@ -25,7 +25,7 @@ use Rattle.switch_desk.specs.declared.slot.Slot.{Slot}
 use Rattle.switch_desk.specs.declared.desk.Desk.{Desk}
 use Rattle.switch_desk.specs.Frames.{Sent, goes_to, is_lost, sent_to, frames_to, entries_from, receivers_of}
 use Rattle.switch_desk.specs.Orders.{times, AreOnce, turned_last}
-use Rattle.switch_desk.specs.Desks.{IsSlot, IsKept, IsDesk, WithSlot, PortStands, DeskStands, Moved, IsFilledFor, held_at, copy_at, owes, first_owing, owed_by, owed_to, is_loaded, is_wanting, is_taking, is_copied, has_copy, is_free}
+use Rattle.switch_desk.specs.Desks.{IsSlot, IsKept, IsDesk, WithSlot, PortStands, Moved, IsFilledFor, held_at, copy_at, owes, first_owing, owed_by, owed_to, is_loaded, is_copied, has_copy}
 use Rattle.switch_desk.proofs.Orders.{turned_times, turned_once}
 use Rattle.switch_desk.proofs.Owing.{owed_turned, owed_settled, owed_same, owed_first, found_there, there_found, some_there}
 use Rattle.switch_desk.proofs.Places.{same_or_not, get_here, get_beside, get_same, get_long, get_each, owed_in, cleared, still_more, kept}

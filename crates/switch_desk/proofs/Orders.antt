@@ -1,7 +1,7 @@
 -- The places of an order: each stands there once, also after one of them was turned to.
-use Rattle.std.proofs.Common.{◌≡◌, ℕ, suc, ◌+◌, ◌<◌, ◌≤◌, Bool, true, false, cond, not, ltb, eqb, slice_index_or, List, [], ◌∷◌, ◌++◌, length, Option, Some, None, refl, inl, inr, ap, sym, ◌∙◌, zero-add, arith}
+use Rattle.std.proofs.Common.{◌≡◌, ℕ, suc, ◌+◌, ◌<◌, true, false, cond, not, ltb, eqb, slice_index_or, List, [], ◌∷◌, ◌++◌, length, Some, None, refl, inl, inr, ap, sym, ◌∙◌, zero-add, arith}
 use Rattle.std.specs.List.{filter, position, position_or_len, remove}
-use Rattle.std.proofs.lemmas.Bool.{cases_Bool, cases_lt, eqb-true, eqb-false, eq-eqb, ltb-true, lt-ltb}
+use Rattle.std.proofs.lemmas.Bool.{cases_Bool, cases_lt, eqb-true, eq-eqb, ltb-true, lt-ltb}
 use Rattle.wire_core.specs.Bells.{bit}
 use Rattle.switch_desk.specs.Orders.{times, AreOnce, turned_last}
 

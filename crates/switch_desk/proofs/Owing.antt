@@ -1,5 +1,5 @@
 -- What is owed to one port by the ports of an order, where what one of them owes changes.
-use Rattle.std.proofs.Common.{◌≡◌, ◌⊎◌, ℕ, zero, suc, ◌+◌, ◌<◌, ◌≤◌, take, slice_get, Bool, true, false, not, cond, eqb, List, [], ◌∷◌, ◌++◌, length, flat_map, Option, Some, None, inl, inr, refl, ap, sym, ◌∙◌, arith}
+use Rattle.std.proofs.Common.{◌≡◌, ℕ, zero, suc, ◌<◌, ◌≤◌, take, slice_get, Bool, true, false, not, eqb, List, [], ◌∷◌, ◌++◌, length, flat_map, Option, Some, None, inl, inr, refl, ap, sym, ◌∙◌, arith}
 use Rattle.std.specs.List.{filter, find}
 use Rattle.std.specs.Option.{is_some}
 use Rattle.std.proofs.lemmas.Bool.{cases_Bool, eqb-true, eq-eqb}

@@ -1,19 +1,16 @@
 -- What is kept of each port, where one of them changed.
-use Rattle.std.proofs.Common.{◌≡◌, ◌⊎◌, ℕ, suc, ◌<◌, ◌≤◌, Bool, true, false, cond, eqb, List, [], ◌∷◌, ◌++◌, length, Option, Some, None, slice_get, slice_set, slice_index_or, inl, inr, refl, ap, sym, ◌∙◌, zero, arith}
+use Rattle.std.proofs.Common.{◌≡◌, ◌⊎◌, ℕ, suc, Bool, false, cond, eqb, List, [], ◌∷◌, ◌++◌, length, Option, Some, slice_get, slice_set, slice_index_or, inl, inr, refl, ap, sym, ◌∙◌, zero}
 use Rattle.std.specs.Option.{option_to_list, option_map}
 use Rattle.std.proofs.lemmas.Bool.{cases_Bool, eqb-true, eq-eqb}
-use Rattle.std.proofs.lemmas.List.{append-nil, length-set, get_or-set_other}
-use Rattle.std.proofs.lemmas.Option.{slice_get_within, slice_get-get_or}
+use Rattle.std.proofs.lemmas.List.{append-nil, length-set}
 use Rattle.wire_core.specs.Deeds.{Cargo}
-use Rattle.wire_core.specs.Lists.{if_there}
 use Rattle.wire_core.proofs.Places.{slice_get_written, slice_get_beside}
 use Rattle.buffer_kit.specs.Clients.{entry_in, is_so, with_more}
 use Rattle.buffer_kit.proofs.ManyClients.{none_if}
 use Rattle.switch_desk.specs.declared.slot.Slot.{Slot}
 use Rattle.switch_desk.specs.declared.desk.Desk.{Desk}
 use Rattle.switch_desk.specs.Frames.{Sent}
-use Rattle.switch_desk.specs.Orders.{AreOnce}
-use Rattle.switch_desk.specs.Desks.{IsSlot, IsKept, WithSlot, owed_by, owes}
+use Rattle.switch_desk.specs.Desks.{IsSlot, IsKept, WithSlot}
 
 pub same_or_not : (a b : ℕ) → (a ≡ b) ⊎ (a ≡ b → ⊥)
 same_or_not a b = elim (cases_Bool (eqb a b)) [

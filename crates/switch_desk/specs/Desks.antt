@@ -1,6 +1,6 @@
 -- What a switch holds, and how that stands for what it took and put.
 use Rattle.std.specs.Prelude.{◌≡◌, ◌<◌, ◌^◌, ◌&&◌, if◌then◌else◌, ℕ, Bool, not, nat_lt, is_none}
-use Rattle.std.specs.Prelude.{is_some, Option, Some, None, List, [], ◌∷◌, ◌++◌, length, drop}
+use Rattle.std.specs.Prelude.{is_some, Option, Some, None, List, [], ◌++◌, length, drop}
 use Rattle.std.specs.Prelude.{flat_map, replicate, count_by, slice_get, slice_set, slice_index_or}
 use Rattle.std.specs.Prelude.{false, true}
 use Rattle.std.specs.List.{find}

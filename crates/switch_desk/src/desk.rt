@@ -1,5 +1,5 @@
 //! What a switch holds of all its ports.
-ghost use Rattle.std.specs.Prelude.{◌≡◌, ◌<◌, ◌^◌, [], ◌∷◌, ℕ, IfOk, IfSome, Some, None, true};
+ghost use Rattle.std.specs.Prelude.{◌≡◌, ◌<◌, ◌^◌, [], ◌∷◌, ℕ, IfOk, Some, None, true};
 ghost use Rattle.std.specs.Prelude.{◌+◌, if◌then◌else◌, length, slice_get};
 ghost use Rattle.cargo_core.specs.Items.{kind_of};
 ghost use Rattle.cargo_core.specs.declared.item.QueueKind.TheVariants as Kind;
@@ -9,7 +9,8 @@ ghost use Rattle.buffer_kit.specs.Clients.{capped};
 ghost use Rattle.switch_desk.specs.declared.slot.Slot.{Slot};
 ghost use Rattle.switch_desk.specs.Desks.{IsDesk, IsNewDesk, IsNewSlot, Moved};
 ghost use Rattle.switch_desk.specs.Desks.{is_taking, is_returning, is_wanting, is_loaded, owes};
-ghost use Rattle.switch_desk.specs.Desks.{first_owing, is_copied, WithSlot, DeskStands, IsFilledFor};
+ghost use Rattle.switch_desk.specs.Desks.{first_owing, is_copied, WithSlot, DeskStands};
+ghost use Rattle.switch_desk.specs.Desks.{IsFilledFor};
 
 use crate::order::Order;
 use crate::slot::Slot;

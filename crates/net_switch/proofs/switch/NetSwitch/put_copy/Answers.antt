@@ -1,4 +1,4 @@
-use Rattle.std.proofs.Common.{◌≡◌, ◌==◌, Option, true, None, slice_set, refl, sym, ap, ◌∙◌, subst}
+use Rattle.std.proofs.Common.{◌≡◌, ◌==◌, Option, true, None, not, slice_set, refl, sym, ap, ◌∙◌, subst}
 use Rattle.std.specs.Option.{is_some, option_map, option_to_list}
 use Rattle.wire_core.specs.Deeds.{Cargo, deed_of, put_of}
 use Rattle.wire_core.specs.Lists.{if_there}
@@ -8,7 +8,7 @@ use Rattle.switch_desk.specs.Desks.{has_copy}
 use Rattle.net_switch.specs.declared.ends.SwitchEnd.TheVariants as At
 use Rattle.net_switch.specs.Ends.{switch_posts, place_of}
 use Rattle.net_switch.proofs.Steps.{desk_stays}
-use Rattle.net_switch.proofs.Calls.{fits_on, copied, still, copy_stays, gone_list, stays_list, is_nothing, is_something, loaded_there, slot_there}
+use Rattle.net_switch.proofs.Calls.{fits_on, copied, still, copy_stays, gone_list, stays_list, is_nothing, loaded_there, slot_there}
 use Rattle.net_switch.proofs.switch.NetSwitch.put_copy.Goals as goal
 
 pub step_copy-event-requires-clause-kind : goal.step_copy-event-requires-clause-kind
@@ -22,7 +22,7 @@ settle-requires g c =
     let d = c.args.self.now.desk in
     let s = c.index_mut-slot.result.now in
     let at = slot_there d c.args.port s has_copy c.requires.loaded c.index_mut-slot.ensures.value in
-    let gone = is_nothing c.step_copy-event.new.load (sym c.is_none.ensures ∙ c.if-is_none.true) in
+    let gone = is_nothing c.step_copy-event.new.load (c.is_none.ensures ∙ ap not c.if-is_none.true) in
     (d, s, c.requires.fits.desk, at, record { macs = refl; slots = ap (λ (o : Option Cargo). slice_set d.slots.items c.args.port (record s { copy = o })) gone; order = refl; lost = refl })
 
 pub returns-then-is_none-clause-fits : goal.returns-then-is_none-clause-fits
@@ -30,7 +30,7 @@ returns-then-is_none-clause-fits g c =
     let d = c.args.self.now.desk in
     let s = c.index_mut-slot.result.now in
     let at = slot_there d c.args.port s has_copy c.requires.loaded c.index_mut-slot.ensures.value in
-    let gone = is_nothing c.step_copy-event.new.load (sym c.is_none.ensures ∙ c.if-is_none.true) in
+    let gone = is_nothing c.step_copy-event.new.load (c.is_none.ensures ∙ ap not c.if-is_none.true) in
     let x = loaded_there d c.args.port s at c.requires.loaded in
     let m = c.settle.ensures d s x.0 c.requires.fits.desk at x.1 (record { macs = refl; slots = ap (λ (o : Option Cargo). slice_set d.slots.items c.args.port (record s { copy = o })) gone; order = refl; lost = refl }) in
     fits_on (g.W.Wires.ends c.args.wires.now) _ c.args.self.now c.step_copy-event.new.self _ c.requires.fits c.step_copy-event.ensures.fits c.step_copy-event.ensures.same m.desk m.macs
@@ -40,7 +40,7 @@ returns-then-is_none-clause-same g c =
     let d = c.args.self.now.desk in
     let s = c.index_mut-slot.result.now in
     let at = slot_there d c.args.port s has_copy c.requires.loaded c.index_mut-slot.ensures.value in
-    let gone = is_nothing c.step_copy-event.new.load (sym c.is_none.ensures ∙ c.if-is_none.true) in
+    let gone = is_nothing c.step_copy-event.new.load (c.is_none.ensures ∙ ap not c.if-is_none.true) in
     let x = loaded_there d c.args.port s at c.requires.loaded in
     let m = c.settle.ensures d s x.0 c.requires.fits.desk at x.1 (record { macs = refl; slots = ap (λ (o : Option Cargo). slice_set d.slots.items c.args.port (record s { copy = o })) gone; order = refl; lost = refl }) in
     record { ends = c.step_copy-event.ensures.same; macs = m.macs }
@@ -50,7 +50,7 @@ returns-then-is_none-clause-stepped g c =
     let d = c.args.self.now.desk in
     let s = c.index_mut-slot.result.now in
     let at = slot_there d c.args.port s has_copy c.requires.loaded c.index_mut-slot.ensures.value in
-    let gone = is_nothing c.step_copy-event.new.load (sym c.is_none.ensures ∙ c.if-is_none.true) in
+    let gone = is_nothing c.step_copy-event.new.load (c.is_none.ensures ∙ ap not c.if-is_none.true) in
     let x = loaded_there d c.args.port s at c.requires.loaded in
     let m = c.settle.ensures d s x.0 c.requires.fits.desk at x.1 (record { macs = refl; slots = ap (λ (o : Option Cargo). slice_set d.slots.items c.args.port (record s { copy = o })) gone; order = refl; lost = refl }) in
     let p = put_of c.step_copy-event.result s.copy in
@@ -76,7 +76,7 @@ returns-then-is_none-clause-still g c = λ m.
     let d = c.args.self.now.desk in
     let s = c.index_mut-slot.result.now in
     let at = slot_there d c.args.port s has_copy c.requires.loaded c.index_mut-slot.ensures.value in
-    let gone = is_nothing c.step_copy-event.new.load (sym c.is_none.ensures ∙ c.if-is_none.true) in
+    let gone = is_nothing c.step_copy-event.new.load (c.is_none.ensures ∙ ap not c.if-is_none.true) in
     let x = loaded_there d c.args.port s at c.requires.loaded in
     absurd (let bad = sym x.1 ∙ (sym (c.step_copy-event.ensures.still m) ∙ gone) in cc)
 
@@ -86,7 +86,7 @@ returns-else-is_none-clause-fits g c =
     let s = c.index_mut-slot.result.now in
     let at = slot_there d c.args.port s has_copy c.requires.loaded c.index_mut-slot.ensures.value in
     let x = loaded_there d c.args.port s at c.requires.loaded in
-    let stays = stays_list x.0 (put_of c.step_copy-event.result s.copy) c.step_copy-event.new.load (sym (ap option_to_list x.1) ∙ c.step_copy-event.ensures.load) (is_something c.step_copy-event.new.load (sym c.is_none.ensures ∙ c.if-is_none.false)) in
+    let stays = stays_list x.0 (put_of c.step_copy-event.result s.copy) c.step_copy-event.new.load (sym (ap option_to_list x.1) ∙ c.step_copy-event.ensures.load) (c.is_none.ensures ∙ ap not c.if-is_none.false) in
     fits_on (g.W.Wires.ends c.args.wires.now) _ c.args.self.now c.step_copy-event.new.self _ c.requires.fits c.step_copy-event.ensures.fits c.step_copy-event.ensures.same
     (desk_stays d _ c.args.port (copy_stays d _ c.args.port s c.step_copy-event.new.load at (stays.1 ∙ sym x.1) (record { macs = refl; slots = refl; order = refl; lost = refl })) c.requires.fits.desk).desk refl
 
@@ -97,7 +97,7 @@ returns-else-is_none-clause-stepped g c =
     let at = slot_there d c.args.port s has_copy c.requires.loaded c.index_mut-slot.ensures.value in
     let x = loaded_there d c.args.port s at c.requires.loaded in
     let p = put_of c.step_copy-event.result s.copy in
-    let stays = stays_list x.0 p c.step_copy-event.new.load (sym (ap option_to_list x.1) ∙ c.step_copy-event.ensures.load) (is_something c.step_copy-event.new.load (sym c.is_none.ensures ∙ c.if-is_none.false)) in
+    let stays = stays_list x.0 p c.step_copy-event.new.load (sym (ap option_to_list x.1) ∙ c.step_copy-event.ensures.load) (c.is_none.ensures ∙ ap not c.if-is_none.false) in
     record {
       body = option_map (λ y. y.1) p;
       happened = c.step_copy-event.ensures.did;

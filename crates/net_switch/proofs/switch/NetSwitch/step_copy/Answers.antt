@@ -14,5 +14,5 @@ returns-else-is_loaded-clause-stepped g c = record {
   kept = λ passed h.
       still (g.W.Wires.ends c.args.wires.now) c.args.self.now _ c.requires.fits c.step_copy.ensures.same passed (deed_of c.step_copy.result (put_of c.step_copy.result None)) c.args.port h
       c.step_copy.ensures.takes_none (same_desk c.args.self.now.desk) c.step_copy.ensures.takes
-      (λ n. c.step_copy.ensures.puts n ∙ (ap (λ (o : _). if_there (c.step_copy.result.queue.0 == n) (option_to_list o)) (puts_none c.step_copy.result) ∙ none_if (c.step_copy.result.queue.0 == n)));
+      (λ n. c.step_copy.ensures.puts n ∙ (ap (λ o. if_there (c.step_copy.result.queue.0 == n) (option_to_list o)) (puts_none c.step_copy.result) ∙ none_if (c.step_copy.result.queue.0 == n)));
 }

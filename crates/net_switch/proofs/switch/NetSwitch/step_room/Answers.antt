@@ -17,7 +17,7 @@ returns-in_default-clause-stepped g c = record {
   kept = λ passed h.
       still (g.W.Wires.ends c.args.wires.now) c.args.self.now _ c.requires.fits c.step_room-got.ensures.same passed (deed_of c.step_room-got.result.0 c.step_room-got.result.1) c.args.port h
       (c.step_room-got.ensures.takes_one ∙ ap is_some c.in_default.is) (same_desk c.args.self.now.desk)
-      (λ n. c.step_room-got.ensures.takes n ∙ (ap (λ (o : _). if_there (c.step_room-got.result.0.queue.0 == n) (option_to_list o)) c.in_default.is ∙ none_if (c.step_room-got.result.0.queue.0 == n))) c.step_room-got.ensures.puts;
+      (λ n. c.step_room-got.ensures.takes n ∙ (ap (λ o. if_there (c.step_room-got.result.0.queue.0 == n) (option_to_list o)) c.in_default.is ∙ none_if (c.step_room-got.result.0.queue.0 == n))) c.step_room-got.ensures.puts;
 }
 
 pub returns-in-Some-clause-fits : goal.returns-in-Some-clause-fits
@@ -30,7 +30,7 @@ returns-in-Some-clause-stepped g c = record {
   kept = λ passed h.
       roomed (g.W.Wires.ends c.args.wires.now) c.args.self.now _ c.requires.fits c.step_room-got.ensures.same passed (deed_of c.step_room-got.result.0 c.step_room-got.result.1) c.args.port h
       c.in-Some.entry c.step_room-got.ensures.on c.copy.ensures
-      (λ n. c.step_room-got.ensures.takes n ∙ ap (λ (o : _). if_there (c.step_room-got.result.0.queue.0 == n) (option_to_list o)) c.in-Some.is) c.step_room-got.ensures.puts;
+      (λ n. c.step_room-got.ensures.takes n ∙ ap (λ o. if_there (c.step_room-got.result.0.queue.0 == n) (option_to_list o)) c.in-Some.is) c.step_room-got.ensures.puts;
 }
 
 pub returns-in-Some-clause-still : goal.returns-in-Some-clause-still

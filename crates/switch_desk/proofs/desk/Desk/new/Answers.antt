@@ -1,7 +1,7 @@
-use Rattle.std.proofs.Common.{◌≡◌, ℕ, Some, length, slice_get, refl, sym, ap, ◌∙◌, subst}
+use Rattle.std.proofs.Common.{◌≡◌, ℕ, Some, length, slice_get, refl, ◌∙◌, subst}
 use Rattle.switch_desk.specs.declared.slot.Slot.{Slot}
 use Rattle.switch_desk.specs.Orders.{AreOnce}
-use Rattle.switch_desk.specs.Desks.{IsNewDesk, IsNewSlot}
+use Rattle.switch_desk.specs.Desks.{IsNewSlot}
 use Rattle.switch_desk.proofs.Beginning.{new_desk, new_stands}
 use Rattle.switch_desk.proofs.desk.Desk.new.Goals as goal
 

@@ -1,7 +1,7 @@
-use Rattle.std.proofs.Common.{◌≡◌, ◌<◌, Some, slice_get, slice_set, slice_index_or, length, false, refl, sym, ap, ◌∙◌, subst}
+use Rattle.std.proofs.Common.{◌<◌, slice_get, slice_set, slice_index_or, false, refl, sym, ap, ◌∙◌, subst}
 use Rattle.std.specs.Option.{is_some}
 use Rattle.std.proofs.lemmas.Option.{slice_get_read, slice_get_within}
-use Rattle.buffer_kit.proofs.ManyClients.{so_there, some_eq}
+use Rattle.buffer_kit.proofs.ManyClients.{so_there}
 use Rattle.switch_desk.specs.declared.slot.Slot.{Slot}
 use Rattle.switch_desk.specs.Desks.{owes}
 use Rattle.switch_desk.proofs.Owing.{found_there}

@@ -1,7 +1,7 @@
 use Rattle.std.proofs.Common.{◌≡◌, ◌+◌, ◌++◌, ◌∷◌, [], sym, subst, arith}
 use Rattle.std.proofs.lemmas.Grind.{common_steps}
 use Rattle.switch_desk.specs.Orders.{AreOnce}
-use Rattle.switch_desk.proofs.Orders.{once_more, none_once}
+use Rattle.switch_desk.proofs.Orders.{once_more}
 use Rattle.switch_desk.proofs.order.Order.new.Goals as goal
 
 pub loop-place-preserved : goal.loop-place-preserved

@@ -1,4 +1,4 @@
-use Rattle.std.proofs.Common.{◌≡◌, ℕ, eqb, sym, ap, ◌∙◌}
+use Rattle.std.proofs.Common.{ℕ, eqb, ap, ◌∙◌}
 use Rattle.std.specs.List.{position}
 use Rattle.switch_desk.specs.Orders.{times, turned_last}
 use Rattle.switch_desk.proofs.Orders.{turned_at, not_lost}
