@@ -1,5 +1,5 @@
 -- What the words and the description decide, one constructor a cause.
-use Rattle.std.specs.Prelude.{◌≡◌, ◌<◌, ◌≤◌, ℕ, Some, None, List, length, string_bytes}
+use Rattle.std.specs.Prelude.{◌≡◌, ◌<◌, ◌≤◌, ℕ, Option, Some, None, List, length, string_bytes}
 use Rattle.sdf_plan.specs.declared.place.Place.{Place}
 use Rattle.sdf_plan.specs.declared.place.Refusal.{Refusal}
 use Rattle.sdf_plan.specs.declared.plan.Plan.{Plan}
@@ -9,6 +9,7 @@ use Rattle.export_text.specs.System.{system_text}
 use Rattle.export_text.specs.Symbols.{bad_symbol}
 use Rattle.region_layout.specs.declared.layout.Layout.{Layout}
 use Rattle.config_text.specs.Config.{config_text, HeaderRows}
+use Rattle.layout_view.specs.Drawn.{layout_svg, layout_graph}
 use Rattle.view_core.specs.declared.answer.Answer.{Answer}
 use Rattle.view_core.specs.declared.answer.Answer.TheVariants as Is
 use Rattle.view_core.specs.declared.ended.Ended.{Ended}
@@ -37,15 +38,24 @@ rows_of layout = record {
   queues = layout.queues;
 }
 
--- what a view shows of a plan: the system file, or the header for its layout
+-- what a view shows of a plan: the system file, the header for its layout, or its layout as a
+-- picture or as a graph
 abbrev pub view_text : Plan → View → List ℕ
 view_text plan Of.System = system_text plan
 view_text plan Of.Config = config_text plan (rows_of (layout_of plan))
+view_text plan Of.Layout = layout_svg plan (layout_of plan)
+view_text plan Of.Graph = layout_graph plan (layout_of plan)
+
+-- the first map whose variable a view would have to name, and that no program in C can
+abbrev pub unnameable : Plan → View → Option Place
+unnameable plan Of.System = bad_symbol plan
+unnameable plan Of.Config = bad_symbol plan
+unnameable plan _ = None
 
 -- what is decided for the plan of a description that is accepted
 pub data PlanShows (plan : Plan) (view : View) : Decision → Type 0 where
-  shown : bad_symbol plan ≡ None → PlanShows plan view (Show (view_text plan view))
-  no_identifier : (place : Place) → bad_symbol plan ≡ Some place
+  shown : unnameable plan view ≡ None → PlanShows plan view (Show (view_text plan view))
+  no_identifier : (place : Place) → unnameable plan view ≡ Some place
       → PlanShows plan view (Refuse End.NoIdentifier (identifier_line place))
 
 -- what is decided for the bytes of a description: they are too many, or refused, or accepted, and

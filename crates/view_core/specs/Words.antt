@@ -13,20 +13,22 @@ IsNameAt words k = (w : List ℕ) × (slice_get words k ≡ Some w) × IsName w
 abbrev pub HasWordAt : List (List ℕ) → ℕ → List ℕ → Type 0
 HasWordAt words k word = (w : List ℕ) × (slice_get words k ≡ Some w) × (w ≡ word)
 
--- `export` and the name of a description
-pub record IsExport (words : List (List ℕ)) (desc : List ℕ) : Type 0 where
-  pub words_are : words ≡ codes "export" ∷ desc ∷ []
-  pub named : IsName desc
+-- the word by which a form begins
+abbrev pub first_word : View → List ℕ
+first_word Of.System = codes "export"
+first_word Of.Config = codes "export"
+first_word Of.Layout = codes "layout"
+first_word Of.Graph = codes "system"
 
--- `export`, the name of a description, and `--config`
-pub record IsConfig (words : List (List ℕ)) (desc : List ℕ) : Type 0 where
-  pub words_are : words ≡ codes "export" ∷ desc ∷ codes "--config" ∷ []
-  pub named : IsName desc
+-- the words of a form behind the name of the description
+abbrev pub last_words : View → List (List ℕ)
+last_words Of.Config = codes "--config" ∷ []
+last_words _ = []
 
 -- the words ask for this of the description of this name
-abbrev pub AsksFor : List (List ℕ) → List ℕ → View → Type 0
-AsksFor words desc Of.System = IsExport words desc
-AsksFor words desc Of.Config = IsConfig words desc
+pub record AsksFor (words : List (List ℕ)) (desc : List ℕ) (view : View) : Type 0 where
+  pub words_are : words ≡ first_word view ∷ desc ∷ last_words view
+  pub named : IsName desc
 
 -- the words ask for this
 abbrev pub Spells : List (List ℕ) → View → Type 0
@@ -43,3 +45,16 @@ pub record IsBadWord (words : List (List ℕ)) (k : ℕ) : Type 0 where
   pub before : Begins (take k words)
   pub here : k < length words → Begins (take (k + 1) words) → ⊥
   pub whole : k ≡ length words → (view : View) → Spells words view → ⊥
+
+-- the first word and a name alone ask for this
+pub record BeginsAlone (words : List (List ℕ)) (view : View) : Type 0 where
+  pub first : slice_get words 0 ≡ Some (first_word view)
+  pub last : last_words view ≡ []
+
+-- no form begins with the first word
+abbrev pub BeginsNone : List (List ℕ) → Type 0
+BeginsNone words = (view : View) → slice_get words 0 ≡ Some (first_word view) → ⊥
+
+-- a third word may follow: it is `--config` behind `export`
+abbrev pub GoesOn : List (List ℕ) → View → Type 0
+GoesOn words view = (view ≡ Of.System) × (slice_get words 2 ≡ Some (codes "--config"))

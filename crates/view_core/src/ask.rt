@@ -1,7 +1,9 @@
 //! The words of the program: what they ask for, or which of them is the first bad one.
-ghost use Rattle.std.specs.Prelude.{◌≡◌, ◌↔◌, ◌<◌, IsTrue, IfOk, IfErr, Some, length, slice_get};
+ghost use Rattle.std.specs.Prelude.{◌≡◌, ◌↔◌, ◌<◌, IsTrue, IfOk, IfErr, IfSome, Some, None, length};
+ghost use Rattle.std.specs.Prelude.{slice_get};
 ghost use Rattle.command_words.specs.Words.{texts_of, IsName};
-ghost use Rattle.view_core.specs.Words.{Spells, IsBadWord, IsNameAt, HasWordAt};
+ghost use Rattle.view_core.specs.Words.{Spells, IsBadWord, IsNameAt, HasWordAt, BeginsAlone};
+ghost use Rattle.view_core.specs.Words.{BeginsNone, GoesOn};
 
 /// What the words ask for. The description's name is word 1.
 #[derive(Clone, Copy, Debug, PartialEq, Eq)]
@@ -10,6 +12,10 @@ pub enum View {
     System,
     /// `export DESC --config`: the constants of classes, queues and pools, as a header of C.
     Config,
+    /// `layout DESC`: a picture of the layout, as SVG.
+    Layout,
+    /// `system DESC`: the layout as a graph in DOT, for those who lay out with Graphviz.
+    Graph,
 }
 
 // Whether a word may name a text.
@@ -54,30 +60,67 @@ fn count(words: &[String]) -> usize
     words.len()
 }
 
-/// What the words ask for, or the place of the first bad word, counted from 0: the least place such
-/// that none of the program's forms begins with the words up to it, or the number of the words
-/// where a form begins with all of them and they are none.
+// What the first word and a name ask for.
 #[tactic(auto, using(crate::proofs::WordLemmas::word_lemmas))]
-pub fn read_words(words: &[String]) -> Result<View, u32>
+fn first_view(words: &[String]) -> Option<View>
+    ensures some { IfSome result (BeginsAlone (texts_of words.now)) }
+    ensures none { result ≡ None → BeginsNone (texts_of words.now) }
+{
+    if is_word_at(words, 0, "export") {
+        return Some(View::System);
+    }
+    if is_word_at(words, 0, "layout") {
+        return Some(View::Layout);
+    }
+    if is_word_at(words, 0, "system") {
+        return Some(View::Graph);
+    }
+    None
+}
+
+// Whether a third word may stand behind this first one: it is `--config` behind `export`.
+fn goes_on(words: &[String], view: View) -> bool
+    ensures { IsTrue result ↔ GoesOn (texts_of words.now) view }
+{
+    match view {
+        View::System => is_word_at(words, 2, "--config"),
+        _ => false,
+    }
+}
+
+// What the words ask for whose first asks for this with a name alone.
+#[tactic(auto, using(crate::proofs::WordLemmas::word_lemmas))]
+fn read_behind(words: &[String], view: View) -> Result<View, u32>
+    requires { BeginsAlone (texts_of words.now) view }
     ensures view { IfOk result (Spells (texts_of words.now)) }
     ensures bad { IfErr result (IsBadWord (texts_of words.now)) }
 {
-    if !is_word_at(words, 0, "export") {
-        return Err(0);
-    }
     if !is_name_at(words, 1) {
         return Err(1);
     }
     if count(words) == 2 {
-        return Ok(View::System);
+        return Ok(view);
     }
-    if !is_word_at(words, 2, "--config") {
+    if !goes_on(words, view) {
         return Err(2);
     }
     if count(words) > 3 {
         return Err(3);
     }
     Ok(View::Config)
+}
+
+/// What the words ask for, or the place of the first bad word, counted from 0: the least place such
+/// that none of the program's forms begins with the words up to it, or the number of the words
+/// where a form begins with all of them and they are none.
+pub fn read_words(words: &[String]) -> Result<View, u32>
+    ensures view { IfOk result (Spells (texts_of words.now)) }
+    ensures bad { IfErr result (IsBadWord (texts_of words.now)) }
+{
+    match first_view(words) {
+        Some(view) => read_behind(words, view),
+        None => Err(0),
+    }
 }
 
 /// The word that names the description.

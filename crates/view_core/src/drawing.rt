@@ -4,7 +4,8 @@ ghost use Rattle.sdf_plan.specs.Elements.{IsNumbered};
 ghost use Rattle.sdf_check.specs.Valid.{Valid};
 ghost use Rattle.region_layout.specs.Layouts.{layout_of};
 ghost use Rattle.config_text.specs.Config.{config_text};
-ghost use Rattle.view_core.specs.Deciding.{Show, Refuse, decision_of, view_text, rows_of, PlanShows};
+ghost use Rattle.view_core.specs.Deciding.{Show, Refuse, decision_of, view_text, rows_of};
+ghost use Rattle.view_core.specs.Deciding.{unnameable, PlanShows};
 ghost use Rattle.view_core.specs.Lines.{identifier_line};
 
 use crate::answer::Answer;
@@ -14,6 +15,7 @@ use crate::line::write_no_identifier;
 use cargo_core::{Bytes, Memory};
 use config_text::{Rows, write_config};
 use export_text::{first_bad_symbol, write_system};
+use layout_view::{draw_graph, draw_layout};
 use region_layout::lay_out;
 use sdf_plan::{Place, Plan};
 use std::alloc::Global;
@@ -43,22 +45,37 @@ fn refuse_name(alloc: Global, place: Place) -> Result<Answer, Memory>
 
 // What a view shows of a plan.
 fn show(alloc: Global, view: View, plan: &Plan) -> Result<Answer, Memory>
-    requires { Valid plan.now }
+    requires valid { Valid plan.now }
+    requires numbered { IsNumbered plan.now }
     ensures { IfOk result (λ answer. decision_of answer ≡ Show (view_text plan.now view)) }
 {
     match view {
         View::System => Ok(Answer::Show(write_system(alloc, plan)?)),
         View::Config => Ok(Answer::Show(write_header(alloc, plan)?)),
+        View::Layout => Ok(Answer::Show(draw_layout(alloc, plan)?)),
+        View::Graph => Ok(Answer::Show(draw_graph(alloc, plan)?)),
     }
 }
 
-/// What is shown of a plan that is accepted, or that it names a variable as no program in C can.
+// The first map whose variable a view would have to name, and that no program in C can.
+fn unnameable(view: View, plan: &Plan) -> Option<Place>
+    requires { IsNumbered plan.now }
+    ensures { result ≡ unnameable plan.now view }
+{
+    match view {
+        View::System | View::Config => first_bad_symbol(plan),
+        View::Layout | View::Graph => None,
+    }
+}
+
+/// What is shown of a plan that is accepted, or that it names a variable as no program in C can,
+/// where it is for programs.
 pub fn draw(alloc: Global, view: View, plan: &Plan) -> Result<Answer, Memory>
     requires valid { Valid plan.now }
     requires numbered { IsNumbered plan.now }
     ensures { IfOk result (λ answer. PlanShows plan.now view (decision_of answer)) }
 {
-    match first_bad_symbol(plan) {
+    match unnameable(view, plan) {
         Some(place) => refuse_name(alloc, place),
         None => show(alloc, view, plan),
     }

@@ -1,13 +1,7 @@
-use Rattle.std.proofs.Common.{◌≡◌, ◌<◌, length, refl, arith}
+use Rattle.std.proofs.Common.{refl}
 use Rattle.command_words.specs.Words.{texts_of}
-use Rattle.view_core.proofs.WordLemmas.{bad-third, bad-fourth}
+use Rattle.view_core.proofs.WordLemmas.{bad-first}
 use Rattle.view_core.proofs.ask.read_words.Goals as goal
 
-pub returns-then-not-is_word_at-2-clause-bad : goal.returns-then-not-is_word_at-2-clause-bad
-returns-then-not-is_word_at-2-clause-bad c =
-    bad-third (texts_of c.args.words.now) (c.if-not-is_word_at.ensures.0 refl) (c.if-not-is_name_at.ensures.0 refl) (λ e. (let a = c.count.ensures in let n = c.if-count-eq2.false in omega (arith, a, n, e)))
-    (λ s. (let f = c.if-not-is_word_at-2.ensures.1 s in cc f))
-
-pub returns-then-count-gt3-clause-bad : goal.returns-then-count-gt3-clause-bad
-returns-then-count-gt3-clause-bad c =
-    bad-fourth (texts_of c.args.words.now) (c.if-not-is_word_at.ensures.0 refl) (c.if-not-is_name_at.ensures.0 refl) (c.if-not-is_word_at-2.ensures.0 refl) (let a = c.count-2.ensures in let m = c.if-count-gt3.true in omega (arith, a, m))
+pub returns-in-None-clause-bad : goal.returns-in-None-clause-bad
+returns-in-None-clause-bad c = bad-first (texts_of c.args.words.now) (c.in-None.ensures.none refl)
