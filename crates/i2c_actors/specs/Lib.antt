@@ -1,5 +1,6 @@
--- What the actors of the bus mean to who plays them (Members), the laws of that (MemberLaws), and
--- the queues between them (Queues).
+-- What the actors of the bus mean to who plays them (Members), the laws of that (MemberLaws), the
+-- queues between them (Queues), and which actors a bus has (Casting).
 pub mod Members
 pub mod MemberLaws
 pub mod Queues
+pub mod Casting
