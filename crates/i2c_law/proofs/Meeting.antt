@@ -111,7 +111,7 @@ found_in has c ((p, None) ∷ js) (a ∷ asks) (v ∷ vs) are zero x at = record
 }
 found_in has c ((p, None) ∷ js) (a ∷ asks) (v ∷ vs) are (suc k) x at = found_in has c js asks vs are.1 k x at
 
-in_filter : (f : Cargo → Bool) (xs : List Cargo) (k : ℕ) (x : Cargo) → slice_get xs k ≡ Some x → f x ≡ true → (j : ℕ) × (slice_get (filter f xs) j ≡ Some x)
+pub in_filter : (f : Cargo → Bool) (xs : List Cargo) (k : ℕ) (x : Cargo) → slice_get xs k ≡ Some x → f x ≡ true → (j : ℕ) × (slice_get (filter f xs) j ≡ Some x)
 in_filter f [] k x at h = cc
 in_filter f (y ∷ xs) zero x at h =
     let is : f y ≡ true = ap f (some_of at) ∙ h in
@@ -175,7 +175,7 @@ module _ (clients : ℕ) (addresses : List ℕ) (log : List Took) (sent back : L
   are_of : (c : ℕ) → AreOf has c (judged_of c log) (asks_of c requests) (verdicts_of c [] requests)
   are_of c = judged_are clients c log [] log refl all.took
 
-  transfers : Transfers has sent
+  pub transfers : Transfers has sent
   transfers = all_found has sent (λ k x at.
       let s = all_at (IsSomeones clients) sent all.someones k x at in
       let pre = all.sends s.client s.there in
@@ -219,10 +219,10 @@ module _ (clients : ℕ) (addresses : List ℕ) (log : List Took) (sent back : L
     abbrev answers : List BusReply
     answers = combined vs (served_by ds (only_sent vs asks))
 
-    given_says : Say asks given answers
+    pub given_says : Say asks given answers
     given_says = given_say has c (judged_of c log) asks vs (are_of c) (of_client c back) given (served_by ds (only_sent vs asks)) back_says_all mine.answers
 
-    script_first : IsPrefix asks script
+    pub script_first : IsPrefix asks script
     script_first = script_begins has c pool 0 (judged_of c log) asks vs (are_of c) script mine.taken.0 (subst (Rattle.i2c_client.specs.Asking.AreAsked pool 0 script) (sym mine.taken.1) mine.asks)
 
     pub meets : IsPrefix replies (replies_alone (granted_to c requests) addresses script)
