@@ -3,3 +3,4 @@ pub mod Membering
 pub mod Queueing
 pub mod Places
 pub mod Making
+pub mod Beginning

@@ -73,7 +73,7 @@ module _ (clients : ℕ) (d : BusDriver) (n : IsNewDriver clients d) where
   pub rest_out : d.driver.pipes.rest.output.queue.0 ≡ 2 * clients + 1
   rest_out = ap (λ (q : QueueId). q.0) n.answers.output
 
-  pub driver_made : made_of (Members.Driver d) ≡ Copies (2 * clients ∷ 2 * clients + 3 ∷ []) (2 * clients + 2 ∷ 2 * clients + 1 ∷ [])
+  pub driver_made : made_of (Members.Driver d) ≡ Copies ((2 * clients) ∷ (2 * clients + 3) ∷ []) ((2 * clients + 2) ∷ (2 * clients + 1) ∷ [])
   driver_made = rw (first_in, first_out, rest_in, rest_out) refl
 
 module _ (clients : ℕ) (addresses : List ℕ) (b : BusDevice) (n : IsNewDevice clients addresses b) where
@@ -146,10 +146,10 @@ module _ (bus : Bus) (members : List Member) (n : AreNew bus members) where
       by x there (Copier e is) = absurd (omega (arith, e))
       by x there (Device e is) = absurd (omega (arith, e))
 
-  driver_stands : StandsAt members (bus.clients + 1) (Copies (2 * bus.clients ∷ 2 * bus.clients + 3 ∷ []) (2 * bus.clients + 2 ∷ 2 * bus.clients + 1 ∷ []))
+  driver_stands : StandsAt members (bus.clients + 1) (Copies ((2 * bus.clients) ∷ (2 * bus.clients + 3) ∷ []) ((2 * bus.clients + 2) ∷ (2 * bus.clients + 1) ∷ []))
   driver_stands = let x = there_at (bus.clients + 1) (omega arith) in by x.0 x.1 (who (bus.clients + 1) x.0 x.1)
     where
-      by : (x : Member) → slice_get members (bus.clients + 1) ≡ Some x → Who bus.clients bus.asks n.virt n.driver n.device (bus.clients + 1) x → StandsAt members (bus.clients + 1) (Copies (2 * bus.clients ∷ 2 * bus.clients + 3 ∷ []) (2 * bus.clients + 2 ∷ 2 * bus.clients + 1 ∷ []))
+      by : (x : Member) → slice_get members (bus.clients + 1) ≡ Some x → Who bus.clients bus.asks n.virt n.driver n.device (bus.clients + 1) x → StandsAt members (bus.clients + 1) (Copies ((2 * bus.clients) ∷ (2 * bus.clients + 3) ∷ []) ((2 * bus.clients + 2) ∷ (2 * bus.clients + 1) ∷ []))
       by x there (Asker script client l has is f) = absurd (omega (arith, l))
       by x there (Hub e is) = absurd (omega (arith, e))
       by x there (Copier e is) = record { actor = x; there = there; made_is = ap made_of (sym is) ∙ driver_made bus.clients n.driver n.new_driver }

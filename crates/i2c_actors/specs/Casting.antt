@@ -43,7 +43,7 @@ pub record AreMade (bus : Bus) (start : List Member) : Type 0 where
   pub virt : StandsAt start bus.clients
       (Serves (2 * bus.clients) (2 * bus.clients + 1) reqs resps bus.clients)
   pub driver : StandsAt start (bus.clients + 1)
-      (Copies (2 * bus.clients ∷ 2 * bus.clients + 3 ∷ [])
-      (2 * bus.clients + 2 ∷ 2 * bus.clients + 1 ∷ []))
+      (Copies ((2 * bus.clients) ∷ (2 * bus.clients + 3) ∷ [])
+      ((2 * bus.clients + 2) ∷ (2 * bus.clients + 1) ∷ []))
   pub bus_itself : StandsAt start (bus.clients + 2)
       (Answers (2 * bus.clients + 2) (2 * bus.clients + 3) bus.devices)
