@@ -41,13 +41,6 @@ use Rattle.bus_law.proofs.Serving.{asked_at, asked_by, spelled_head, named, flow
 
 -- In a play nothing comes out of turn.
 
-all_four : (a b c d : Bool) → a ≡ true → b ≡ true → c ≡ true → d ≡ true → (a && b && c && d) ≡ true
-all_four true true true true h g f e = refl
-all_four true true true false h g f e = cc
-all_four true true false d h g f e = cc
-all_four true false c d h g f e = cc
-all_four false b c d h g f e = cc
-
 -- a page that spells a reply has a status
 spelled_status : (page : List ℕ) (ask : BusAsk) (r : BusReply) → SpellsReply page ask r → is_some (status_in page) ≡ true
 unfolding reply_in
@@ -71,15 +64,6 @@ transfer_at [] ts are k x at = cc
 transfer_at (y ∷ xs) [] are k x at = absurd are
 transfer_at (y ∷ xs) (r ∷ ts) are zero x at = (r, subst (λ z. IsTransfer z r) (some_is at) are.0)
 transfer_at (y ∷ xs) (r ∷ ts) are (suc k) x at = transfer_at xs ts are.1 k x at
-
-transfer_in_turn : (x : Cargo) (r : Request) → IsTransfer x r → is_bus_request x ≡ true
-unfolding is_bus_request
-transfer_in_turn x r t = ap is_bus_request t.is ∙ both (names (item_at (shared_place t.page.pool t.page.no)) (shared_place t.page.pool t.page.no)) (is_some (head_in t.page.bytes)) (named (shared_place t.page.pool t.page.no)) (spelled_head t.page.bytes r.ask t.spelled)
-  where
-    both : (a b : Bool) → a ≡ true → b ≡ true → (a && b) ≡ true
-    both true true h g = refl
-    both true false h g = cc
-    both false b h g = cc
 
 -- the answer to an entry is in its buffer
 pub record AnswerIn (ds : List Device) (p : Paged) : Type 0 where
@@ -203,6 +187,14 @@ pub record Placed (x : Cargo) : Type 0 where
   pub is : x ≡ shared_entry page
   pub few : page.no < 2
 
+transfer_in_turn : (x : Cargo) (r : Request) → IsTransfer x r → Placed x → is_bus_request x ≡ true
+unfolding is_bus_request
+transfer_in_turn x r t p =
+    let same : p.page ≡ t.page = page_in p.page t.page x x (ap (λ (z : Cargo). z.1) p.is) (ap (λ (z : Cargo). z.1) t.is) refl in
+    let few : t.page.no < 2 = subst (λ (q : Paged). q.no < 2) same p.few in
+    ap is_bus_request t.is
+    ∙ all_three (nat_lt t.page.no 2) (names (item_at (shared_place t.page.pool t.page.no)) (shared_place t.page.pool t.page.no)) (is_some (head_in t.page.bytes)) (lt-ltb t.page.no 2 few) (named (shared_place t.page.pool t.page.no)) (spelled_head t.page.bytes r.ask t.spelled)
+
 -- what is to go to the driver are requests that were taken
 record ForwardedAt (js : List Judged) (x : Cargo) : Type 0 where
   pub place : ℕ
@@ -273,7 +265,7 @@ module _ (bus : Bus) (mo : Moment Member) (passed : Passed) (st : Stage bus mo p
           let took : T (2 * n + 2) ≡ rs ++ x ∷ [] = st.bus_itself.taken ∙ ap (λ (o : Option Cargo). rs ++ option_to_list o) is in
           let there : slice_get (S (2 * n)) (length rs) ≡ Some x = prefix_at (T (2 * n + 2)) (S (2 * n)) to_bus (length rs) x (ap (λ l. slice_get l (length rs)) took ∙ get_behind rs x []) in
           let t = transfer_at (S (2 * n)) ts transfers_are (length rs) x there in
-          let no : true ≡ false = sym (transfer_in_turn x t.0 t.1) ∙ st.bus_itself.out_of_turn x is in
+          let no : true ≡ false = sym (transfer_in_turn x t.0 t.1 (placed_sent (length rs) x there)) ∙ st.bus_itself.out_of_turn x is in
           cc
 
   back_join : (xs : List Cargo) (y : Cargo) (all : List Cargo) → IsPrefix (xs ++ y ∷ []) all → (rest : List Cargo) × (xs ++ y ∷ rest ≡ all)

@@ -1,7 +1,8 @@
-use Rattle.std.proofs.Common.{◌≡◌, ◌==◌, ◌&&◌, ◌⊎◌, ◌+◌, ◌*◌, ◌<◌, ◌≤◌, ◌++◌, ℕ, zero, suc, Bool, true, false, cond, is_some, Option, Some, None, List, [], ◌∷◌, All, length, length-append, drop, map, slice_get, refl, sym, ap, ◌∙◌, subst, arith, append_assoc, append-nil, inl, inr}
+use Rattle.std.proofs.Common.{◌≡◌, ◌==◌, ◌&&◌, ◌⊎◌, ◌+◌, ◌*◌, ◌%◌, ◌<◌, ◌≤◌, ◌++◌, ℕ, zero, suc, Bool, true, false, cond, nat_lt, is_some, Option, Some, None, List, [], ◌∷◌, All, length, length-append, drop, map, slice_get, refl, sym, ap, ◌∙◌, subst, arith, append_assoc, append-nil, inl, inr}
 use Rattle.std.specs.Option.{option_to_list, option_map}
 use Rattle.std.specs.List.{filter}
-use Rattle.std.proofs.lemmas.Bool.{cases_lt, eq-eqb}
+use Rattle.std.proofs.Math.Nat.{mod-lt}
+use Rattle.std.proofs.lemmas.Bool.{cases_lt, lt-ltb, eq-eqb}
 use Rattle.std.proofs.lemmas.List.{map-append}
 use Rattle.std.proofs.lemmas.List.Elements.{All-cons}
 use Rattle.cargo_core.specs.Lists.{IsPrefix}
@@ -80,6 +81,13 @@ all_three true true false h g f = cc
 all_three true false c h g f = cc
 all_three false b c h g f = cc
 
+pub all_four : (a b c d : Bool) → a ≡ true → b ≡ true → c ≡ true → d ≡ true → (a && b && c && d) ≡ true
+all_four true true true true h g f e = refl
+all_four true true true false h g f e = cc
+all_four true true false d h g f e = cc
+all_four true false c d h g f e = cc
+all_four false b c d h g f e = cc
+
 pub named : (place : ℕ) → names (item_at place) place ≡ true
 named place = ap (λ (b : Bool). b && true) (eq-eqb place place refl)
 
@@ -87,8 +95,8 @@ asked_own : (pool : PoolId) (k : ℕ) (x : Cargo) → AskedAt pool k x → is_ow
 unfolding is_own_request
 asked_own pool k x a =
     let h = a.is in
-    ap (is_own_request pool) h.carried ∙ all_three (h.page.pool.0 == pool.0) (names (item_at (own_place h.page.no)) (own_place h.page.no)) (is_some (head_in h.page.bytes))
-    (eq-eqb h.page.pool.0 pool.0 (ap (λ (p : PoolId). p.0) h.own)) (named (own_place h.page.no)) (spelled_head h.page.bytes a.ask h.spelled)
+    ap (is_own_request pool) h.carried ∙ all_four (h.page.pool.0 == pool.0) (nat_lt h.page.no 2) (names (item_at (own_place h.page.no)) (own_place h.page.no)) (is_some (head_in h.page.bytes))
+    (eq-eqb h.page.pool.0 pool.0 (ap (λ (p : PoolId). p.0) h.own)) (lt-ltb h.page.no 2 (subst (λ i. i < 2) (sym h.number) (mod-lt k (omega arith)))) (named (own_place h.page.no)) (spelled_head h.page.bytes a.ask h.spelled)
 
 queues_many : (n : ℕ) → length (request_queues n) ≡ n
 queues_many zero = refl

@@ -1,3 +1,6 @@
 -- The proofs on the actors of the bus as one type.
 pub mod Membering
 pub mod Queueing
+pub mod Places
+pub mod Making
+pub mod Beginning

@@ -1,9 +1,10 @@
 -- The entries of the bus: which buffer an item names, and which entries are in turn.
-use Rattle.std.specs.Prelude.{◌+◌, ◌*◌, ◌==◌, ◌&&◌, ℕ, Bool, false, is_some}
+use Rattle.std.specs.Prelude.{◌+◌, ◌*◌, ◌==◌, ◌&&◌, ℕ, nat_lt, Bool, false, is_some}
 use Rattle.cargo_core.specs.declared.item.Body.TheVariants as Bodies
 use Rattle.cargo_core.specs.declared.item.Item.{Item}
 use Rattle.cargo_core.specs.declared.item.Item.TheVariants as ItemOf
 use Rattle.cargo_core.specs.declared.item.PoolId.{PoolId}
+use Rattle.cargo_core.specs.Pages.{Paged}
 use Rattle.wire_core.specs.Deeds.{Cargo}
 use Rattle.i2c_kit.specs.declared.page.TheConstants.{BUFFER_BYTES, BUFFERS}
 use Rattle.i2c_kit.specs.Pages.{head_in, status_in}
@@ -27,18 +28,22 @@ names (ItemOf.Byte b) place = false
 names (ItemOf.Req r) place = false
 names (ItemOf.Resp r) place = false
 
--- whether an entry is a request in turn on a client's own queue: it carries the page of the
+-- whether a page is one of a client's buffers
+abbrev pub is_buffer : Paged → Bool
+is_buffer p = nat_lt p.no BUFFERS
+
+-- whether an entry is a request in turn on a client's own queue: it carries the buffer of the
 -- client's pool that its item names, and the page spells a request
 unfoldable pub is_own_request : (pool : PoolId) → Cargo → Bool
 is_own_request pool (item, Bodies.Page p) =
-    p.pool.0 == pool.0 && names item (own_place p.no) && is_some (head_in p.bytes)
+    p.pool.0 == pool.0 && is_buffer p && names item (own_place p.no) && is_some (head_in p.bytes)
 is_own_request pool (item, Bodies.Empty) = false
 is_own_request pool (item, Bodies.Lease l) = false
 
 -- whether it is one on the queue of the bus
 unfoldable pub is_bus_request : Cargo → Bool
 is_bus_request (item, Bodies.Page p) =
-    names item (shared_place p.pool p.no) && is_some (head_in p.bytes)
+    is_buffer p && names item (shared_place p.pool p.no) && is_some (head_in p.bytes)
 is_bus_request (item, Bodies.Empty) = false
 is_bus_request (item, Bodies.Lease l) = false
 

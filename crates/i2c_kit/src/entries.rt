@@ -1,10 +1,10 @@
 //! The entries of the bus: which buffer an item names, and which entries are in turn.
 ghost use Rattle.std.specs.Prelude.{◌≡◌};
-ghost use Rattle.i2c_kit.specs.Entries.{own_place, shared_place, item_at, names, is_own_request};
-ghost use Rattle.i2c_kit.specs.Entries.{is_bus_request, is_reply_in};
+ghost use Rattle.i2c_kit.specs.Entries.{own_place, shared_place, item_at, names, is_buffer};
+ghost use Rattle.i2c_kit.specs.Entries.{is_own_request, is_bus_request, is_reply_in};
 
 use crate::page::{BUFFER_BYTES, BUFFERS, read_head, read_status};
-use cargo_core::{Body, Item, NetDesc, PoolId};
+use cargo_core::{Body, Item, NetDesc, Page, PoolId};
 
 /// Where a buffer of a client begins on the client's own queues.
 pub fn own_place(number: u32) -> u64
@@ -40,7 +40,14 @@ fn names(item: &Item, place: u64) -> bool
     }
 }
 
-/// Whether an entry is a request in turn on a client's own queue: it carries the page of the
+// Whether a page is one of a client's buffers.
+fn is_buffer(page: &Page) -> bool
+    ensures { result ≡ is_buffer page.now }
+{
+    (page.no() as usize) < BUFFERS
+}
+
+/// Whether an entry is a request in turn on a client's own queue: it carries the buffer of the
 /// client's pool that its item names, and the page spells a request.
 #[tactic(auto, unfolding(crate::specs::Entries::is_own_request))]
 pub fn is_own_request(pool: PoolId, entry: &(Item, Body)) -> bool
@@ -50,6 +57,7 @@ pub fn is_own_request(pool: PoolId, entry: &(Item, Body)) -> bool
         return false;
     };
     page.pool().0 == pool.0
+        && is_buffer(page)
         && names(&entry.0, own_place(page.no()))
         && read_head(page.bytes()).is_some()
 }
@@ -62,7 +70,9 @@ pub fn is_bus_request(entry: &(Item, Body)) -> bool
     let Body::Page(page) = &entry.1 else {
         return false;
     };
-    names(&entry.0, shared_place(page.pool(), page.no())) && read_head(page.bytes()).is_some()
+    is_buffer(page)
+        && names(&entry.0, shared_place(page.pool(), page.no()))
+        && read_head(page.bytes()).is_some()
 }
 
 /// Whether an entry is a reply in turn to the request in this buffer, which stands at this place of

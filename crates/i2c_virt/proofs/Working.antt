@@ -1,8 +1,8 @@
 -- What the virtualiser has goes on with each entry that comes or goes.
-use Rattle.std.proofs.Common.{◌≡◌, ◌⊎◌, ◌≢◌, ◌==◌, ◌&&◌, ◌+◌, ◌<◌, ◌^◌, ℕ, zero, suc, Bool, true, false, cond, not, nat_le, slice_index, drop, Option, Some, None, is_some, is_none, IsSome, List, [], ◌∷◌, ◌++◌, All, length, length-append, map, get_or, slice_get, slice_set, refl, sym, ap, ◌∙◌, subst, arith, inl, inr, append_assoc, append-nil}
+use Rattle.std.proofs.Common.{◌≡◌, ◌⊎◌, ◌≢◌, ◌==◌, ◌&&◌, ◌+◌, ◌<◌, ◌^◌, ℕ, zero, suc, Bool, true, false, cond, not, nat_le, nat_lt, slice_index, drop, Option, Some, None, is_some, is_none, IsSome, List, [], ◌∷◌, ◌++◌, All, length, length-append, map, get_or, slice_get, slice_set, refl, sym, ap, ◌∙◌, subst, arith, inl, inr, append_assoc, append-nil}
 use Rattle.std.specs.List.{filter}
 use Rattle.std.specs.Option.{option_to_list, option_map, option_and_then}
-use Rattle.std.proofs.lemmas.Bool.{eqb-true, eq-eqb, cases_eq}
+use Rattle.std.proofs.lemmas.Bool.{eqb-true, ltb-true, eq-eqb, cases_eq}
 use Rattle.std.proofs.lemmas.Option.{slice_get_within, slice_get-get_or}
 use Rattle.std.proofs.lemmas.List.{length-set}
 use Rattle.std.proofs.lemmas.List.Elements.{All-nil, All-cons, All-push}
@@ -117,16 +117,19 @@ named_is (ItemOf.Resp r) place h = cc
 -- what is known of a request in turn
 pub record IsRequestPage (k : ℕ) (x : Cargo) (p : Paged) : Type 0 where
   pub own : p.pool.0 ≡ k
+  pub within : p.no < 2
   pub is : x ≡ own_entry p
   pub spelled : is_some (head_in p.bytes) ≡ true
 
 request_page : (k : ℕ) (i : Item) (p : Paged) → is_own_request (record { 0 = k }) (i, Bodies.Page p) ≡ true → IsRequestPage k (i, Bodies.Page p) p
 unfolding is_own_request
 request_page k i p h =
-    let a = both (p.pool.0 == k && names i (own_place p.no)) (is_some (head_in p.bytes)) h in
-    let b = both (p.pool.0 == k) (names i (own_place p.no)) a.0 in
+    let a = both (p.pool.0 == k && nat_lt p.no 2 && names i (own_place p.no)) (is_some (head_in p.bytes)) h in
+    let b = both (p.pool.0 == k && nat_lt p.no 2) (names i (own_place p.no)) a.0 in
+    let c = both (p.pool.0 == k) (nat_lt p.no 2) b.0 in
     record {
-      own = eqb-true p.pool.0 k b.0;
+      own = eqb-true p.pool.0 k c.0;
+      within = ltb-true p.no 2 c.1;
       is = ap (λ (j : Item). (j, Bodies.Page p)) (named_is i (own_place p.no) b.1);
       spelled = a.1;
     }
@@ -186,7 +189,7 @@ module _ (w w' : Work) (k : ℕ) (was now : Desk) (there : slice_get w.desks.ite
   }
 
   -- a request came
-  module _ (p : Paged) (v : Option BusStatus) (is : now ≡ asked_by v p was) (opened : is_open was ≡ true) (own : p.pool.0 ≡ k) (ask : BusAsk) (spelled : SpellsRequest p.bytes ask) where
+  module _ (p : Paged) (v : Option BusStatus) (is : now ≡ asked_by v p was) (opened : is_open was ≡ true) (own : p.pool.0 ≡ k) (within : p.no < 2) (ask : BusAsk) (spelled : SpellsRequest p.bytes ask) where
     abbrev pub took : Took
     took = record { request = record { client = k; ask = ask }; page = p }
 
@@ -197,7 +200,7 @@ module _ (w w' : Work) (k : ℕ) (was now : Desk) (there : slice_get w.desks.ite
         → (log : List Took) (sent back : List Cargo) (gave : ℕ → List Cargo) → WorkStands w log sent back gave → WorkStands w' (log ++ took ∷ []) sent back gave
     asked_log judged knows log sent back gave h = record {
       knows = subst (KnowsOwners w'.owners.clients.items) (sym (requests_more log took)) (knows (requests_in log) h.knows);
-      took = rw long (All-push (IsTook (length w.desks.items)) log took h.took (record { there = inside; own = own; spelled = spelled }));
+      took = rw long (All-push (IsTook (length w.desks.items)) log took h.took (record { there = inside; own = own; within = within; spelled = spelled }));
       someones = rw long h.someones;
       desks = each_stands w.desks.items w'.desks.items k was now there set (λ j. judged_of j log) (λ j. judged_of j (log ++ took ∷ [])) (λ j. of_client j sent) (λ j. of_client j sent) (λ j. of_client j back) (λ j. of_client j back) gave gave h.desks
           (subst (λ d. DeskStands k d (judged_of k (log ++ took ∷ [])) (of_client k sent) (of_client k back) (gave k)) (sym is)

@@ -11,6 +11,7 @@ use Rattle.buffer_kit.specs.Clients.{is_so}
 use Rattle.i2c_kit.specs.declared.alone.Request.{Request}
 use Rattle.i2c_kit.specs.Entries.{is_own_request, is_reply_in, shared_place}
 use Rattle.i2c_kit.specs.Pages.{SpellsRequest}
+use Rattle.i2c_kit.specs.declared.page.TheConstants.{BUFFERS}
 use Rattle.i2c_virt.specs.declared.desk.Desk.{Desk}
 use Rattle.i2c_virt.specs.declared.owners.TheConstants.{ADDRESSES}
 use Rattle.i2c_virt.specs.declared.work.From.{From}
@@ -29,6 +30,7 @@ pub record Took : Type 0 where
 pub record IsTook (clients : ℕ) (t : Took) : Type 0 where
   pub there : t.request.client < clients
   pub own : t.page.pool.0 ≡ t.request.client
+  pub within : t.page.no < BUFFERS
   pub spelled : SpellsRequest t.page.bytes t.request.ask
 
 -- the requests alone

@@ -22,7 +22,7 @@ returns-clause-work c =
     let x = c.index_mut-desk.result.now in
     let r = request_parts k c.args.entry p c.in-Page.is c.requires.in_turn in
     let h = ap head_in (sym c.bytes.ensures) ∙ (sym c.read_head.ensures.head ∙ c.in-Some.is) in
-    asked_work w _ k x c.ask.new.self (asks_there w k x c.requires.needed c.index_mut-desk.ensures.value) refl c.requires.work p c.judge-answer.result c.ask.ensures (asks_open w k x c.requires.needed c.index_mut-desk.ensures.value) r.own _ (head_spells p.bytes c.in-Some.head h) c.judge-answer.ensures.size
+    asked_work w _ k x c.ask.new.self (asks_there w k x c.requires.needed c.index_mut-desk.ensures.value) refl c.requires.work p c.judge-answer.result c.ask.ensures (asks_open w k x c.requires.needed c.index_mut-desk.ensures.value) r.own r.within _ (head_spells p.bytes c.in-Some.head h) c.judge-answer.ensures.size
 
 pub returns-clause-asked : goal.returns-clause-asked
 returns-clause-asked c =
@@ -39,6 +39,6 @@ returns-clause-asked c =
       took = record { request = record { client = k; ask = ask }; page = p };
       is = r.is;
       client = refl;
-      stands = asked_log w _ k x c.ask.new.self (asks_there w k x c.requires.needed c.index_mut-desk.ensures.value) refl c.requires.work p c.judge-answer.result c.ask.ensures (asks_open w k x c.requires.needed c.index_mut-desk.ensures.value) r.own ask (head_spells p.bytes head h)
+      stands = asked_log w _ k x c.ask.new.self (asks_there w k x c.requires.needed c.index_mut-desk.ensures.value) refl c.requires.work p c.judge-answer.result c.ask.ensures (asks_open w k x c.requires.needed c.index_mut-desk.ensures.value) r.own r.within ask (head_spells p.bytes head h)
           (λ rs. c.judge-answer.ensures.verdict rs (drop 4 p.bytes)) (λ rs. c.judge-answer.ensures.knows rs (drop 4 p.bytes));
     })
