@@ -1,12 +1,11 @@
 -- The actors of a bus in their start state may begin, at the queues of a bus.
-use Rattle.std.proofs.Common.{◌≡◌, ◌+◌, ◌*◌, ◌<◌, ◌≤◌, ◌++◌, ◌⊎◌, inl, inr, ℕ, zero, suc, true, Option, Some, None, List, [], ◌∷◌, All, length, length-append, map, slice_get, refl, sym, ap, ◌∙◌, subst, arith}
+use Rattle.std.proofs.Common.{◌≡◌, ◌+◌, ◌*◌, ◌<◌, ◌⊎◌, inl, inr, ℕ, zero, suc, true, Option, Some, None, List, [], ◌∷◌, length, length-append, slice_get, refl, sym, ap, ◌∙◌, subst, arith}
 use Rattle.std.specs.Option.{ForSome}
 use Rattle.std.proofs.lemmas.Bool.{lt-ltb}
 use Rattle.std.proofs.lemmas.List.{length-map}
 use Rattle.std.proofs.lemmas.Option.{get_or_from_slice_get, slice_get-get_or}
 use Rattle.cargo_core.specs.declared.item.QueueKind.TheVariants as Kind
 use Rattle.cargo_core.specs.Items.{kind_of}
-use Rattle.cargo_core.specs.Capacities.{IsCapacity}
 use Rattle.wire_core.specs.declared.names.QueueId.{QueueId}
 use Rattle.wire_core.specs.declared.names.QueueRow.{QueueRow}
 use Rattle.wire_core.specs.declared.names.Side.TheVariants.{Forward, Backward}
@@ -23,11 +22,11 @@ use Rattle.turn_kit.specs.Turns.{Post, IsRound}
 use Rattle.turn_kit.specs.Posts.{intake_post, outlet_post}
 use Rattle.turn_kit.specs.Pipes.{FitsPipe, IsNewPipe}
 use Rattle.turn_kit.specs.ManyEnds.{AreApart, intake_posts, outlet_posts, needs_from}
-use Rattle.buffer_kit.specs.Virtualising.{FitsVirt, from_queues, to_queues, new_intake, new_outlet, virt_posts}
+use Rattle.buffer_kit.specs.Virtualising.{from_queues, to_queues, new_intake, new_outlet, virt_posts}
 use Rattle.buffer_kit.proofs.TwoLists.{get_front, get_behind, needs_length}
-use Rattle.pipe_driver.specs.Drivers.{FitsPipes, AreDistinct}
+use Rattle.pipe_driver.specs.Drivers.{FitsPipes}
 use Rattle.play_core.specs.Sheets.{IsSeat}
-use Rattle.play_core.proofs.Lists.{some_is, map_get, map_from, there_is, there_below}
+use Rattle.play_core.proofs.Lists.{some_is, map_get, map_from, there_below}
 use Rattle.small_system.specs.Meanings.{Own}
 use Rattle.small_system.specs.Standing.{Begins}
 use Rattle.i2c_text.specs.declared.bus.Bus.{Bus}
@@ -47,7 +46,7 @@ use Rattle.i2c_actors.specs.Members.{member_round, MemberStandsFor, FitsMember, 
 use Rattle.i2c_actors.specs.Queues.{AreQueues}
 use Rattle.i2c_actors.specs.Casting.{AreEverySecond}
 use Rattle.i2c_actors.specs.Starting.{IsFresh, IsNewVirt, IsNewDriver, IsNewDevice, AreNew}
-use Rattle.i2c_actors.proofs.Places.{get_split, Which, Request, Reply, ToDriver, FromDriver, ToBus, FromBus, which, putter, taker, holder, held_below, goes, row_held, seat, row_capacity}
+use Rattle.i2c_actors.proofs.Places.{get_split, Which, Request, Reply, ToDriver, FromDriver, ToBus, FromBus, which, holder, held_below, goes, row_held, seat, row_capacity}
 use Rattle.i2c_actors.proofs.Making.{Who, Asker, Hub, Copier, Device, who, there_at, members_many, req_at, resp_at, out_at, in_at, froms, tos, desks_many, first_in, first_out, rest_in, rest_out, bus_in, bus_out}
 
 -- nothing is in hand, so whatever is said of it holds

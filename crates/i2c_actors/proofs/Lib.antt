@@ -2,5 +2,6 @@
 pub mod Membering
 pub mod Queueing
 pub mod Places
+pub mod Fresh
 pub mod Making
 pub mod Beginning

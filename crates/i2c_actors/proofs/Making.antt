@@ -1,8 +1,7 @@
 -- What the actors of a bus are made of in their start state, and which stands where.
-use Rattle.std.proofs.Common.{◌≡◌, ◌+◌, ◌*◌, ◌<◌, ◌++◌, ◌⊎◌, inl, inr, ℕ, zero, suc, Some, List, [], ◌∷◌, length, length-append, map, slice_get, refl, sym, ap, ◌∙◌, subst, arith}
+use Rattle.std.proofs.Common.{◌≡◌, ◌+◌, ◌*◌, ◌<◌, ◌⊎◌, inl, inr, ℕ, zero, suc, Some, List, [], ◌∷◌, length, length-append, map, slice_get, refl, sym, ap, ◌∙◌, subst, arith}
 use Rattle.std.proofs.lemmas.List.{length-replicate}
 use Rattle.wire_core.specs.declared.names.QueueId.{QueueId}
-use Rattle.turn_kit.specs.Pipes.{IsNewPipe}
 use Rattle.turn_kit.specs.declared.ends.Intake.{Intake}
 use Rattle.turn_kit.specs.declared.ends.Outlet.{Outlet}
 use Rattle.buffer_kit.specs.Virtualising.{from_queues, to_queues, new_intake, new_outlet}
@@ -17,9 +16,9 @@ use Rattle.i2c_virt.specs.declared.bus_device.BusDevice.{BusDevice}
 use Rattle.i2c_virt.specs.Desks.{new_desk}
 use Rattle.i2c_actors.specs.declared.member.Member.{Member}
 use Rattle.i2c_actors.specs.declared.member.Member.TheVariants as Members
-use Rattle.i2c_actors.specs.Members.{Made, Asks, Serves, Copies, Answers, made_of}
+use Rattle.i2c_actors.specs.Members.{Asks, Serves, Copies, Answers, made_of}
 use Rattle.i2c_actors.specs.Casting.{StandsAt, AreMade}
-use Rattle.i2c_actors.specs.Starting.{IsFresh, AreFresh, IsNewVirt, IsNewDriver, IsNewDevice, AreNew}
+use Rattle.i2c_actors.specs.Starting.{IsFresh, IsNewVirt, IsNewDriver, IsNewDevice, AreNew}
 use Rattle.i2c_actors.proofs.Places.{get_split}
 
 -- the queues of ends that were made of them

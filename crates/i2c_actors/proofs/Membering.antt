@@ -1,4 +1,4 @@
-use Rattle.std.proofs.Common.{◌≡◌, ap, ◌∙◌, ℕ, List, Result, Ok, Err, IfOk, length}
+use Rattle.std.proofs.Common.{◌≡◌, ap, ◌∙◌, List, Result, Ok, Err, IfOk, length}
 use Rattle.cargo_core.specs.declared.item.PoolId.{PoolId}
 use Rattle.cargo_core.specs.declared.memory.Memory.{Memory}
 use Rattle.wire_core.specs.declared.names.QueueId.{QueueId}

@@ -1,5 +1,5 @@
 -- Which queue of a bus stands where, and whose ends it has.
-use Rattle.std.proofs.Common.{◌≡◌, ◌+◌, ◌*◌, ◌<◌, ◌≤◌, ◌++◌, ◌⊎◌, inl, inr, ℕ, zero, suc, Some, List, [], ◌∷◌, length, slice_get, refl, sym, ap, ◌∙◌, subst, arith}
+use Rattle.std.proofs.Common.{◌≡◌, ◌+◌, ◌*◌, ◌<◌, ◌≤◌, ◌++◌, ◌⊎◌, inl, inr, ℕ, zero, suc, Some, List, [], ◌∷◌, length, slice_get, refl, sym, ◌∙◌, subst, arith}
 use Rattle.std.proofs.lemmas.Bool.{cases_lt}
 use Rattle.cargo_core.specs.Capacities.{IsCapacity}
 use Rattle.wire_core.specs.declared.names.QueueRow.{QueueRow}
@@ -7,7 +7,7 @@ use Rattle.wire_core.specs.Ends.{Role, Consumer, Producer}
 use Rattle.wire_core.specs.Journal.{owner_of}
 use Rattle.play_core.specs.Sheets.{IsSeat}
 use Rattle.play_core.proofs.Lists.{some_is}
-use Rattle.i2c_actors.specs.Queues.{IsQueue, GoesAt, HaveQueues, AreQueues}
+use Rattle.i2c_actors.specs.Queues.{IsQueue, GoesAt, AreQueues}
 
 -- an entry of one list behind another
 pub get_split : {X : Type 0} (xs ys : List X) (k : ℕ) (x : X) → slice_get (xs ++ ys) k ≡ Some x → (slice_get xs k ≡ Some x) ⊎ ((j : ℕ) × (slice_get ys j ≡ Some x) × (k ≡ length xs + j))

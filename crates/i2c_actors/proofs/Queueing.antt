@@ -1,7 +1,7 @@
 use Rattle.std.proofs.Common.{◌≡◌, ◌+◌, ◌*◌, ◌<◌, ◌≤◌, ◌++◌, ◌⊎◌, inl, inr, ℕ, zero, suc, Some, List, [], ◌∷◌, length, length-append, slice_get, refl, sym, ap, ◌∙◌, subst, arith}
 use Rattle.std.proofs.lemmas.Bool.{cases_lt}
 use Rattle.wire_core.specs.declared.names.QueueRow.{QueueRow}
-use Rattle.i2c_actors.specs.Queues.{IsQueue, Added, GoesAt, HaveQueues, AreQueues}
+use Rattle.i2c_actors.specs.Queues.{Added, GoesAt, HaveQueues, AreQueues}
 
 -- The queues of a bus, pair by pair.
 

@@ -1,5 +1,5 @@
 -- The actors of a bus as they are made: which stands where, and what each is made of.
-use Rattle.std.specs.Prelude.{◌≡◌, ◌+◌, ◌*◌, ◌<◌, ◌≤◌, ◌^◌, ℕ, Some, List, [], ◌∷◌, length}
+use Rattle.std.specs.Prelude.{◌≡◌, ◌+◌, ◌*◌, ◌<◌, ◌^◌, ℕ, Some, List, [], ◌∷◌, length}
 use Rattle.std.specs.Prelude.{slice_get}
 use Rattle.wire_core.specs.declared.names.QueueId.{QueueId}
 use Rattle.i2c_text.specs.declared.bus.Bus.{Bus}

@@ -5,7 +5,6 @@ use Rattle.std.proofs.Common.{slice_index_or}
 use Rattle.std.specs.List.{AllByRecursion}
 use Rattle.std.specs.Option.{ForSome, option_map, option_to_list}
 use Rattle.std.proofs.lemmas.List.{append-nil}
-use Rattle.cargo_core.specs.Items.{kind_of}
 use Rattle.wire_core.specs.declared.names.QueueId.{QueueId}
 use Rattle.wire_core.specs.Ends.{Role, Consumer, Producer, End, role_of, waiting_role}
 use Rattle.wire_core.specs.Deeds.{Deed, Cargo}
@@ -23,7 +22,6 @@ use Rattle.buffer_kit.specs.Clients.{queue_at}
 use Rattle.buffer_kit.specs.Virtualising.{from_queues, to_queues}
 use Rattle.buffer_kit.proofs.ManyClients.{queue_there, some_eq}
 use Rattle.buffer_kit.proofs.TwoLists.{get_front, get_behind}
-use Rattle.pipe_driver.specs.Drivers.{FitsPipes}
 use Rattle.small_system.specs.Meanings.{Own, Lawful}
 use Rattle.i2c_kit.specs.declared.page.TheConstants.{BUFFERS}
 use Rattle.i2c_client.specs.declared.client.BusClient.{BusClient}
@@ -37,8 +35,8 @@ use Rattle.i2c_virt.specs.declared.driver.BusDriver.{BusDriver}
 use Rattle.i2c_virt.specs.declared.bus_device.BusDevice.{BusDevice}
 use Rattle.i2c_actors.specs.declared.member.Member.{Member}
 use Rattle.i2c_actors.specs.declared.member.Member.TheVariants as Members
-use Rattle.i2c_virt.specs.Drivers.{pipes_of, DriverStandsFor}
-use Rattle.i2c_virt.specs.BusDevices.{BusStandsFor, FitsBus}
+use Rattle.i2c_virt.specs.Drivers.{DriverStandsFor}
+use Rattle.i2c_virt.specs.BusDevices.{BusStandsFor}
 use Rattle.i2c_actors.specs.Members.{FitsMember, MemberStandsFor, member_round, member_means}
 
 -- an end of an actor by its place

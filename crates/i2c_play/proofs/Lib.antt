@@ -1,0 +1,2 @@
+-- The proofs on the play of a bus.
+pub mod Fitting

@@ -1,12 +1,75 @@
 //! The play of a bus.
 
-ghost use Rattle.std.specs.Prelude.{IfOk};
+ghost use Rattle.std.specs.Prelude.{◌≡◌, ◌≤◌, ℕ, IfOk, length, take, map};
+ghost use Rattle.i2c_text.specs.declared.bus.Bus.{Bus};
 ghost use Rattle.i2c_text.specs.Buses.{IsReadBus};
+ghost use Rattle.i2c_actors.specs.Casting.{IsFitBus};
+ghost use Rattle.i2c_play.specs.Plays.{recorded, all_recorded};
 ghost use Rattle.i2c_play.specs.Playing.{BusPlayed};
 
-use cargo_core::{Memory, Series};
-use i2c_text::{Bus, BusReport};
+use cargo_core::{Bytes, Memory, Series};
+use i2c_actors::{Member, bus_members, bus_queues};
+use i2c_text::{Bus, BusReply, BusReport};
+use small_system::Small;
 use std::alloc::Global;
+use text_limits::bus_limits_law;
+use wire_core::Entry;
+
+// The actors of a bus that was read can be made.
+fn fit_law()
+    ensures { (bus : Bus) → IsReadBus bus → IsFitBus bus }
+{
+    bus_limits_law();
+}
+
+// What an actor recorded.
+fn recorded(actor: &Member) -> &[BusReply]
+    ensures { result.now ≡ recorded actor.now }
+{
+    match actor {
+        Member::Client(client) => client.replies(),
+        Member::Virt(_) | Member::Driver(_) | Member::Bus(_) => &[],
+    }
+}
+
+// A copy of a reply.
+fn copy(alloc: Global, reply: &BusReply) -> Result<BusReply, Memory>
+    ensures { IfOk result (λ copy. copy ≡ reply.now) }
+{
+    Ok(BusReply {
+        status: reply.status,
+        bytes: Bytes::from_slice(alloc, reply.bytes.as_slice())?,
+    })
+}
+
+// Copies of replies.
+fn copies(alloc: Global, replies: &[BusReply]) -> Result<Series<BusReply>, Memory>
+    ensures { IfOk result (λ copies. copies ≡ replies.now) }
+{
+    let mut copies = Vec::with_capacity(alloc, replies.len())?;
+    for reply in replies {
+        copies.push(copy(alloc, reply)?)?;
+    }
+    Ok(Series::from_vec(copies))
+}
+
+// What each of these actors recorded.
+fn all_recorded(alloc: Global, actors: &[Member]) -> Result<Series<Series<BusReply>>, Memory>
+    ensures { IfOk result (λ lists. lists ≡ map recorded actors.now) }
+{
+    let mut lists = Vec::with_capacity(alloc, actors.len())?;
+    for actor in actors {
+        lists.push(copies(alloc, recorded(actor))?)?;
+    }
+    Ok(Series::from_vec(lists))
+}
+
+// A copy of a journal.
+fn copy_journal(alloc: Global, journal: &[Entry]) -> Result<Series<Entry>, Memory>
+    ensures { IfOk result (λ copy. copy ≡ journal.now) }
+{
+    Ok(Series::from_vec(Vec::from_slice(alloc, journal)?))
+}
 
 /// Plays a bus that was read, with the picks that a seed gives, to its quiet end or to a limit of
 /// steps, and reports it.
@@ -14,11 +77,19 @@ pub fn play_bus(alloc: Global, bus: &Bus, seed: u64, limit: u64) -> Result<BusRe
     requires { IsReadBus bus.now }
     ensures { IfOk result (BusPlayed bus.now seed limit) }
 {
+    fit_law();
+    let rows = bus_queues(alloc, bus.clients as u16)?;
+    let members = bus_members(alloc, bus)?;
+    let mut small = Small::new(alloc, &rows, members)?;
+    let quiet = small.play(seed, limit)?;
+    let clients = bus.clients as usize;
+    let replies = all_recorded(alloc, &small.actors()[..clients])?;
+    let journal = copy_journal(alloc, small.journal())?;
     Ok(BusReport {
-        quiet: true,
-        steps: 0,
-        replies: Series::new(alloc),
+        quiet,
+        steps: journal.len() as u64,
+        replies,
         pools: Series::new(alloc),
-        journal: Series::new(alloc),
+        journal,
     })
 }

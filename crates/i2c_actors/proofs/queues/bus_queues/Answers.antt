@@ -1,6 +1,6 @@
-use Rattle.std.proofs.Common.{◌≡◌, ◌+◌, arith, subst, refl}
+use Rattle.std.proofs.Common.{◌≡◌, ◌+◌, arith, subst}
 use Rattle.i2c_actors.specs.Queues.{Added}
-use Rattle.i2c_actors.proofs.Queueing.{SoFar, none_yet, one_more, all_queues}
+use Rattle.i2c_actors.proofs.Queueing.{SoFar, one_more, all_queues}
 use Rattle.i2c_actors.proofs.queues.bus_queues.Goals as goal
 
 pub loop-client-preserved : goal.loop-client-preserved
