@@ -37,7 +37,7 @@ use Rattle.i2c_actors.specs.declared.member.Member.{Member}
 use Rattle.bus_law.specs.Takes.{script_of}
 use Rattle.bus_law.proofs.Lists.{prefix_then, prefix_part, prefix_at, get_behind, all_at}
 use Rattle.bus_law.proofs.Staging.{ClientAt, Stage}
-use Rattle.bus_law.proofs.Serving.{asked_at, asked_by, spelled_head, named, flow, came_first, served, client_served, from_no_client, log_now, back_now}
+use Rattle.bus_law.proofs.Serving.{all_three, all_four, asked_at, asked_by, spelled_head, named, flow, came_first, served, client_served, from_no_client, log_now, back_now}
 
 -- In a play nothing comes out of turn.
 
