@@ -1,0 +1,5 @@
+-- The proofs on the owners of the buffers of a bus.
+pub mod Names
+pub mod Clients
+pub mod Plainly
+pub mod Serving
