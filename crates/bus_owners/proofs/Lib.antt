@@ -3,3 +3,6 @@ pub mod Names
 pub mod Clients
 pub mod Plainly
 pub mod Serving
+pub mod Actors
+pub mod Seating
+pub mod Keeping

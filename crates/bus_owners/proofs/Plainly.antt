@@ -16,7 +16,7 @@ use Rattle.owner_law.proofs.Named.{buffers_are, buffers_none, keeps_plain}
 use Rattle.bus_owners.specs.Naming.{own_window, shared_windows, bus_naming}
 
 -- each queue names whole buffers or nothing
-named_plainly : (clients n : ℕ) → (bus_naming clients n ≡ NoBuffers) ⊎ ((ws : List Window) × (bus_naming clients n ≡ Buffers ws))
+pub named_plainly : (clients n : ℕ) → (bus_naming clients n ≡ NoBuffers) ⊎ ((ws : List Window) × (bus_naming clients n ≡ Buffers ws))
 named_plainly clients n = by (nat_lt n (2 * clients)) (nat_lt n (2 * clients + 4)) refl refl
   where
     by : (s t : Bool) → nat_lt n (2 * clients) ≡ s → nat_lt n (2 * clients + 4) ≡ t → (bus_naming clients n ≡ NoBuffers) ⊎ ((ws : List Window) × (bus_naming clients n ≡ Buffers ws))
