@@ -15,7 +15,7 @@ use Rattle.i2c_actors.specs.declared.member.Member.TheVariants as Members
 use Rattle.i2c_actors.specs.Members.{member_means}
 use Rattle.bus_law.specs.Takes.{script_of, requests_taken, granted_replies}
 use Rattle.bus_law.specs.Plays.{IsBusTale}
-use Rattle.bus_law.specs.Bounds.{hops_most, steps_most}
+use Rattle.bus_law.specs.Bounds.{hops_of, bus_bound}
 use Rattle.bus_law.proofs.Staging.{Laws, holds_now, stage_now}
 use Rattle.bus_law.proofs.Replying.{MomentLaw, replies_begin}
 use Rattle.bus_law.proofs.Hopping.{hops_few}
@@ -37,14 +37,14 @@ client_is : {x y : BusClient} → Members.Client x ≡ Members.Client y → x �
 client_is h = cc
 
 module _ (laws : Laws) where
-  pub hops_are_few : (bus : Bus) (rows : List QueueRow) (start : List Member) (turns : List (Turn Member)) → IsBusTale bus rows start turns → all_sent (start_history rows) rows (journal_of turns) ≤ hops_most bus
+  pub hops_are_few : (bus : Bus) (rows : List QueueRow) (start : List Member) (turns : List (Turn Member)) → IsBusTale bus rows start turns → all_sent (start_history rows) rows (journal_of turns) ≤ hops_of bus
   hops_are_few bus rows start turns play =
       hops_few bus (after_tale (start_of rows start) turns) (passed_by turns) (stage_now laws bus rows start turns play) rows (journal_of turns) (holds_now laws bus rows start turns play) play.queues.many
 
-  pub steps_are_few : BoundLaw → (bus : Bus) (rows : List QueueRow) (start : List Member) (turns : List (Turn Member)) → IsBusTale bus rows start turns → 0 < bus.clients → length (journal_of turns) < steps_most bus
+  pub steps_are_few : BoundLaw → (bus : Bus) (rows : List QueueRow) (start : List Member) (turns : List (Turn Member)) → IsBusTale bus rows start turns → 0 < bus.clients → length (journal_of turns) < bus_bound bus
   steps_are_few bound_law bus rows start turns play some =
-      subst (λ k. length (journal_of turns) < 32 * (hops_most bus + k + 1) * (2 * bus.clients + 2 + 1)) play.made.many
-      (bound_law rows start turns (hops_most bus) (2 * bus.clients + 2) play.begins play.tale (few_ends bus.clients rows play.queues some) (hops_are_few bus rows start turns play))
+      subst (λ k. length (journal_of turns) < 32 * (hops_of bus + k + 1) * (2 * bus.clients + 2 + 1)) play.made.many
+      (bound_law rows start turns (hops_of bus) (2 * bus.clients + 2) play.begins play.tale (few_ends bus.clients rows play.queues some) (hops_are_few bus rows start turns play))
 
   module _ (moment_law : MomentLaw) (still_law : StillLaw) (rest_law : RestLaw) where
     pub all_replies : (bus : Bus) (rows : List QueueRow) (start : List Member) (turns : List (Turn Member)) → IsBusTale bus rows start turns → running_in member_means (after_tale (start_of rows start) turns) ≡ [] → (c : ℕ) → c < bus.clients → (x : BusClient) → slice_get (after_tale (start_of rows start) turns).actors c ≡ Some (Members.Client x) → x.asking.replies.shown ≡ granted_replies bus (journal_of turns) c

@@ -1,5 +1,7 @@
 use Rattle.std.proofs.Common.{◌≡◌, ◌⊎◌, inl, inr, ◌+◌, ◌*◌, ◌<◌, ◌≤◌, ℕ, zero, suc, Bool, true, false, cond, Some, None, List, [], ◌∷◌, All, length, length-append, slice_index_or, refl, sym, ap, ◌∙◌, subst, arith}
 use Rattle.std.specs.Option.{option_to_list}
+use Rattle.std.specs.List.{sum_by}
+use Rattle.std.proofs.lemmas.List.Sums.{sum_by-cons}
 use Rattle.std.proofs.lemmas.List.{length-map}
 use Rattle.std.proofs.lemmas.Bool.{cases_lt}
 use Rattle.cargo_core.specs.declared.item.Item.{Item}
@@ -10,7 +12,6 @@ use Rattle.wire_core.specs.Deeds.{Cargo}
 use Rattle.wire_core.specs.Lists.{Passed}
 use Rattle.wire_core.specs.Journal.{track, start_history}
 use Rattle.wire_core.specs.Marks.{sum_below, all_sent}
-use Rattle.play_core.specs.Totals.{total}
 use Rattle.small_system.specs.Tales.{Moment}
 use Rattle.small_system.specs.Standing.{Holds}
 use Rattle.i2c_text.specs.declared.bus.Bus.{Bus}
@@ -24,7 +25,7 @@ use Rattle.i2c_virt.specs.Works.{IsSomeones, is_of, judged_of, entries_of, of_cl
 use Rattle.i2c_actors.specs.declared.member.Member.{Member}
 use Rattle.i2c_actors.specs.Members.{member_means}
 use Rattle.bus_law.specs.Takes.{script_of}
-use Rattle.bus_law.specs.Bounds.{requests_many, hops_most}
+use Rattle.bus_law.specs.Bounds.{requests_of, hops_of}
 use Rattle.bus_law.proofs.Lists.{prefix_few, all_head, all_tail}
 use Rattle.bus_law.proofs.Staging.{Stage}
 use Rattle.bus_law.proofs.Serving.{flow, served, client_served, asked_by, requests_first, log_now, back_now}
@@ -103,9 +104,13 @@ sum_four f m =
     let fc = ap f c in
     ap (sum_below f) (sym d) ∙ omega (arith, fa, fb, fc)
 
-total_is : (xs : List (List BusAsk)) → total xs ≡ sum_below (λ c. length (slice_index_or xs c [])) (length xs)
-total_is [] = refl
-total_is (l ∷ ls) = let e = total_is ls in let h = sum_front (λ c. length (slice_index_or (l ∷ ls) c [])) (length ls) in omega (arith, e, h)
+requests_are_many : (xs : List (List BusAsk)) → sum_by length xs ≡ sum_below (λ c. length (slice_index_or xs c [])) (length xs)
+requests_are_many [] = refl
+requests_are_many (l ∷ ls) =
+    let e = requests_are_many ls in
+    let f = sum_by-cons length l ls in
+    let h = sum_front (λ c. length (slice_index_or (l ∷ ls) c [])) (length ls) in
+    omega (arith, e, f, h)
 
 -- entries of so many clients are no more than those of each together
 grows : (x : Cargo) (xs : List Cargo) (c : ℕ) → length (of_client c xs) ≤ length (of_client c (x ∷ xs))
@@ -185,10 +190,10 @@ module _ (bus : Bus) (mo : Moment Member) (passed : Passed) (st : Stage bus mo p
       let g = prefix_few (passed.taken (2 * n + 3)) (passed.sent (2 * n + 3)) (flow bus mo passed st (2 * n + 3)) in
       omega (arith, e, f, g)
 
-  many_is : requests_many bus ≡ sum_below asked n
-  many_is = total_is bus.asks ∙ ap (sum_below asked) st.each
+  many_is : requests_of bus ≡ sum_below asked n
+  many_is = requests_are_many bus.asks ∙ ap (sum_below asked) st.each
 
-  all_put : sum_below put (2 * n + 4) ≤ hops_most bus
+  all_put : sum_below put (2 * n + 4) ≤ hops_of bus
   all_put =
       let four = sum_four put (2 * n) in
       let pairs = sum_pairs put asked n put_few gave_few in
@@ -199,7 +204,7 @@ module _ (bus : Bus) (mo : Moment Member) (passed : Passed) (st : Stage bus mo p
       let m = many_is in
       omega (arith, four, pairs, w, a, b, c, m)
 
-  pub hops_few : (rows : List QueueRow) (journal : List Entry) → Holds member_means rows mo passed journal → length rows ≡ 2 * n + 4 → all_sent (start_history rows) rows journal ≤ hops_most bus
+  pub hops_few : (rows : List QueueRow) (journal : List Entry) → Holds member_means rows mo passed journal → length rows ≡ 2 * n + 4 → all_sent (start_history rows) rows journal ≤ hops_of bus
   hops_few rows journal holds many =
       let same = sum_alike (λ q. length (track (start_history rows) q journal).sent) put (length rows) (λ q. ap (λ (l : List Item). length l) (sym (holds.shows_sent q)) ∙ length-map (passed.sent q) (λ (c : Cargo). c.0)) in
       let e = ap (sum_below put) many in

@@ -19,7 +19,7 @@ ghost use Rattle.i2c_actors.specs.declared.member.Member.TheVariants as Members;
 ghost use Rattle.i2c_actors.specs.Members.{member_means};
 ghost use Rattle.bus_law.specs.Takes.{granted_replies};
 ghost use Rattle.bus_law.specs.Plays.{IsBusTale};
-ghost use Rattle.bus_law.specs.Bounds.{hops_most, steps_most};
+ghost use Rattle.bus_law.specs.Bounds.{hops_of, bus_bound};
 ghost use Rattle.bus_law.specs.Wants.{bus_wants};
 
 use i2c_actors::Member;
@@ -53,10 +53,10 @@ pub fn replies_law()
 pub fn hops_law()
     ensures put { (bus : Bus) (rows : List QueueRow) (start : List Member)
         (turns : List (Turn Member)) → IsBusTale bus rows start turns
-        → all_sent (start_history rows) rows (journal_of turns) ≤ hops_most bus }
+        → all_sent (start_history rows) rows (journal_of turns) ≤ hops_of bus }
     ensures steps { (bus : Bus) (rows : List QueueRow) (start : List Member)
         (turns : List (Turn Member)) → IsBusTale bus rows start turns → 0 < bus.clients
-        → length (journal_of turns) < steps_most bus }
+        → length (journal_of turns) < bus_bound bus }
 {
     tale_law::<Member>();
     bound_law::<Member>();
