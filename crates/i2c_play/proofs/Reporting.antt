@@ -1,12 +1,10 @@
 -- What a player shows of a bus and a report tells is what the play of a bus promises.
 use Rattle.std.proofs.Common.{◌≡◌, ◌+◌, ◌*◌, ◌<◌, ◌≤◌, ◌++◌, ℕ, zero, suc, Bool, true, false, Some, List, [], ◌∷◌, length, map, take, sum_by, slice_get, refl, sym, ap, ◌∙◌, subst, arith}
 use Rattle.std.proofs.lemmas.List.{length-map}
-use Rattle.std.proofs.lemmas.List.Sums.{sum_by-cons}
 use Rattle.cargo_core.specs.Lists.{IsPrefix}
 use Rattle.wire_core.specs.declared.names.QueueRow.{QueueRow}
 use Rattle.wire_core.specs.declared.names.Entry.{Entry}
 use Rattle.wire_core.specs.Picks.{PickedFrom}
-use Rattle.play_core.specs.Totals.{total}
 use Rattle.play_core.proofs.Lists.{some_is}
 use Rattle.small_system.specs.Tales.{Moment, Turn, start_of, IsTale, after_tale, journal_of, entry_of, running_in, PickedBy}
 use Rattle.small_system.specs.Shows.{Shown, Played, IsQuiet, IsSpent}
@@ -21,18 +19,9 @@ use Rattle.i2c_actors.specs.declared.member.Member.TheVariants as Members
 use Rattle.i2c_actors.specs.Members.{member_means}
 use Rattle.bus_law.specs.Plays.{IsBusTale}
 use Rattle.bus_law.specs.Takes.{granted_replies}
-use Rattle.bus_law.specs.Bounds.{steps_most}
-use Rattle.i2c_play.specs.Bounds.{bus_bound, requests_of}
+use Rattle.bus_law.specs.Bounds.{bus_bound}
 use Rattle.i2c_play.specs.Plays.{IsSetUp, IsReportOf, recorded, all_recorded}
 use Rattle.i2c_play.specs.Playing.{runnable_after, IsQuietAfter, AreItsTurns, TellsReplies, BusPlayed}
-
--- lists together, both ways
-sums_are : {T : Type 0} (lists : List (List T)) → sum_by length lists ≡ total lists
-sums_are [] = refl
-sums_are (l ∷ lists) = sum_by-cons length l lists ∙ ap (λ n. length l + n) (sums_are lists)
-
-bounds_are : (bus : Bus) → bus_bound bus ≡ steps_most bus
-bounds_are bus = ap (λ n. 32 * (6 * n + (bus.clients + 3) + 1) * (2 * bus.clients + 2 + 1)) (sums_are bus.asks)
 
 -- the first of a list, mapped
 first_many : {X Y : Type 0} (f : X → Y) (n : ℕ) (xs : List X) → n ≤ length xs → length (map f (take n xs)) ≡ n
@@ -132,7 +121,7 @@ module _ (bus : Bus) (seed limit : ℕ) (old new : Shown Member) (report : BusRe
       lawful = subst (IsLawful rows) (sym journal_is) law_lawful;
     }
 
-  module _ (law_steps : length (journal_of turns) < steps_most bus) (law_runs : running_in member_means last ≡ runnable_after bus rows (journal_of turns)) (law_quiet : running_in member_means last ≡ [] → IsQuietAfter bus rows (journal_of turns)) where
+  module _ (law_steps : length (journal_of turns) < bus_bound bus) (law_runs : running_in member_means last ≡ runnable_after bus rows (journal_of turns)) (law_quiet : running_in member_means last ≡ [] → IsQuietAfter bus rows (journal_of turns)) where
     quiet_after : report.quiet ≡ true → IsQuietAfter bus rows report.journal
     quiet_after h = subst (IsQuietAfter bus rows) (sym journal_is) (law_quiet (ap (running_in member_means) (sym last_is) ∙ still h))
 
@@ -144,7 +133,7 @@ module _ (bus : Bus) (seed limit : ℕ) (old new : Shown Member) (report : BusRe
       where
         by : (b : Bool) → report.quiet ≡ b → b ≡ true
         by true h = refl
-        by false h = absurd (too_many report.steps (bus_bound bus) limit (subst (λ n. report.steps < n) (sym (bounds_are bus)) (subst (λ n. n < steps_most bus) (sym (steps_are ∙ ap length journal_is)) law_steps)) le (all_steps h))
+        by false h = absurd (too_many report.steps (bus_bound bus) limit (subst (λ n. n < bus_bound bus) (sym (steps_are ∙ ap length journal_is)) law_steps) le (all_steps h))
 
     pub is_played : AreItsTurns bus seed rows report.journal → TellsReplies bus report → BusPlayed bus seed limit report
     is_played its replies = record {
