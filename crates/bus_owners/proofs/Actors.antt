@@ -1,25 +1,21 @@
 -- Each actor of a bus puts no buffer more often than it had it and took it.
-use Rattle.std.proofs.Common.{◌≡◌, ◌+◌, ◌*◌, ◌<◌, ◌≤◌, ◌++◌, ◌⊎◌, inl, inr, ℕ, zero, suc, Some, List, [], ◌∷◌, length, length-append, sum_by, slice_get, refl, sym, ap, ◌∙◌, subst, arith}
-use Rattle.std.specs.Option.{option_to_list}
-use Rattle.std.proofs.lemmas.Bool.{cases_lt, cases_eq}
-use Rattle.std.proofs.lemmas.List.Elements.{All-get_or}
+use Rattle.std.proofs.Common.{◌≡◌, ◌+◌, ◌*◌, ◌<◌, ◌≤◌, ◌⊎◌, inl, inr, ℕ, zero, suc, Some, List, [], ◌∷◌, length, sum_by, slice_get, refl, sym, ap, ◌∙◌, subst, arith}
+use Rattle.std.proofs.lemmas.Bool.{cases_lt}
 use Rattle.std.proofs.lemmas.List.Sums.{sum_by-cons}
 use Rattle.std.proofs.lemmas.Option.{get_or_from_slice_get}
 use Rattle.cargo_core.specs.Lists.{IsPrefix}
-use Rattle.cargo_core.specs.Pages.{Paged}
 use Rattle.cargo_core.specs.declared.item.Body.TheVariants as Bodies
 use Rattle.wire_core.specs.declared.names.QueueId.{QueueId}
 use Rattle.wire_core.specs.Deeds.{Cargo}
 use Rattle.wire_core.specs.Lists.{Passed}
 use Rattle.wire_core.specs.Queues.{items_of}
-use Rattle.play_core.specs.Moved.{Moved, Seat}
+use Rattle.play_core.specs.Moved.{Moved}
 use Rattle.play_core.specs.Wants.{intake, outlet}
 use Rattle.play_core.specs.Rests.Showing.{HaveItems}
-use Rattle.play_core.proofs.Lists.{prefix_trans, there_below}
+use Rattle.play_core.proofs.Lists.{there_below}
 use Rattle.buffer_kit.specs.Clients.{queue_at}
 use Rattle.owner_law.specs.Things.{Buffer, names_in, times, as_buffer}
 use Rattle.owner_law.specs.Keeping.{Keeps, at_start, all_taken, all_put}
-use Rattle.owner_law.proofs.Named.{times_few}
 use Rattle.owner_law.specs.Pools.Spread.{share_of}
 use Rattle.i2c_text.specs.declared.bus.BusAsk.{BusAsk}
 use Rattle.i2c_text.specs.declared.report.BusReply.{BusReply}
@@ -27,17 +23,17 @@ use Rattle.i2c_kit.specs.declared.device.Device.{Device}
 use Rattle.i2c_kit.specs.Devices.{new_devices}
 use Rattle.i2c_kit.specs.Serving.{answer_to, answers_to, done}
 use Rattle.i2c_client.specs.Clients.{ClientRow}
-use Rattle.i2c_virt.specs.Desks.{own_entry, forwarded}
-use Rattle.i2c_virt.specs.Works.{Took, IsTook, IsSomeones, judged_of, entries_of, of_client}
+use Rattle.i2c_virt.specs.Desks.{forwarded}
+use Rattle.i2c_virt.specs.Works.{IsSomeones, judged_of, entries_of, of_client}
 use Rattle.i2c_virt.specs.Virtualising.{VirtRow, strays_back, strays_of}
 use Rattle.i2c_virt.specs.BusDevices.{BusRow}
 use Rattle.i2c_actors.specs.Casting.{AreEverySecond}
 use Rattle.bus_owners.specs.Naming.{bus_naming, own_window, shared_windows}
 use Rattle.bus_owners.specs.Keepers.{pool_size, pool_owner, client_ends, served_ends, virt_ends, driver_ends, device_ends}
 use Rattle.bus_owners.proofs.Names.{request_names, reply_names, shared_names}
-use Rattle.bus_owners.proofs.Clients.{among, asked_times, answered_times, asks_few}
+use Rattle.bus_owners.proofs.Clients.{asked_times, answered_times, asks_few}
 use Rattle.bus_owners.proofs.Plainly.{plainly_keeps, took_at, put_at, took_sum, put_sum, took_times, put_times, sum_two, sum_four}
-use Rattle.bus_owners.proofs.Serving.{AllBuffers, IsSent, judged_all, shared_times, own_times, all_times, kept_times, sent_on, in_two, taken_times, on_times, given_times, others_none, fewer_times, sent_times, sent_none, first_times, all_sent}
+use Rattle.bus_owners.proofs.Serving.{AllBuffers, IsSent, judged_all, own_times, in_two, taken_times, on_times, given_times, others_none, fewer_times, sent_times, sent_none, first_times, all_sent}
 
 module _ (clients : ℕ) (m : Moved) (passed : Passed) (items : HaveItems passed m) where
   abbrev share : ℕ → ℕ → List ℕ
@@ -144,41 +140,48 @@ module _ (clients : ℕ) (m : Moved) (passed : Passed) (items : HaveItems passed
       omega (arith, h, one, two, z, put, none)
 
   -- and to the one that has it
+  put_first : (b : Buffer) (first n : ℕ) → sum_by (put_at clients m b) (served_ends first (suc n)) ≡ put_at clients m b (outlet (2 * first + 1)) + sum_by (put_at clients m b) (served_ends (first + 1) n)
+  put_first b first n =
+      let one = sum_by-cons (put_at clients m b) (intake (2 * first)) (outlet (2 * first + 1) ∷ served_ends (first + 1) n) in
+      let two = sum_by-cons (put_at clients m b) (outlet (2 * first + 1)) (served_ends (first + 1) n) in
+      let z = none_put b (2 * first) in
+      omega (arith, one, two, z)
+
+  put_step : (b : Buffer) (first n : ℕ) → first + suc n ≡ clients → first ≤ b.pool → b.pool < clients → (first < b.pool → sum_by (put_at clients m b) (served_ends (first + 1) n) ≤ put_at clients m b (outlet (2 * b.pool + 1))) → (first < b.pool) ⊎ (b.pool ≤ first) → sum_by (put_at clients m b) (served_ends first (suc n)) ≤ put_at clients m b (outlet (2 * b.pool + 1))
+  put_step b first n e le lt rest (inl before) =
+      let h = rest before in
+      let all = put_first b first n in
+      let f : first < clients = omega (arith, before, lt) in
+      let put = put_times clients m passed items b (2 * first + 1) (own_window first ∷ []) (reply_names clients first f) in
+      let none = others_none clients b first (λ same. absurd (omega (arith, same, before))) (passed.sent (2 * first + 1)) in
+      omega (arith, h, all, put, none)
+  put_step b first n e le lt rest (inr past) =
+      let same : first ≡ b.pool = omega (arith, past, le) in
+      let h = beyond b (first + 1) n (omega (arith, e)) (λ c l u s. absurd (omega (arith, l, s, same))) in
+      let all = put_first b first n in
+      let here : put_at clients m b (outlet (2 * first + 1)) ≡ put_at clients m b (outlet (2 * b.pool + 1)) = ap (λ c. put_at clients m b (outlet (2 * c + 1))) same in
+      omega (arith, h, all, here)
+
   served_put : (b : Buffer) (first count : ℕ) → first + count ≡ clients → first ≤ b.pool → b.pool < clients → sum_by (put_at clients m b) (served_ends first count) ≤ put_at clients m b (outlet (2 * b.pool + 1))
   served_put b first zero e le lt = absurd (omega (arith, e, le, lt))
-  served_put b first (suc n) e le lt = by (cases_lt first b.pool)
-    where
-      one = sum_by-cons (put_at clients m b) (intake (2 * first)) (outlet (2 * first + 1) ∷ served_ends (first + 1) n)
-      two = sum_by-cons (put_at clients m b) (outlet (2 * first + 1)) (served_ends (first + 1) n)
-      z = none_put b (2 * first)
-
-      by : (first < b.pool) ⊎ (b.pool ≤ first) → sum_by (put_at clients m b) (served_ends first (suc n)) ≤ put_at clients m b (outlet (2 * b.pool + 1))
-      by (inl before) =
-          let h = served_put b (first + 1) n (omega (arith, e)) (omega (arith, before)) lt in
-          let f : first < clients = omega (arith, before, lt) in
-          let put = put_times clients m passed items b (2 * first + 1) (own_window first ∷ []) (reply_names clients first f) in
-          let none = others_none clients b first (λ same. absurd (omega (arith, same, before))) (passed.sent (2 * first + 1)) in
-          omega (arith, h, one, two, z, put, none)
-      by (inr past) =
-          let same : first ≡ b.pool = omega (arith, past, le) in
-          let h = beyond b (first + 1) n (omega (arith, e)) (λ c l u s. absurd (omega (arith, l, s, same))) in
-          let here : put_at clients m b (outlet (2 * first + 1)) ≡ put_at clients m b (outlet (2 * b.pool + 1)) = ap (λ c. put_at clients m b (outlet (2 * c + 1))) same in
-          omega (arith, h, one, two, z, here)
+  served_put b first (suc n) e le lt = put_step b first n e le lt (λ before. served_put b (first + 1) n (omega (arith, e)) (omega (arith, before)) lt) (cases_lt first b.pool)
 
   -- what it took from that one is among all
+  took_step : (b : Buffer) (first n : ℕ) → first ≤ b.pool → (first < b.pool → took_at clients m b (intake (2 * b.pool)) ≤ sum_by (took_at clients m b) (served_ends (first + 1) n)) → (first < b.pool) ⊎ (b.pool ≤ first) → took_at clients m b (intake (2 * b.pool)) ≤ sum_by (took_at clients m b) (served_ends first (suc n))
+  took_step b first n le rest (inl before) =
+      let h = rest before in
+      let one = sum_by-cons (took_at clients m b) (intake (2 * first)) (outlet (2 * first + 1) ∷ served_ends (first + 1) n) in
+      let two = sum_by-cons (took_at clients m b) (outlet (2 * first + 1)) (served_ends (first + 1) n) in
+      omega (arith, h, one, two)
+  took_step b first n le rest (inr past) =
+      let same : first ≡ b.pool = omega (arith, past, le) in
+      let one = sum_by-cons (took_at clients m b) (intake (2 * first)) (outlet (2 * first + 1) ∷ served_ends (first + 1) n) in
+      let here : took_at clients m b (intake (2 * first)) ≡ took_at clients m b (intake (2 * b.pool)) = ap (λ c. took_at clients m b (intake (2 * c))) same in
+      omega (arith, one, here)
+
   served_took : (b : Buffer) (first count : ℕ) → first + count ≡ clients → first ≤ b.pool → b.pool < clients → took_at clients m b (intake (2 * b.pool)) ≤ sum_by (took_at clients m b) (served_ends first count)
   served_took b first zero e le lt = absurd (omega (arith, e, le, lt))
-  served_took b first (suc n) e le lt = by (cases_lt first b.pool)
-    where
-      one = sum_by-cons (took_at clients m b) (intake (2 * first)) (outlet (2 * first + 1) ∷ served_ends (first + 1) n)
-      two = sum_by-cons (took_at clients m b) (outlet (2 * first + 1)) (served_ends (first + 1) n)
-
-      by : (first < b.pool) ⊎ (b.pool ≤ first) → took_at clients m b (intake (2 * b.pool)) ≤ sum_by (took_at clients m b) (served_ends first (suc n))
-      by (inl before) = let h = served_took b (first + 1) n (omega (arith, e)) (omega (arith, before)) lt in omega (arith, h, one, two)
-      by (inr past) =
-          let same : first ≡ b.pool = omega (arith, past, le) in
-          let here : took_at clients m b (intake (2 * first)) ≡ took_at clients m b (intake (2 * b.pool)) = ap (λ c. took_at clients m b (intake (2 * c))) same in
-          omega (arith, one, two, here)
+  served_took b first (suc n) e le lt = took_step b first n le (λ before. served_took b (first + 1) n (omega (arith, e)) (omega (arith, before)) lt) (cases_lt first b.pool)
 
   -- its queues at a client
   queue_is : (first : ℕ) (qs : List QueueId) → AreEverySecond first clients qs → (k : ℕ) → k < clients → queue_at qs k ≡ 2 * k + first

@@ -1,16 +1,15 @@
 -- A client puts its requests in its own two buffers by turns, and puts one again only once its
 -- reply came.
-use Rattle.std.proofs.Common.{◌≡◌, ◌+◌, ◌-◌, ◌*◌, ◌/◌, ◌%◌, ◌<◌, ◌≤◌, ◌==◌, ◌&&◌, ◌++◌, ◌⊎◌, inl, inr, ℕ, zero, suc, Bool, true, false, cond, is_some, Option, Some, None, List, [], ◌∷◌, length, count_by, sum_by, refl, sym, ap, ◌∙◌, subst, arith, eq-eqb}
+use Rattle.std.proofs.Common.{◌≡◌, ◌+◌, ◌-◌, ◌*◌, ◌/◌, ◌%◌, ◌<◌, ◌≤◌, ◌==◌, ◌&&◌, ◌⊎◌, inl, inr, ℕ, zero, suc, Bool, true, false, cond, is_some, Option, Some, List, [], ◌∷◌, length, count_by, refl, sym, ap, ◌∙◌, subst, arith, eq-eqb}
 use Rattle.std.proofs.lemmas.Bool.{lt-ltb, eqb-true}
 use Rattle.std.proofs.lemmas.Nat.{div-add-mod', mod-mul-add, mod_below}
-use Rattle.std.proofs.lemmas.List.Sums.{sum_by-cons, sum_by-append}
-use Rattle.cargo_core.specs.declared.item.Item.{Item}
+use Rattle.std.proofs.lemmas.List.Sums.{sum_by-cons}
 use Rattle.cargo_core.specs.declared.item.Body.TheVariants as Bodies
 use Rattle.cargo_core.specs.declared.item.PoolId.{PoolId}
 use Rattle.wire_core.specs.Bells.{bit}
 use Rattle.wire_core.specs.Deeds.{Cargo}
 use Rattle.wire_core.specs.Queues.{items_of}
-use Rattle.owner_law.specs.Things.{Buffer, is_same, Window, buffer_of, names_in, is_named, times}
+use Rattle.owner_law.specs.Things.{Buffer, is_same, buffer_of, names_in, is_named, times}
 use Rattle.owner_law.specs.Keeping.{at_start}
 use Rattle.owner_law.specs.Pools.Places.{numbers_from}
 use Rattle.owner_law.specs.Pools.Spread.{share_of}
@@ -50,8 +49,8 @@ asked_times c b k [] (x ∷ xs) h = absurd h
 asked_times c b k (ask ∷ asks) (x ∷ xs) h =
     let ws = own_window c ∷ [] in
     let a : IsAsked (record { 0 = c }) k ask x = h.0 in
-    let no : a.page.no ≡ k % 2 = a.number in
-    let name : buffer_of ws x.0 ≡ Some (record { pool = c; no = k % 2 }) = ap (λ (y : Cargo). buffer_of ws y.0) a.carried ∙ (ap (λ n. buffer_of ws (item_at (own_place n))) no ∙ own_named c (k % 2) (mod_below k 2 (omega arith))) in
+    let nr : a.page.no ≡ k % 2 = a.number in
+    let name : buffer_of ws x.0 ≡ Some (record { pool = c; no = k % 2 }) = ap (λ (y : Cargo). buffer_of ws y.0) a.carried ∙ (ap (λ n. buffer_of ws (item_at (own_place n))) nr ∙ own_named c (k % 2) (mod_below k 2 (omega arith))) in
     let one : is_named b (buffer_of ws x.0) ≡ bit (is_same (record { pool = c; no = k % 2 }) b) = ap (is_named b) name in
     let rest = asked_times c b (k + 1) asks xs h.1 in
     let sum = times_more b (buffer_of ws x.0) (names_in ws (items_of xs)) in
@@ -90,25 +89,16 @@ among_plus b c k (suc m) n =
     sum x a d e f h i = omega (arith, h, i)
 
 -- two requests one after the other are in different buffers
+again : (n : ℕ) → (n + 2) % 2 ≡ n % 2
+again n = let e = div-add-mod' n 2 in let same : n + 2 ≡ (n / 2 + 1) * 2 + n % 2 = omega (arith, e) in ap (λ k. k % 2) same ∙ mod-mul-add (n / 2 + 1) 2 (n % 2) (mod_below n 2 (omega arith))
+
+parity_next : (q : ℕ) → ((q % 2 ≡ 0) × ((q + 1) % 2 ≡ 1)) ⊎ ((q % 2 ≡ 1) × ((q + 1) % 2 ≡ 0)) → ((suc q % 2 ≡ 0) × ((suc q + 1) % 2 ≡ 1)) ⊎ ((suc q % 2 ≡ 1) × ((suc q + 1) % 2 ≡ 0))
+parity_next q (inl h) = let one : suc q ≡ q + 1 = omega arith in let two : suc q + 1 ≡ q + 2 = omega arith in inr (ap (λ n. n % 2) one ∙ h.1, ap (λ n. n % 2) two ∙ (again q ∙ h.0))
+parity_next q (inr h) = let one : suc q ≡ q + 1 = omega arith in let two : suc q + 1 ≡ q + 2 = omega arith in inl (ap (λ n. n % 2) one ∙ h.1, ap (λ n. n % 2) two ∙ (again q ∙ h.0))
+
 parity : (q : ℕ) → ((q % 2 ≡ 0) × ((q + 1) % 2 ≡ 1)) ⊎ ((q % 2 ≡ 1) × ((q + 1) % 2 ≡ 0))
 parity zero = inl (refl, refl)
-parity (suc q) = by (parity q)
-  where
-    one : suc q ≡ q + 1
-    one = omega arith
-
-    two : suc q + 1 ≡ q + 2
-    two = omega arith
-
-    again : (q + 2) % 2 ≡ q % 2
-    again = again_at q
-
-    by : ((q % 2 ≡ 0) × ((q + 1) % 2 ≡ 1)) ⊎ ((q % 2 ≡ 1) × ((q + 1) % 2 ≡ 0)) → ((suc q % 2 ≡ 0) × ((suc q + 1) % 2 ≡ 1)) ⊎ ((suc q % 2 ≡ 1) × ((suc q + 1) % 2 ≡ 0))
-    by (inl h) = inr (ap (λ n. n % 2) one ∙ h.1, ap (λ n. n % 2) two ∙ (again ∙ h.0))
-    by (inr h) = inl (ap (λ n. n % 2) one ∙ h.1, ap (λ n. n % 2) two ∙ (again ∙ h.0))
-
-    again_at : (n : ℕ) → (n + 2) % 2 ≡ n % 2
-    again_at n = let e = div-add-mod' n 2 in let same : n + 2 ≡ (n / 2 + 1) * 2 + n % 2 = omega (arith, e) in ap (λ k. k % 2) same ∙ mod-mul-add (n / 2 + 1) 2 (n % 2) (mod_below n 2 (omega arith))
+parity (suc q) = parity_next q (parity q)
 
 -- of both buffers of a client each is once among two requests, and no other is
 module _ (clients c : ℕ) (lt : c < clients) (b : Buffer) where
@@ -116,12 +106,12 @@ module _ (clients c : ℕ) (lt : c < clients) (b : Buffer) where
   hand = share_of (pool_size clients) pool_owner c
 
   abbrev one_of : ℕ → ℕ
-  one_of no = bit (is_same (record { pool = c; no = no }) b)
+  one_of num = bit (is_same (record { pool = c; no = num }) b)
 
   pair_few : one_of 0 + one_of 1 ≤ at_start hand b
   pair_few = by (c == b.pool) refl
     where
-      counts : (x y : Bool) → bit x + bit y ≤ cond {A = ℕ} x 1 0 + (cond {A = ℕ} y 1 0 + 0)
+      counts : (x y : Bool) → bit x + bit y ≤ 0 + cond {A = ℕ} x 1 0 + cond {A = ℕ} y 1 0
       counts true true = omega arith
       counts true false = omega arith
       counts false true = omega arith
@@ -134,7 +124,7 @@ module _ (clients c : ℕ) (lt : c < clients) (b : Buffer) where
           omega (arith, x, y)
       by true is =
           let e : c ≡ b.pool = eqb-true c b.pool is in
-          let f : at_start hand b ≡ cond {A = ℕ} (0 == b.no) 1 0 + (cond {A = ℕ} (1 == b.no) 1 0 + 0) = ap (λ u. count_by (λ no. no == b.no) (cond u (numbers_from 0 (pool_size clients b.pool)) [])) (eq-eqb b.pool c (sym e)) ∙ ap (λ u. count_by (λ no. no == b.no) (numbers_from 0 (cond {A = ℕ} u 2 0))) (lt-ltb b.pool clients (subst (λ n. n < clients) e lt)) in
+          let f : at_start hand b ≡ 0 + cond {A = ℕ} (0 == b.no) 1 0 + cond {A = ℕ} (1 == b.no) 1 0 = ap (λ u. count_by (λ (i : ℕ). i == b.no) (cond u (numbers_from 0 (pool_size clients b.pool)) [])) (eq-eqb b.pool c (sym e)) ∙ ap (λ u. count_by (λ (i : ℕ). i == b.no) (numbers_from 0 (cond {A = ℕ} u 2 0))) (lt-ltb b.pool clients (subst (λ n. n < clients) e lt)) in
           let x : one_of 0 ≡ bit (0 == b.no) = ap (λ u. bit (u && (0 == b.no))) is in
           let y : one_of 1 ≡ bit (1 == b.no) = ap (λ u. bit (u && (1 == b.no))) is in
           let n = counts (0 == b.no) (1 == b.no) in
@@ -158,10 +148,10 @@ module _ (clients c : ℕ) (lt : c < clients) (b : Buffer) where
       let all = among_plus b c 0 came 2 in
       let z : 0 + came ≡ came = omega arith in
       let two : among b c (0 + came) 2 ≤ at_start hand b = turns_few (0 + came) in
-      more (in_all put (came + 2) le) all two
+      more (among b c 0 put) (among b c 0 (came + 2)) (among b c 0 came) (at_start hand b) (among b c (0 + came) 2) (in_all put (came + 2) le) all two
     where
-      more : {p x y h d : ℕ} → p ≤ x → x ≡ y + d → d ≤ h → p ≤ h + y
-      more {p} {x} {y} {h} {d} a e f = omega (arith, a, e, f)
+      more : (p x y h d : ℕ) → p ≤ x → x ≡ y + d → d ≤ h → p ≤ h + y
+      more p x y h d a e f = omega (arith, a, e, f)
 
       in_all : (m n : ℕ) → m ≤ n → among b c 0 m ≤ among b c 0 n
       in_all m n l = let e : m + (n - m) ≡ n = omega (arith, l) in let p = among_plus b c 0 m (n - m) in rest (among b c 0 n) (among b c 0 (m + (n - m))) (among b c 0 m) (among b c (0 + m) (n - m)) (ap (among b c 0) (sym e)) p

@@ -1,5 +1,5 @@
 -- The actors of a bus keep its buffers.
-use Rattle.std.proofs.Common.{◌≡◌, ◌+◌, ◌*◌, ◌<◌, ◌≤◌, ◌++◌, ◌⊎◌, inl, inr, ℕ, zero, suc, true, false, Some, List, [], ◌∷◌, length, slice_get, refl, sym, ap, ◌∙◌, subst, arith}
+use Rattle.std.proofs.Common.{◌≡◌, ◌+◌, ◌*◌, ◌<◌, ◌≤◌, ◌⊎◌, inl, inr, ℕ, true, false, Some, List, [], ◌∷◌, length, slice_get, refl, sym, ap, ◌∙◌, subst, arith}
 use Rattle.std.proofs.lemmas.Bool.{cases_lt}
 use Rattle.cargo_core.specs.Lists.{IsPrefix}
 use Rattle.cargo_core.specs.declared.item.PoolId.{PoolId}
@@ -10,14 +10,13 @@ use Rattle.wire_core.specs.Lists.{Passed}
 use Rattle.play_core.specs.Moved.{Moved, Seat}
 use Rattle.play_core.specs.Still.{Holds}
 use Rattle.play_core.specs.Rests.Showing.{HaveItems}
-use Rattle.play_core.proofs.Lists.{some_is, there_is, there_below}
+use Rattle.play_core.proofs.Lists.{some_is, there_is}
 use Rattle.buffer_kit.specs.Virtualising.{from_queues, to_queues}
-use Rattle.pipe_driver.specs.Drivers.{inputs_of, outputs_of}
-use Rattle.owner_law.specs.Things.{Window, Names, NoBuffers, Buffers, Answers}
-use Rattle.owner_law.specs.Keeping.{Keeper, Keeps, all_taken, all_put, AreDealt, IsNaming, is_lending}
+use Rattle.owner_law.specs.Things.{Window, NoBuffers, Buffers, Answers}
+use Rattle.owner_law.specs.Keeping.{Keeper, Keeps, all_taken, all_put, AreDealt, is_lending}
 use Rattle.owner_law.specs.Pools.Spread.{share_of, AreSpread}
 use Rattle.small_system.specs.Tales.{Turn}
-use Rattle.small_law.specs.Keepers.{HasKeeper, HaveKeepers}
+use Rattle.small_law.specs.Keepers.{HaveKeepers}
 use Rattle.i2c_text.specs.declared.bus.Bus.{Bus}
 use Rattle.i2c_text.specs.declared.bus.BusAsk.{BusAsk}
 use Rattle.i2c_text.specs.declared.report.BusReply.{BusReply}
@@ -27,16 +26,15 @@ use Rattle.i2c_virt.specs.declared.virtualiser.I2cVirt.{I2cVirt}
 use Rattle.i2c_virt.specs.declared.driver.BusDriver.{BusDriver}
 use Rattle.i2c_virt.specs.declared.bus_device.BusDevice.{BusDevice}
 use Rattle.i2c_virt.specs.Virtualising.{I2cVirtStandsFor, VirtRow}
-use Rattle.i2c_virt.specs.Drivers.{DriverStandsFor, DriverRow, pipes_of}
+use Rattle.i2c_virt.specs.Drivers.{DriverStandsFor, DriverRow}
 use Rattle.i2c_virt.specs.BusDevices.{BusStandsFor, BusRow}
 use Rattle.i2c_actors.specs.declared.member.Member.{Member}
-use Rattle.i2c_actors.specs.declared.member.Member.TheVariants as Members
-use Rattle.i2c_actors.specs.Members.{Made, Asks, Serves, Copies, made_of, member_means, MemberStandsFor}
+use Rattle.i2c_actors.specs.Members.{Made, Asks, made_of, member_means, MemberStandsFor}
 use Rattle.i2c_actors.specs.Casting.{StandsAt, AreMade}
 use Rattle.bus_law.specs.Plays.{IsBusTale}
 use Rattle.bus_law.proofs.Staging.{client_of, virt_of, driver_of, bus_of}
-use Rattle.bus_owners.specs.Naming.{bus_naming, shared_windows}
-use Rattle.bus_owners.specs.Keepers.{pool_size, pool_owner, keeper, client_ends, virt_ends, driver_ends, device_ends, bus_keepers}
+use Rattle.bus_owners.specs.Naming.{bus_naming}
+use Rattle.bus_owners.specs.Keepers.{pool_size, pool_owner, client_ends, virt_ends, driver_ends, device_ends, bus_keepers}
 use Rattle.bus_owners.proofs.Names.{no_names}
 use Rattle.bus_owners.proofs.Plainly.{named_plainly}
 use Rattle.bus_owners.proofs.Actors.{client_keeps, virt_keeps, driver_keeps, device_keeps}
@@ -90,11 +88,13 @@ module _ (bus : Bus) (rows : List QueueRow) (start : List Member) (made_are : Ar
     client_row c script y e st =
         let a = client_of y (2 * c) (2 * c + 1) (record { 0 = c }) script e in
         let x = a.0 in
-        let row = law.client x passed (subst (λ z. MemberStandsFor z passed) a.1 st) in
-        (x.asking.replies.shown, subst (λ s. ClientRow (record { 0 = c }) s (2 * c) (2 * c + 1) x.asking.replies.shown passed) a.5
-        (subst (λ (p : PoolId). ClientRow p x.asking.script (2 * c) (2 * c + 1) x.asking.replies.shown passed) a.4
-        (subst (λ r. ClientRow x.asking.pool x.asking.script (2 * c) r x.asking.replies.shown passed) a.3
-        (subst (λ q. ClientRow x.asking.pool x.asking.script q x.responses.queue.0 x.asking.replies.shown passed) a.2 row))))
+        let row = law.client x passed (subst (λ z. MemberStandsFor z passed) a.1 st) in (
+          x.asking.replies.shown,
+          subst (λ s. ClientRow (record { 0 = c }) s (2 * c) (2 * c + 1) x.asking.replies.shown passed) a.5
+              (subst (λ (p : PoolId). ClientRow p x.asking.script (2 * c) (2 * c + 1) x.asking.replies.shown passed) a.4
+              (subst (λ r. ClientRow x.asking.pool x.asking.script (2 * c) r x.asking.replies.shown passed) a.3
+              (subst (λ q. ClientRow x.asking.pool x.asking.script q x.responses.queue.0 x.asking.replies.shown passed) a.2 row))),
+        )
 
     client_case : (c : ℕ) → c < n → (x y : Member) → slice_get start c ≡ Some x → made_of y ≡ made_of x → MemberStandsFor y passed → KeepsAt c (client_ends c)
     client_case c lt x y at same st =

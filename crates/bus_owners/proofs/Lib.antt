@@ -6,3 +6,4 @@ pub mod Serving
 pub mod Actors
 pub mod Seating
 pub mod Keeping
+pub mod Replaying

@@ -1,8 +1,8 @@
 -- What the items of a bus name.
-use Rattle.std.proofs.Common.{◌≡◌, ◌+◌, ◌*◌, ◌-◌, ◌/◌, ◌<◌, ◌≤◌, ◌==◌, ◌&&◌, ◌⊎◌, inl, inr, ℕ, zero, suc, nat_lt, Bool, true, false, cond, Option, Some, None, List, [], ◌∷◌, refl, sym, ap, ◌∙◌, subst, arith, eq-eqb}
+use Rattle.std.proofs.Common.{◌≡◌, ◌+◌, ◌*◌, ◌-◌, ◌/◌, ◌<◌, ◌≤◌, ◌==◌, ◌&&◌, ◌⊎◌, inl, inr, ℕ, zero, suc, nat_lt, true, false, cond, Some, [], ◌∷◌, refl, sym, ap, ◌∙◌, subst, arith, eq-eqb}
 use Rattle.std.proofs.lemmas.Bool.{cases_lt, lt-ltb, le-ltb}
 use Rattle.std.proofs.lemmas.Nat.{div-mul-add, le-div}
-use Rattle.owner_law.specs.Things.{Buffer, Window, Names, NoBuffers, Buffers, Naming, number_at, begins_at, buffer_at, buffer_of}
+use Rattle.owner_law.specs.Things.{NoBuffers, Buffers, number_at, begins_at, buffer_at, buffer_of}
 use Rattle.i2c_kit.specs.Entries.{own_place, shared_place, item_at}
 use Rattle.bus_owners.specs.Naming.{own_window, shared_window, shared_windows, bus_naming}
 
@@ -37,36 +37,35 @@ no_names clients n le =
 
 -- the items of a buffer name it
 
-pub own_named : (c no : ℕ) → no < 2 → buffer_of (own_window c ∷ []) (item_at (own_place no)) ≡ Some (record { pool = c; no = no })
+pub own_named : (c num : ℕ) → num < 2 → buffer_of (own_window c ∷ []) (item_at (own_place num)) ≡ Some (record { pool = c; no = num })
 own_named c zero lt = refl
 own_named c (suc zero) lt = refl
-own_named c (suc (suc no)) lt = absurd (omega (arith, lt))
+own_named c (suc (suc num)) lt = absurd (omega (arith, lt))
 
 -- the number of a buffer in its own window, and in one before it
-here_number : (c no : ℕ) → no < 2 → number_at (shared_window c) (128 * c + 64 * no) ≡ no
-here_number c no lt =
-    let e : 128 * c + 64 * no - 128 * c ≡ no * 64 + 0 = omega arith in
-    ap (λ n. n / 64) e ∙ div-mul-add no 64 0 (omega arith)
+here_number : (c num : ℕ) → num < 2 → number_at (shared_window c) (128 * c + 64 * num) ≡ num
+here_number c num lt =
+    let e : 128 * c + 64 * num - 128 * c ≡ num * 64 + 0 = omega arith in
+    ap (λ n. n / 64) e ∙ div-mul-add num 64 0 (omega arith)
 
-here_begins : (c no : ℕ) → no < 2 → begins_at (shared_window c) (128 * c + 64 * no) ≡ true
-here_begins c no lt = rw (here_number c no lt, lt-ltb no 2 lt) (eq-eqb (128 * c + no * 64) (128 * c + 64 * no) (omega arith))
+here_begins : (c num : ℕ) → num < 2 → begins_at (shared_window c) (128 * c + 64 * num) ≡ true
+here_begins c num lt = rw (here_number c num lt, lt-ltb num 2 lt) (eq-eqb (128 * c + num * 64) (128 * c + 64 * num) (omega arith))
 
-before_number : (f c no : ℕ) → f < c → 2 ≤ number_at (shared_window f) (128 * c + 64 * no)
-before_number f c no lt = le-div 2 (128 * c + 64 * no - 128 * f) 64 (omega arith) (omega (arith, lt))
+before_number : (f c num : ℕ) → f < c → 2 ≤ number_at (shared_window f) (128 * c + 64 * num)
+before_number f c num lt = le-div 2 (128 * c + 64 * num - 128 * f) 64 (omega arith) (omega (arith, lt))
 
-before_begins : (f c no : ℕ) → f < c → begins_at (shared_window f) (128 * c + 64 * no) ≡ false
-before_begins f c no lt = ap (λ b. b && (128 * f + number_at (shared_window f) (128 * c + 64 * no) * 64 == 128 * c + 64 * no)) (le-ltb (number_at (shared_window f) (128 * c + 64 * no)) 2 (before_number f c no lt))
+before_begins : (f c num : ℕ) → f < c → begins_at (shared_window f) (128 * c + 64 * num) ≡ false
+before_begins f c num lt = ap (λ b. b && (128 * f + number_at (shared_window f) (128 * c + 64 * num) * 64 == 128 * c + 64 * num)) (le-ltb (number_at (shared_window f) (128 * c + 64 * num)) 2 (before_number f c num lt))
 
-window_named : (first count c no : ℕ) → first ≤ c → c < first + count → no < 2 → buffer_at (shared_windows first count) (128 * c + 64 * no) ≡ Some (record { pool = c; no = no })
-window_named first zero c no le lt few = absurd (omega (arith, le, lt))
-window_named first (suc n) c no le lt few = by (cases_lt first c)
-  where
-    here : first ≡ c → buffer_at (shared_windows first (suc n)) (128 * c + 64 * no) ≡ Some (record { pool = c; no = no })
-    here e = subst (λ f. buffer_at (shared_windows f (suc n)) (128 * c + 64 * no) ≡ Some (record { pool = c; no = no })) (sym e) (rw (here_begins c no few, here_number c no few) refl)
+window_step : (first n c num : ℕ) → first ≤ c → num < 2 → (first < c → buffer_at (shared_windows (first + 1) n) (128 * c + 64 * num) ≡ Some (record { pool = c; no = num })) → (first < c) ⊎ (c ≤ first) → buffer_at (shared_windows first (suc n)) (128 * c + 64 * num) ≡ Some (record { pool = c; no = num })
+window_step first n c num le few rest (inl before) = ap (λ b. cond b (Some (record { pool = first; no = number_at (shared_window first) (128 * c + 64 * num) })) (buffer_at (shared_windows (first + 1) n) (128 * c + 64 * num))) (before_begins first c num before) ∙ rest before
+window_step first n c num le few rest (inr past) =
+    let e : first ≡ c = omega (arith, past, le) in
+    subst (λ f. buffer_at (shared_windows f (suc n)) (128 * c + 64 * num) ≡ Some (record { pool = c; no = num })) (sym e) (rw (here_begins c num few, here_number c num few) refl)
 
-    by : (first < c) ⊎ (c ≤ first) → buffer_at (shared_windows first (suc n)) (128 * c + 64 * no) ≡ Some (record { pool = c; no = no })
-    by (inl before) = ap (λ b. cond b (Some (record { pool = first; no = number_at (shared_window first) (128 * c + 64 * no) })) (buffer_at (shared_windows (first + 1) n) (128 * c + 64 * no))) (before_begins first c no before) ∙ window_named (first + 1) n c no (omega (arith, before)) (omega (arith, lt)) few
-    by (inr not) = here (omega (arith, not, le))
+window_named : (first count c num : ℕ) → first ≤ c → c < first + count → num < 2 → buffer_at (shared_windows first count) (128 * c + 64 * num) ≡ Some (record { pool = c; no = num })
+window_named first zero c num le lt few = absurd (omega (arith, le, lt))
+window_named first (suc n) c num le lt few = window_step first n c num le few (λ before. window_named (first + 1) n c num (omega (arith, before)) (omega (arith, lt)) few) (cases_lt first c)
 
-pub shared_named : (clients c no : ℕ) → c < clients → no < 2 → buffer_of (shared_windows 0 clients) (item_at (shared_place (record { 0 = c }) no)) ≡ Some (record { pool = c; no = no })
-shared_named clients c no lt few = window_named 0 clients c no (omega arith) (omega (arith, lt)) few
+pub shared_named : (clients c num : ℕ) → c < clients → num < 2 → buffer_of (shared_windows 0 clients) (item_at (shared_place (record { 0 = c }) num)) ≡ Some (record { pool = c; no = num })
+shared_named clients c num lt few = window_named 0 clients c num (omega arith) (omega (arith, lt)) few

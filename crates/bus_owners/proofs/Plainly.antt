@@ -1,6 +1,6 @@
 -- What passes at the ends of an actor of a bus, counted by the buffers that its items name.
-use Rattle.std.proofs.Common.{◌≡◌, ◌+◌, ◌*◌, ◌/◌, ◌<◌, ◌≤◌, ◌⊎◌, inl, inr, ℕ, nat_lt, Bool, true, false, cond, List, [], ◌∷◌, ◌++◌, sum_by, flat_map, slice_get, Some, refl, sym, ap, ◌∙◌, subst, arith}
-use Rattle.std.proofs.lemmas.List.Sums.{sum_by-cons, sum_by-append}
+use Rattle.std.proofs.Common.{◌≡◌, ◌+◌, ◌*◌, ◌/◌, ◌≤◌, ◌⊎◌, inl, inr, ℕ, nat_lt, Bool, true, false, cond, List, [], ◌∷◌, sum_by, refl, sym, ap, ◌∙◌, subst, arith}
+use Rattle.std.proofs.lemmas.List.Sums.{sum_by-cons}
 use Rattle.cargo_core.specs.declared.item.Item.{Item}
 use Rattle.wire_core.specs.Lists.{Passed}
 use Rattle.wire_core.specs.Ends.{Role, Consumer, Producer}
@@ -8,7 +8,7 @@ use Rattle.wire_core.specs.Queues.{items_of}
 use Rattle.play_core.specs.Moved.{Moved, Seat}
 use Rattle.play_core.specs.Wants.{intake, outlet}
 use Rattle.play_core.specs.Rests.Showing.{HaveItems}
-use Rattle.owner_law.specs.Things.{Buffer, Window, Names, NoBuffers, Buffers, Naming, Thing, Nothing, Whole, things_from, things_sent, things_taken, requests_of, names_in, times, as_buffer, as_lease, lends, brings_leases}
+use Rattle.owner_law.specs.Things.{Buffer, Window, Names, NoBuffers, Buffers, Naming, Thing, Nothing, Whole, things_from, things_sent, things_taken, requests_of, names_in, times, as_buffer, as_lease, lends}
 use Rattle.owner_law.specs.Keeping.{Keeps, at_start, by_role, things_in, things_out, all_taken, all_put}
 use Rattle.owner_law.proofs.Sums.{sum_flat, sum_none}
 use Rattle.owner_law.proofs.Counting.{nothing_sum}

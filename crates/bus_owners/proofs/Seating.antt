@@ -1,12 +1,12 @@
 -- The ends of the actors of a bus are those that its rows give them, each once.
-use Rattle.std.proofs.Common.{◌≡◌, ◌+◌, ◌*◌, ◌<◌, ◌≤◌, ◌++◌, ◌⊎◌, inl, inr, ℕ, zero, suc, Some, List, [], ◌∷◌, length, length-append, slice_get, refl, sym, ap, ◌∙◌, subst, arith}
+use Rattle.std.proofs.Common.{◌≡◌, ◌+◌, ◌*◌, ◌<◌, ◌≤◌, ◌⊎◌, inl, inr, ℕ, zero, suc, Some, List, length, length-append, slice_get, refl, sym, ap, ◌∙◌, subst, arith}
 use Rattle.std.proofs.lemmas.Bool.{cases_lt}
 use Rattle.wire_core.specs.declared.names.QueueRow.{QueueRow}
 use Rattle.wire_core.specs.Ends.{Role, Consumer, Producer}
 use Rattle.play_core.specs.Moved.{Seat}
 use Rattle.play_core.specs.Sheets.{AreApart, IsSeat}
 use Rattle.play_core.specs.Wants.{intake, outlet}
-use Rattle.play_core.proofs.Lists.{some_is, there_is, there_below}
+use Rattle.play_core.proofs.Lists.{some_is, there_below}
 use Rattle.owner_law.specs.Keeping.{Keeper}
 use Rattle.i2c_actors.specs.Queues.{AreQueues}
 use Rattle.i2c_actors.proofs.Places.{get_split, Which, Request, Reply, ToDriver, FromDriver, ToBus, FromBus, which, holder, seat, row_held}
@@ -71,21 +71,21 @@ served_at first (suc n) (suc (suc i)) s at =
     record { client = r.client; from = omega (arith, f); to = omega (arith, t); place = omega (arith, p); is = r.is }
 
 -- and the other way
+intake_step : (first n c : ℕ) → first ≤ c → (first < c → (i : ℕ) × (slice_get (served_ends (first + 1) n) i ≡ Some (intake (2 * c)))) → (first < c) ⊎ (c ≤ first) → (i : ℕ) × (slice_get (served_ends first (suc n)) i ≡ Some (intake (2 * c)))
+intake_step first n c le rest (inl before) = let r = rest before in (suc (suc r.0), r.1)
+intake_step first n c le rest (inr past) = let e : first ≡ c = omega (arith, past, le) in (0, ap (λ f. Some (intake (2 * f))) e)
+
 served_intake : (first count c : ℕ) → first ≤ c → c < first + count → (i : ℕ) × (slice_get (served_ends first count) i ≡ Some (intake (2 * c)))
 served_intake first zero c le lt = absurd (omega (arith, le, lt))
-served_intake first (suc n) c le lt = by (cases_lt first c)
-  where
-    by : (first < c) ⊎ (c ≤ first) → (i : ℕ) × (slice_get (served_ends first (suc n)) i ≡ Some (intake (2 * c)))
-    by (inl before) = let r = served_intake (first + 1) n c (omega (arith, before)) (omega (arith, lt)) in (suc (suc r.0), r.1)
-    by (inr past) = let e : first ≡ c = omega (arith, past, le) in (0, ap (λ f. Some (intake (2 * f))) e)
+served_intake first (suc n) c le lt = intake_step first n c le (λ before. served_intake (first + 1) n c (omega (arith, before)) (omega (arith, lt))) (cases_lt first c)
+
+outlet_step : (first n c : ℕ) → first ≤ c → (first < c → (i : ℕ) × (slice_get (served_ends (first + 1) n) i ≡ Some (outlet (2 * c + 1)))) → (first < c) ⊎ (c ≤ first) → (i : ℕ) × (slice_get (served_ends first (suc n)) i ≡ Some (outlet (2 * c + 1)))
+outlet_step first n c le rest (inl before) = let r = rest before in (suc (suc r.0), r.1)
+outlet_step first n c le rest (inr past) = let e : first ≡ c = omega (arith, past, le) in (1, ap (λ f. Some (outlet (2 * f + 1))) e)
 
 served_outlet : (first count c : ℕ) → first ≤ c → c < first + count → (i : ℕ) × (slice_get (served_ends first count) i ≡ Some (outlet (2 * c + 1)))
 served_outlet first zero c le lt = absurd (omega (arith, le, lt))
-served_outlet first (suc n) c le lt = by (cases_lt first c)
-  where
-    by : (first < c) ⊎ (c ≤ first) → (i : ℕ) × (slice_get (served_ends first (suc n)) i ≡ Some (outlet (2 * c + 1)))
-    by (inl before) = let r = served_outlet (first + 1) n c (omega (arith, before)) (omega (arith, lt)) in (suc (suc r.0), r.1)
-    by (inr past) = let e : first ≡ c = omega (arith, past, le) in (1, ap (λ f. Some (outlet (2 * f + 1))) e)
+served_outlet first (suc n) c le lt = outlet_step first n c le (λ before. served_outlet (first + 1) n c (omega (arith, before)) (omega (arith, lt))) (cases_lt first c)
 
 -- two ends of one queue and one role are one
 role_apart : (n m : ℕ) → intake n ≡ outlet m → ⊥
@@ -235,8 +235,11 @@ module _ (n : ℕ) (rows : List QueueRow) (are : AreQueues n rows) where
   is_device i s a p (Device k_is e) = (i, ap (λ (x : Keeper). slice_get x.ends i) (sym e) ∙ a)
 
   -- the end of a queue and a role
-  at_queue : (q m : ℕ) (r : Role) → q ≡ m → Some (record { queue = m; role = r }) ≡ Some (record { queue = q; role = r })
-  at_queue q m r e = ap (λ (x : ℕ). Some (record { queue = x; role = r })) (sym e)
+  abbrev end_of : ℕ → Role → Seat
+  end_of q r = record { queue = q; role = r }
+
+  at_queue : (q k : ℕ) (r : Role) → q ≡ k → Some (end_of k r) ≡ Some (end_of q r)
+  at_queue q k r e = ap (λ (x : ℕ). Some (end_of x r)) (sym e)
 
   held_end : (q : ℕ) (w : Which n q) (r : Role) → HasEnd (holder n q w r) (record { queue = q; role = r })
   held_end q (Request c lt e) Consumer = let i = served_intake 0 n c (omega arith) (omega (arith, lt)) in is_virt (suc (suc i.0)) _ (i.1 ∙ at_queue q (2 * c) Consumer e)

@@ -1,16 +1,13 @@
 -- The virtualiser puts no buffer more often than it took it: each request that it took goes to the
 -- driver once and comes back, or is answered, and then goes to its client once.
-use Rattle.std.proofs.Common.{◌≡◌, ◌+◌, ◌*◌, ◌<◌, ◌≤◌, ◌==◌, ◌&&◌, ◌++◌, ◌⊎◌, inl, inr, ℕ, zero, suc, nat_lt, Bool, true, false, cond, Option, Some, None, List, [], ◌∷◌, All, length, map, sum_by, slice_get, refl, sym, ap, ◌∙◌, subst, arith, eq-eqb, ne_eqb}
-use Rattle.std.specs.List.{filter}
+use Rattle.std.proofs.Common.{◌≡◌, ◌+◌, ◌<◌, ◌≤◌, ◌==◌, ◌&&◌, ◌++◌, ℕ, zero, suc, Bool, true, false, cond, Option, Some, None, List, [], ◌∷◌, All, map, slice_get, refl, sym, ap, ◌∙◌, subst, arith, eq-eqb, ne_eqb}
 use Rattle.std.specs.Option.{option_and_then}
-use Rattle.std.proofs.lemmas.Bool.{eqb-true, eqb-false, cases_lt}
+use Rattle.std.proofs.lemmas.Bool.{eqb-true}
 use Rattle.std.proofs.lemmas.List.Elements.{All-head, All-tail}
-use Rattle.std.proofs.lemmas.List.Sums.{sum_by-cons}
 use Rattle.cargo_core.specs.Lists.{IsPrefix}
 use Rattle.cargo_core.specs.Pages.{Paged}
 use Rattle.cargo_core.specs.declared.item.Item.{Item}
 use Rattle.cargo_core.specs.declared.item.Item.TheVariants as ItemOf
-use Rattle.cargo_core.specs.declared.item.Body.TheVariants as Bodies
 use Rattle.wire_core.specs.Bells.{bit}
 use Rattle.wire_core.specs.Deeds.{Cargo}
 use Rattle.wire_core.specs.Queues.{items_of}
@@ -22,8 +19,8 @@ use Rattle.i2c_kit.specs.declared.alone.Request.{Request}
 use Rattle.i2c_kit.specs.Entries.{own_place, shared_place, item_at}
 use Rattle.i2c_law.proofs.Meeting.{in_filter}
 use Rattle.i2c_virt.specs.Owners.{verdict}
-use Rattle.i2c_virt.specs.Desks.{Judged, IsPassedOn, AreGiven, forwarded, own_entry, shared_entry, own_answer}
-use Rattle.i2c_virt.specs.Works.{Took, IsTook, IsSomeones, judged_from, judged_of, entries_of, is_of, of_client}
+use Rattle.i2c_virt.specs.Desks.{Judged, IsPassedOn, AreGiven, forwarded, own_entry, shared_entry}
+use Rattle.i2c_virt.specs.Works.{Took, IsTook, IsSomeones, judged_from, judged_of, is_of, of_client}
 use Rattle.bus_owners.specs.Naming.{own_window, shared_windows}
 use Rattle.bus_owners.proofs.Names.{own_named, shared_named}
 use Rattle.bus_owners.proofs.Clients.{times_more}
@@ -38,13 +35,13 @@ AllBuffers k [] = Unit {0}
 AllBuffers k (j ∷ js) = IsBufferOf k j.0 × AllBuffers k js
 
 -- the requests of client k are in its buffers
+judged_one : (n k : ℕ) (t : Took) (v : Option BusStatus) (rest : List Judged) → IsTook n t → AllBuffers k rest → (s : Bool) → (t.request.client == k) ≡ s → AllBuffers k ((cond s ((t.page, v) ∷ []) []) ++ rest)
+judged_one n k t v rest h all true is = (record { own = h.own ∙ eqb-true t.request.client k is; within = h.within }, all)
+judged_one n k t v rest h all false is = all
+
 pub judged_all : (n k : ℕ) (before : List Request) (log : List Took) → All (IsTook n) log → AllBuffers k (judged_from k before log)
 judged_all n k before [] took = tt
-judged_all n k before (t ∷ more) took = by (t.request.client == k) refl
-  where
-    by : (s : Bool) → (t.request.client == k) ≡ s → AllBuffers k ((cond s ((t.page, verdict before t.request) ∷ []) []) ++ judged_from k (before ++ t.request ∷ []) more)
-    by true is = let h = All-head (IsTook n) t more took in (record { own = h.own ∙ eqb-true t.request.client k is; within = h.within }, judged_all n k (before ++ t.request ∷ []) more (All-tail (IsTook n) t more took))
-    by false is = judged_all n k (before ++ t.request ∷ []) more (All-tail (IsTook n) t more took)
+judged_all n k before (t ∷ more) took = judged_one n k t (verdict before t.request) (judged_from k (before ++ t.request ∷ []) more) (All-head (IsTook n) t more took) (judged_all n k (before ++ t.request ∷ []) more (All-tail (IsTook n) t more took)) (t.request.client == k) refl
 
 -- what goes to the driver of them is in its buffers too
 pub forwarded_at : (k : ℕ) (js : List Judged) → AllBuffers k js → (i : ℕ) (x : Cargo) → slice_get (forwarded js) i ≡ Some x → (p : Paged) × (x ≡ shared_entry p) × IsBufferOf k p
@@ -68,8 +65,8 @@ module _ (n : ℕ) (b : Buffer) where
   own_times k xs = times b (names_in (own k) (items_of xs))
 
   -- one where it is this buffer of client k
-  abbrev pub mine : (k no : ℕ) → ℕ
-  mine k no = bit (is_same (record { pool = k; no = no }) b)
+  abbrev pub mine : (k num : ℕ) → ℕ
+  mine k num = bit (is_same (record { pool = k; no = num }) b)
 
   shared_more : (x : Cargo) (xs : List Cargo) → shared_times (x ∷ xs) ≡ is_named b (buffer_of shared x.0) + shared_times xs
   shared_more x xs = times_more b (buffer_of shared x.0) (names_in shared (items_of xs))
@@ -141,8 +138,8 @@ module _ (n : ℕ) (b : Buffer) where
       omega (arith, h, m, w, o, e)
 
   -- a client's own queues name no other client's buffers
-  not_mine : (k no : ℕ) → (k ≡ b.pool → ⊥) → mine k no ≡ 0
-  not_mine k no off = ap (λ t. bit (t && (no == b.no))) (ne_eqb k b.pool off)
+  not_mine : (k num : ℕ) → (k ≡ b.pool → ⊥) → mine k num ≡ 0
+  not_mine k num off = ap (λ t. bit (t && (num == b.no))) (ne_eqb k b.pool off)
 
   outside : (k : ℕ) → (k ≡ b.pool → ⊥) → (item : Item) → is_named b (buffer_of (own k) item) ≡ 0
   outside k off (ItemOf.Net d) = by (begins_at (own_window k) d.addr)
@@ -167,13 +164,13 @@ module _ (n : ℕ) (b : Buffer) where
   others_none k off (x ∷ xs) = let h = others_none k off xs in let m = own_more k x xs in let o = outside k off x.0 in omega (arith, h, m, o)
 
   -- what is of one client among more
+  fewer_one : (k : ℕ) (x : Cargo) (xs : List Cargo) → shared_times (of_client k xs) ≤ shared_times xs → (s : Bool) → shared_times (cond s (x ∷ of_client k xs) (of_client k xs)) ≤ shared_times (x ∷ xs)
+  fewer_one k x xs h true = let m = shared_more x xs in let w = shared_more x (of_client k xs) in omega (arith, h, m, w)
+  fewer_one k x xs h false = let m = shared_more x xs in omega (arith, h, m)
+
   pub fewer_times : (k : ℕ) (xs : List Cargo) → shared_times (of_client k xs) ≤ shared_times xs
   fewer_times k [] = omega arith
-  fewer_times k (x ∷ xs) = by (is_of k x) refl
-    where
-      by : (s : Bool) → is_of k x ≡ s → shared_times (cond s (x ∷ of_client k xs) (of_client k xs)) ≤ shared_times (x ∷ xs)
-      by true is = let h = fewer_times k xs in let m = shared_more x xs in let w = shared_more x (of_client k xs) in omega (arith, h, m, w)
-      by false is = let h = fewer_times k xs in let m = shared_more x xs in omega (arith, h, m)
+  fewer_times k (x ∷ xs) = fewer_one k x xs (fewer_times k xs) (is_of k x)
 
   -- an entry on its way to the driver
   pub record IsSent (x : Cargo) : Type 0 where
@@ -189,24 +186,17 @@ module _ (n : ℕ) (b : Buffer) where
   sent_of : (x : Cargo) (s : IsSent x) (k : ℕ) → is_of k x ≡ (s.client == k)
   sent_of x s k = ap (is_of k) s.is ∙ ap (λ m. m == k) s.buffer.own
 
+  sent_one : (x : Cargo) (xs : List Cargo) → IsSent x → shared_times xs ≤ shared_times (of_client b.pool xs) → (t : Bool) → is_of b.pool x ≡ t → shared_times (x ∷ xs) ≤ shared_times (cond t (x ∷ of_client b.pool xs) (of_client b.pool xs))
+  sent_one x xs s h true is = let m = shared_more x xs in let w = shared_more x (of_client b.pool xs) in omega (arith, h, m, w)
+  sent_one x xs s h false is =
+      let off : s.client ≡ b.pool → ⊥ = λ e. (let wrong : false ≡ true = sym (sym (sent_of x s b.pool) ∙ is) ∙ eq-eqb s.client b.pool e in cc) in
+      let z : is_named b (buffer_of shared x.0) ≡ 0 = sent_name x s ∙ not_mine s.client s.page.no off in
+      let m = shared_more x xs in
+      omega (arith, h, m, z)
+
   pub sent_times : (xs : List Cargo) → ((i : ℕ) (x : Cargo) → slice_get xs i ≡ Some x → IsSent x) → shared_times xs ≤ shared_times (of_client b.pool xs)
   sent_times [] all = omega arith
-  sent_times (x ∷ xs) all = by (is_of b.pool x) refl
-    where
-      s : IsSent x
-      s = all 0 x refl
-
-      rest : shared_times xs ≤ shared_times (of_client b.pool xs)
-      rest = sent_times xs (λ i y at. all (suc i) y at)
-
-      by : (t : Bool) → is_of b.pool x ≡ t → shared_times (x ∷ xs) ≤ shared_times (cond t (x ∷ of_client b.pool xs) (of_client b.pool xs))
-      by true is = let h = rest in let m = shared_more x xs in let w = shared_more x (of_client b.pool xs) in omega (arith, h, m, w)
-      by false is =
-          let off : s.client ≡ b.pool → ⊥ = λ e. (let no : false ≡ true = sym (sym (sent_of x s b.pool) ∙ is) ∙ eq-eqb s.client b.pool e in cc) in
-          let z : is_named b (buffer_of shared x.0) ≡ 0 = sent_name x s ∙ not_mine s.client s.page.no off in
-          let h = rest in
-          let m = shared_more x xs in
-          omega (arith, h, m, z)
+  sent_times (x ∷ xs) all = sent_one x xs (all 0 x refl) (sent_times xs (λ i y at. all (suc i) y at)) (is_of b.pool x) refl
 
   pub sent_none : (xs : List Cargo) → ((i : ℕ) (x : Cargo) → slice_get xs i ≡ Some x → IsSent x) → n ≤ b.pool → shared_times xs ≡ 0
   sent_none [] all le = refl

@@ -1,6 +1,6 @@
 -- What the items of a bus's queues name: the buffers of its clients.
 use Rattle.std.specs.Prelude.{◌+◌, ◌*◌, ◌/◌, ℕ, zero, suc, nat_lt, if◌then◌else◌, List, [], ◌∷◌}
-use Rattle.owner_law.specs.Things.{Window, Names, NoBuffers, Buffers, Naming}
+use Rattle.owner_law.specs.Things.{Window, NoBuffers, Buffers, Naming}
 use Rattle.i2c_kit.specs.declared.page.TheConstants.{BUFFER_BYTES, BUFFERS}
 
 -- the buffers of a client by the addresses on its own queues

@@ -1,5 +1,6 @@
 //! The owners of the buffers of a bus at play: each buffer has one owner at each moment, and the
-//! table of owners after a journal is the one that the journal's moves make of the start.
+//! table of owners after a journal is the one that the journal's moves make of the start. What a
+//! report tells of the clients' pools is a replay of the journal.
 #![tactic(auto)]
 
 ghost use Rattle.std.specs.Prelude.{◌≡◌, ◌<◌, ℕ, List};
@@ -17,10 +18,13 @@ ghost use Rattle.bus_law.specs.Plays.{IsBusTale};
 ghost use Rattle.bus_owners.specs.Naming.{bus_naming};
 ghost use Rattle.bus_owners.specs.Keepers.{bus_keepers, pool_size};
 
+mod pools;
+
 use i2c_actors::Member;
 use i2c_client::client_law;
 use i2c_virt::{bus_law, driver_law, virt_law};
 use owner_law::pools::spread_law;
+pub use pools::bus_pools;
 use small_law::keeper_law;
 
 /// At each moment of a play each move so far found its buffer in the place that it leaves, where at

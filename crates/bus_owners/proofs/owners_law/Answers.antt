@@ -1,15 +1,8 @@
-use Rattle.std.proofs.Common.{◌<◌, ◌+◌, ℕ, List, sym, subst, arith}
-use Rattle.wire_core.specs.declared.names.QueueRow.{QueueRow}
-use Rattle.small_system.specs.Tales.{Turn}
-use Rattle.small_law.specs.Keepers.{HaveKeepers}
-use Rattle.i2c_text.specs.declared.bus.Bus.{Bus}
-use Rattle.i2c_actors.specs.declared.member.Member.{Member}
-use Rattle.i2c_actors.specs.Members.{member_means}
-use Rattle.bus_law.specs.Plays.{IsBusTale}
+use Rattle.std.proofs.Common.{arith}
 use Rattle.bus_owners.specs.Naming.{bus_naming}
 use Rattle.bus_owners.specs.Keepers.{pool_size, pool_owner, bus_keepers}
 use Rattle.bus_owners.proofs.Seating.{keepers_many}
-use Rattle.bus_owners.proofs.Keeping.{Rows, are_spread, have_keepers}
+use Rattle.bus_owners.proofs.Keeping.{are_spread, have_keepers}
 use Rattle.bus_owners.proofs.owners_law.Goals as goal
 
 pub returns-clause-owners : goal.returns-clause-owners
