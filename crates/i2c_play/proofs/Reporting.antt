@@ -6,6 +6,13 @@ use Rattle.wire_core.specs.declared.names.QueueRow.{QueueRow}
 use Rattle.wire_core.specs.declared.names.Entry.{Entry}
 use Rattle.wire_core.specs.Picks.{PickedFrom}
 use Rattle.play_core.proofs.Lists.{some_is}
+use Rattle.wire_core.specs.Journal.{start_history, EachMoment}
+use Rattle.owner_law.specs.Owners.{OneOwner}
+use Rattle.owner_law.specs.Keeping.{start_table}
+use Rattle.owner_law.specs.Census.{IsPool}
+use Rattle.bus_owners.specs.Naming.{bus_naming}
+use Rattle.bus_owners.specs.Keepers.{bus_keepers, pool_size}
+use Rattle.bus_owners.specs.Pools.{table_after, pool_lines}
 use Rattle.small_system.specs.Tales.{Moment, Turn, start_of, IsTale, after_tale, journal_of, entry_of, running_in, PickedBy}
 use Rattle.small_system.specs.Shows.{Shown, Played, IsQuiet, IsSpent}
 use Rattle.small_system.specs.Standing.{Begins, IsLawful}
@@ -21,7 +28,7 @@ use Rattle.bus_law.specs.Plays.{IsBusTale}
 use Rattle.bus_law.specs.Takes.{granted_replies}
 use Rattle.bus_law.specs.Bounds.{bus_bound}
 use Rattle.i2c_play.specs.Plays.{IsSetUp, IsReportOf, recorded, all_recorded}
-use Rattle.i2c_play.specs.Playing.{runnable_after, IsQuietAfter, AreItsTurns, TellsReplies, BusPlayed}
+use Rattle.i2c_play.specs.Playing.{runnable_after, IsQuietAfter, AreItsTurns, TellsReplies, TellsOwners, BusPlayed}
 
 -- the first of a list, mapped
 first_many : {X Y : Type 0} (f : X → Y) (n : ℕ) (xs : List X) → n ≤ length xs → length (map f (take n xs)) ≡ n
@@ -121,6 +128,14 @@ module _ (bus : Bus) (seed limit : ℕ) (old new : Shown Member) (report : BusRe
       lawful = subst (IsLawful rows) (sym journal_is) law_lawful;
     }
 
+  module _ (law_owners : EachMoment (OneOwner (bus_naming bus.clients) (start_history rows) (start_table (bus_keepers bus.clients))) (journal_of turns)) (law_pools : (clients pool : ℕ) → pool < clients → IsPool (start_table (bus_keepers clients)) pool (pool_size clients pool)) where
+    pub tells_owners : TellsOwners bus rows report
+    tells_owners = record {
+      one_owner = subst (EachMoment (OneOwner (bus_naming bus.clients) (start_history rows) (start_table (bus_keepers bus.clients)))) (sym journal_is) law_owners;
+      placed = λ client lt. law_pools bus.clients client lt;
+      pools = told.pools ∙ (ap (λ r. pool_lines bus.clients (table_after bus.clients r new.journal)) played.rows ∙ ap (λ j. pool_lines bus.clients (table_after bus.clients rows j)) (sym told.journal));
+    }
+
   module _ (law_steps : length (journal_of turns) < bus_bound bus) (law_runs : running_in member_means last ≡ runnable_after bus rows (journal_of turns)) (law_quiet : running_in member_means last ≡ [] → IsQuietAfter bus rows (journal_of turns)) where
     quiet_after : report.quiet ≡ true → IsQuietAfter bus rows report.journal
     quiet_after h = subst (IsQuietAfter bus rows) (sym journal_is) (law_quiet (ap (running_in member_means) (sym last_is) ∙ still h))
@@ -135,8 +150,8 @@ module _ (bus : Bus) (seed limit : ℕ) (old new : Shown Member) (report : BusRe
         by true h = refl
         by false h = absurd (too_many report.steps (bus_bound bus) limit (subst (λ n. n < bus_bound bus) (sym (steps_are ∙ ap length journal_is)) law_steps) le (all_steps h))
 
-    pub is_played : AreItsTurns bus seed rows report.journal → TellsReplies bus report → BusPlayed bus seed limit report
-    is_played its replies = record {
+    pub is_played : AreItsTurns bus seed rows report.journal → TellsReplies bus report → TellsOwners bus rows report → BusPlayed bus seed limit report
+    is_played its replies owners = record {
       rows = rows;
       its_turns = its;
       counted = steps_are;
@@ -146,4 +161,5 @@ module _ (bus : Bus) (seed limit : ℕ) (old new : Shown Member) (report : BusRe
       spent = all_steps;
       enough = enough;
       replies = replies;
+      owners = owners;
     }

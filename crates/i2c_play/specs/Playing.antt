@@ -1,11 +1,14 @@
 -- What the play of a bus promises of its report.
-use Rattle.std.specs.Prelude.{◌≡◌, ◌≤◌, ◌+◌, ℕ, true, false, Some, List, [], length, slice_get}
+use Rattle.std.specs.Prelude.{◌≡◌, ◌≤◌, ◌<◌, ◌+◌, ℕ, true, false, Some, List, [], length, slice_get}
 use Rattle.cargo_core.specs.Lists.{IsPrefix}
 use Rattle.wire_core.specs.declared.names.QueueRow.{QueueRow}
 use Rattle.wire_core.specs.declared.names.Entry.{Entry}
-use Rattle.wire_core.specs.Journal.{start_history}
+use Rattle.wire_core.specs.Journal.{start_history, EachMoment}
 use Rattle.wire_core.specs.Picks.{PickedFrom}
 use Rattle.play_core.specs.Still.{IsQuiet}
+use Rattle.owner_law.specs.Owners.{OneOwner}
+use Rattle.owner_law.specs.Keeping.{start_table}
+use Rattle.owner_law.specs.Census.{IsPool}
 use Rattle.small_system.specs.Tales.{Turn, journal_of}
 use Rattle.small_system.specs.Standing.{IsLawful}
 use Rattle.small_system.specs.Wants.{runs_by, wanted_by, calm}
@@ -16,6 +19,9 @@ use Rattle.i2c_actors.specs.declared.member.Member.{Member}
 use Rattle.bus_law.specs.Plays.{IsBusTale}
 use Rattle.bus_law.specs.Takes.{granted_replies}
 use Rattle.bus_law.specs.Wants.{bus_wants}
+use Rattle.bus_owners.specs.Naming.{bus_naming}
+use Rattle.bus_owners.specs.Keepers.{bus_keepers, pool_size}
+use Rattle.bus_owners.specs.Pools.{table_after, pool_lines}
 use Rattle.i2c_play.specs.Bounds.{bus_bound}
 
 -- the actors that are runnable after a journal, by what the actors of the bus want of their ends
@@ -51,6 +57,16 @@ pub record TellsReplies (bus : Bus) (report : BusReport) : Type 0 where
       → slice_get report.replies client ≡ Some replies
       → replies ≡ granted_replies bus report.journal client
 
+-- each buffer of the clients has one owner: at each moment each move so far found its buffer in the
+-- place that it leaves, where at the start each client has its own two buffers; and the lines of
+-- the pools are those of the table of owners after the journal
+pub record TellsOwners (bus : Bus) (rows : List QueueRow) (report : BusReport) : Type 0 where
+  pub one_owner : EachMoment (OneOwner (bus_naming bus.clients) (start_history rows)
+      (start_table (bus_keepers bus.clients))) report.journal
+  pub placed : (client : ℕ) → client < bus.clients
+      → IsPool (start_table (bus_keepers bus.clients)) client (pool_size bus.clients client)
+  pub pools : report.pools ≡ pool_lines bus.clients (table_after bus.clients rows report.journal)
+
 -- a bus was played with a seed and a limit of steps, and reported so
 pub record BusPlayed (bus : Bus) (seed limit : ℕ) (report : BusReport) : Type 0 where
   pub rows : List QueueRow
@@ -65,3 +81,4 @@ pub record BusPlayed (bus : Bus) (seed limit : ℕ) (report : BusReport) : Type 
   -- it is quiet where it may make as many steps as are enough
   pub enough : bus_bound bus ≤ limit → report.quiet ≡ true
   pub replies : TellsReplies bus report
+  pub owners : TellsOwners bus rows report

@@ -12,6 +12,7 @@ use Rattle.i2c_actors.specs.declared.member.Member.TheVariants as Members
 use Rattle.i2c_actors.specs.Members.{member_means}
 use Rattle.i2c_actors.specs.Queues.{AreQueues}
 use Rattle.i2c_actors.specs.Casting.{AreMade}
+use Rattle.bus_owners.specs.Pools.{table_after, pool_lines}
 
 -- the actors of a bus are at its queues, before the first step
 pub record IsSetUp (bus : Bus) (s : Shown Member) : Type 0 where
@@ -36,3 +37,4 @@ pub record IsReportOf (bus : Bus) (s : Shown Member) (report : BusReport) : Type
   pub journal : report.journal ≡ s.journal
   pub counted : report.steps ≡ length s.journal
   pub replies : report.replies ≡ all_recorded bus.clients s.moment.actors
+  pub pools : report.pools ≡ pool_lines bus.clients (table_after bus.clients s.rows s.journal)

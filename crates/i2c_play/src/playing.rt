@@ -1,6 +1,6 @@
 //! The play of a bus.
 
-ghost use Rattle.std.specs.Prelude.{◌≡◌, ◌≤◌, ℕ, true, false, IfOk, length, map};
+ghost use Rattle.std.specs.Prelude.{◌≡◌, ◌≤◌, ◌<◌, ℕ, true, false, IfOk, length, map};
 ghost use Rattle.small_system.specs.Shows.{Shown, Played, IsQuiet, IsSpent};
 ghost use Rattle.i2c_text.specs.declared.bus.Bus.{Bus};
 ghost use Rattle.i2c_text.specs.declared.report.BusReport.{BusReport};
@@ -13,6 +13,7 @@ ghost use Rattle.i2c_play.specs.Plays.{IsSetUp, recorded, IsReportOf};
 ghost use Rattle.i2c_play.specs.Playing.{BusPlayed};
 
 use bus_law::{hops_law, replies_law, wants_law, whole_law};
+use bus_owners::{bus_pools, owners_law};
 use cargo_core::{Bytes, Memory, Series};
 use i2c_actors::{Member, bus_members, bus_queues};
 use i2c_text::{Bus, BusReply, BusReport};
@@ -90,6 +91,7 @@ fn report_law()
     hops_law();
     whole_law();
     wants_law();
+    owners_law();
 }
 
 // The actors of a bus at its queues, before the first step.
@@ -109,18 +111,20 @@ fn report(
     small: &Small<Member>,
     quiet: bool,
 ) -> Result<BusReport, Memory>
-    requires { bus.now.clients ≤ length small.now.moment.actors }
+    requires few { bus.now.clients < 1024 }
+    requires there { bus.now.clients ≤ length small.now.moment.actors }
     ensures quiet { IfOk result (λ report. report.quiet ≡ quiet) }
     ensures told { IfOk result (IsReportOf bus.now small.now) }
 {
     let clients = bus.clients as usize;
     let replies = all_recorded(alloc, &small.actors()[..clients])?;
+    let pools = bus_pools(alloc, bus.clients as u16, small.journal())?;
     let journal = copy_journal(alloc, small.journal())?;
     Ok(BusReport {
         quiet,
         steps: journal.len() as u64,
         replies,
-        pools: Series::new(alloc),
+        pools,
         journal,
     })
 }

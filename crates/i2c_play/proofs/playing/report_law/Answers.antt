@@ -1,5 +1,5 @@
 use Rattle.std.proofs.Common.{ℕ, List}
-use Rattle.i2c_play.proofs.Reporting.{of_bus, picked_by, tells_replies, its_turns, is_played}
+use Rattle.i2c_play.proofs.Reporting.{of_bus, picked_by, tells_replies, tells_owners, its_turns, is_played}
 use Rattle.i2c_play.proofs.playing.report_law.Goals as goal
 
 pub returns : goal.returns
@@ -20,3 +20,5 @@ returns c = λ bus seed limit old new report keeps set played still spent told.
     (c.replies_law.ensures.replies bus rows start turns t)
     (c.whole_law.ensures bus rows start turns t)
     (c.tale_law.ensures.count _ turns t.tale))
+    (tells_owners bus seed limit old new report keeps set played still spent told
+    (c.owners_law.ensures.owners bus rows start turns t) c.owners_law.ensures.pools)
