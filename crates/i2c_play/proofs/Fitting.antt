@@ -84,7 +84,7 @@ words_good : (ws : List (List ℕ)) → IsGood (words_say ws)
 unfolding words_say read_said write_said bytes_of
 words_good [] = none_good
 words_good (a ∷ []) = none_good
-words_good (a ∷ b ∷ []) = either_good _ _ _ (map_good _ _ (λ n. tt)) (either_good _ _ _ (map_good _ _ (λ d. tt)) none_good)
+words_good (a ∷ b ∷ []) = either_good _ _ _ (map_good (number_from 1 8 b) (λ n. Says.Clients n) (λ n. tt)) (either_good _ _ _ (map_good (address_of b) (λ d. Says.Device d) (λ d. tt)) none_good)
 words_good (a ∷ b ∷ c ∷ []) = either_good _ _ _ (then_good (client_of b) _ (λ d. from_map 8 119 (number_of c) (λ e. Says.Ask d (Asks.Claim e)) (λ e h. h))) none_good
 words_good (a ∷ b ∷ c ∷ d ∷ []) =
     either_good (same_text a (codes "read")) (read_said b c d) _ (then_good (client_of b) _ (λ e. from_then 8 119 (number_of c) _ (λ f h. from_map 1 32 (number_of d) (λ n. Says.Ask e (Asks.Read f n)) (λ n i. both (is_address f) (is_count n) h i))))
@@ -124,13 +124,13 @@ said_good c (Says.Clients n) h k q at = cc
 said_good c (Says.Device a) h k q at = cc
 said_good c (Says.Ask d ask) h k q at = said_one (d == c) ask h k q at
 
+either_said : (c : ℕ) (e : Line) (es : List Line) → GoodLine e → AreRequests (flat_map (asks_said c) es) → (k : ℕ) (q : BusAsk) → (slice_get (asks_said c e) k ≡ Some q) ⊎ ((j : ℕ) × (slice_get (flat_map (asks_said c) es) j ≡ Some q) × (k ≡ length (asks_said c e) + j)) → is_request q ≡ true
+either_said c e es g rest k q (inl i) = said_good c e g k q i
+either_said c e es g rest k q (inr i) = rest i.0 q i.1
+
 all_said : (c : ℕ) (es : List Line) → AllGood es → AreRequests (flat_map (asks_said c) es)
 all_said c [] h k q at = cc
-all_said c (e ∷ es) h k q at = by (get_split (asks_said c e) (flat_map (asks_said c) es) k q at)
-  where
-    by : (slice_get (asks_said c e) k ≡ Some q) ⊎ ((j : ℕ) × (slice_get (flat_map (asks_said c) es) j ≡ Some q) × (k ≡ length (asks_said c e) + j)) → is_request q ≡ true
-    by (inl i) = said_good c e h.0 k q i
-    by (inr i) = all_said c es h.1 i.0 q i.1
+all_said c (e ∷ es) h k q at = either_said c e es h.0 (all_said c es h.1) k q (get_split (asks_said c e) (flat_map (asks_said c) es) k q at)
 
 -- the list of a client
 of_client : {T : Type 0} (n : ℕ) (f : ℕ → T) (c : ℕ) (x : T) → slice_get (per_client n f) c ≡ Some x → f c ≡ x

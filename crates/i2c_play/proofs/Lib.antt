@@ -1,2 +1,3 @@
 -- The proofs on the play of a bus.
 pub mod Fitting
+pub mod Reporting

@@ -1,5 +1,5 @@
--- What the play of a bus is: how many steps are enough for it (Bounds), what a play is (Plays),
--- what it promises (Playing), and how its report prints (Texts).
+-- What the play of a bus is: how many steps are enough for it (Bounds), the player and its report
+-- (Plays), what the play promises of its report (Playing), and how that prints (Texts).
 pub mod Bounds
 pub mod Plays
 pub mod Playing

@@ -1,28 +1,25 @@
--- A play of a bus, and what its actors recorded.
-use Rattle.std.specs.Prelude.{◌≡◌, ℕ, List, [], map, take}
+-- A bus at play as the player shows it, and what its report says of it.
+use Rattle.std.specs.Prelude.{◌≡◌, ℕ, List, [], length, map, take}
 use Rattle.wire_core.specs.declared.names.QueueRow.{QueueRow}
-use Rattle.small_system.specs.Tales.{Moment, Turn, start_of, IsTale, after_tale}
+use Rattle.wire_core.specs.Queues.{starts}
+use Rattle.small_system.specs.Shows.{Shown, shown}
 use Rattle.small_system.specs.Standing.{Begins}
 use Rattle.i2c_text.specs.declared.bus.Bus.{Bus}
 use Rattle.i2c_text.specs.declared.report.BusReply.{BusReply}
+use Rattle.i2c_text.specs.declared.report.BusReport.{BusReport}
 use Rattle.i2c_actors.specs.declared.member.Member.{Member}
 use Rattle.i2c_actors.specs.declared.member.Member.TheVariants as Members
 use Rattle.i2c_actors.specs.Members.{member_means}
 use Rattle.i2c_actors.specs.Queues.{AreQueues}
 use Rattle.i2c_actors.specs.Casting.{AreMade}
+use Rattle.bus_owners.specs.Pools.{table_after, pool_lines}
 
--- these turns are a play of the bus: the actors of the bus at its queues may begin, and the turns
--- are theirs
-pub record IsBusTale (bus : Bus) (rows : List QueueRow) (start : List Member)
-    (turns : List (Turn Member)) : Type 0 where
-  pub queues : AreQueues bus.clients rows
-  pub made : AreMade bus start
-  pub begins : Begins member_means rows start
-  pub tale : IsTale member_means (start_of rows start) turns
-
--- the moment after these turns
-abbrev pub last_moment : List QueueRow → List Member → List (Turn Member) → Moment Member
-last_moment rows start turns = after_tale (start_of rows start) turns
+-- the actors of a bus are at its queues, before the first step
+pub record IsSetUp (bus : Bus) (s : Shown Member) : Type 0 where
+  pub queues : AreQueues bus.clients s.rows
+  pub made : AreMade bus s.start
+  pub begins : Begins member_means s.rows s.start
+  pub is_start : s ≡ shown s.rows s.start (starts s.rows) s.start []
 
 -- the replies that an actor recorded: only clients record any
 abbrev pub recorded : Member → List BusReply
@@ -34,3 +31,10 @@ recorded (Members.Bus b) = []
 -- what each of the first actors recorded, so many of them
 abbrev pub all_recorded : (clients : ℕ) → List Member → List (List BusReply)
 all_recorded clients actors = map recorded (take clients actors)
+
+-- the report says what the player shows
+pub record IsReportOf (bus : Bus) (s : Shown Member) (report : BusReport) : Type 0 where
+  pub journal : report.journal ≡ s.journal
+  pub counted : report.steps ≡ length s.journal
+  pub replies : report.replies ≡ all_recorded bus.clients s.moment.actors
+  pub pools : report.pools ≡ pool_lines bus.clients (table_after bus.clients s.rows s.journal)

@@ -1,16 +1,23 @@
 //! The play of a bus.
 
-ghost use Rattle.std.specs.Prelude.{◌≡◌, ◌≤◌, ℕ, IfOk, length, take, map};
+ghost use Rattle.std.specs.Prelude.{◌≡◌, ◌≤◌, ◌<◌, ℕ, true, false, IfOk, length, map};
+ghost use Rattle.small_system.specs.Shows.{Shown, Played, IsQuiet, IsSpent};
 ghost use Rattle.i2c_text.specs.declared.bus.Bus.{Bus};
+ghost use Rattle.i2c_text.specs.declared.report.BusReport.{BusReport};
 ghost use Rattle.i2c_text.specs.Buses.{IsReadBus};
+ghost use Rattle.text_limits.specs.Limits.{KeepsBusLimits};
+ghost use Rattle.i2c_actors.specs.declared.member.Member.{Member};
+ghost use Rattle.i2c_actors.specs.Members.{member_means};
 ghost use Rattle.i2c_actors.specs.Casting.{IsFitBus};
-ghost use Rattle.i2c_play.specs.Plays.{recorded, all_recorded};
+ghost use Rattle.i2c_play.specs.Plays.{IsSetUp, recorded, IsReportOf};
 ghost use Rattle.i2c_play.specs.Playing.{BusPlayed};
 
+use bus_law::{hops_law, replies_law, wants_law, whole_law};
+use bus_owners::{bus_pools, owners_law};
 use cargo_core::{Bytes, Memory, Series};
 use i2c_actors::{Member, bus_members, bus_queues};
 use i2c_text::{Bus, BusReply, BusReport};
-use small_system::Small;
+use small_system::{Small, tale_law};
 use std::alloc::Global;
 use text_limits::bus_limits_law;
 use wire_core::Entry;
@@ -71,25 +78,68 @@ fn copy_journal(alloc: Global, journal: &[Entry]) -> Result<Series<Entry>, Memor
     Ok(Series::from_vec(Vec::from_slice(alloc, journal)?))
 }
 
+// What the player shows is told by the report, and holds of the bus.
+fn report_law()
+    ensures { (bus : Bus) (seed limit : ℕ) (old new : Shown Member) (report : BusReport)
+        → KeepsBusLimits bus → IsSetUp bus old → Played member_means old new seed limit
+        → (report.quiet ≡ true → IsQuiet member_means new)
+        → (report.quiet ≡ false → IsSpent member_means old new limit)
+        → IsReportOf bus new report → BusPlayed bus seed limit report }
+{
+    tale_law::<Member>();
+    replies_law();
+    hops_law();
+    whole_law();
+    wants_law();
+    owners_law();
+}
+
+// The actors of a bus at its queues, before the first step.
+fn set_up(alloc: Global, bus: &Bus) -> Result<Small<Member>, Memory>
+    requires { IsFitBus bus.now }
+    ensures { IfOk result (IsSetUp bus.now) }
+{
+    let rows = bus_queues(alloc, bus.clients as u16)?;
+    let members = bus_members(alloc, bus)?;
+    Small::new(alloc, &rows, members)
+}
+
+// The report of a player.
+fn report(
+    alloc: Global,
+    bus: &Bus,
+    small: &Small<Member>,
+    quiet: bool,
+) -> Result<BusReport, Memory>
+    requires few { bus.now.clients < 1024 }
+    requires there { bus.now.clients ≤ length small.now.moment.actors }
+    ensures quiet { IfOk result (λ report. report.quiet ≡ quiet) }
+    ensures told { IfOk result (IsReportOf bus.now small.now) }
+{
+    let clients = bus.clients as usize;
+    let replies = all_recorded(alloc, &small.actors()[..clients])?;
+    let pools = bus_pools(alloc, bus.clients as u16, small.journal())?;
+    let journal = copy_journal(alloc, small.journal())?;
+    Ok(BusReport {
+        quiet,
+        steps: journal.len() as u64,
+        replies,
+        pools,
+        journal,
+    })
+}
+
 /// Plays a bus that was read, with the picks that a seed gives, to its quiet end or to a limit of
 /// steps, and reports it.
 pub fn play_bus(alloc: Global, bus: &Bus, seed: u64, limit: u64) -> Result<BusReport, Memory>
     requires { IsReadBus bus.now }
     ensures { IfOk result (BusPlayed bus.now seed limit) }
 {
+    bus_limits_law();
     fit_law();
-    let rows = bus_queues(alloc, bus.clients as u16)?;
-    let members = bus_members(alloc, bus)?;
-    let mut small = Small::new(alloc, &rows, members)?;
+    tale_law::<Member>();
+    let mut small = set_up(alloc, bus)?;
     let quiet = small.play(seed, limit)?;
-    let clients = bus.clients as usize;
-    let replies = all_recorded(alloc, &small.actors()[..clients])?;
-    let journal = copy_journal(alloc, small.journal())?;
-    Ok(BusReport {
-        quiet,
-        steps: journal.len() as u64,
-        replies,
-        pools: Series::new(alloc),
-        journal,
-    })
+    report_law();
+    report(alloc, bus, &small, quiet)
 }
