@@ -1,0 +1,2 @@
+-- The proofs on the actors of a switch's system.
+pub mod Laws
