@@ -1,4 +1,6 @@
--- What the actors of a switch's system mean to the player (Members), and that these meanings are
--- lawful (MemberLaws).
+-- What the actors of a switch's system mean to the player (Members), that these meanings are
+-- lawful (MemberLaws), the queues between them (Queues), and of what the actors are made (Casting).
 pub mod Members
 pub mod MemberLaws
+pub mod Queues
+pub mod Casting

@@ -5,6 +5,8 @@ use Rattle.wire_core.specs.declared.names.QueueId.{QueueId}
 use Rattle.wire_core.specs.Ends.{Role, End}
 use Rattle.wire_core.specs.Lists.{Passed}
 use Rattle.turn_kit.specs.Turns.{Round}
+use Rattle.owner_law.specs.Pools.Places.{PoolAt}
+use Rattle.buffer_kit.specs.declared.stock.Stock.{Stock}
 use Rattle.small_system.specs.Meanings.{Means}
 use Rattle.client_programs.specs.declared.net.program.ClientProgram.{ClientProgram}
 use Rattle.client_programs.specs.Net.Clients.{FitsClient, ClientStandsFor, client_round, rx_active}
@@ -14,15 +16,21 @@ use Rattle.net_switch.specs.Switching.{FitsSwitch, SwitchStandsFor, switch_round
 use Rattle.switch_class.specs.declared.member.Member.{Member}
 use Rattle.switch_class.specs.declared.member.Member.TheVariants as Members
 
--- what an actor is made of: a client's queues and its program, and a switch's queues and the
--- addresses of its ports
+-- what an actor is made of: a client's queues, its program, and its pools for receiving and for
+-- sending; a switch's queues and the addresses of its ports
 pub data Made : Type 0 where
-  Runs : (active_in free_out active_out free_in : ℕ) → (program : ClientProgram) → Made
+  Runs : (rx_active rx_free tx_active tx_free : ℕ) → (program : ClientProgram) → (rx tx : PoolAt)
+      → Made
   Switches : (come back room copy : List QueueId) → (macs : List Mac) → Made
+
+-- the pool of which a stock has the buffers
+abbrev pub pool_of : Stock → PoolAt
+pool_of s = record { number = s.pool.0; base = s.base; buffers = s.buffers; size = s.size }
 
 -- what it is made of
 abbrev pub made_of : Member → Made
 made_of (Members.Client c) = Runs (rx_active c) (rx_free c) (tx_active c) (tx_free c) c.program
+    (pool_of c.stock) (pool_of c.outbox.stock)
 made_of (Members.Switch v) = Switches (come_queues v.ends) (back_queues v.ends)
     (room_queues v.ends) (copy_queues v.ends) v.desk.macs.items
 
