@@ -35,23 +35,23 @@ use Rattle.switch_class.specs.declared.member.Member.TheVariants as Members
 use Rattle.switch_class.specs.Members.{FitsMember, MemberStandsFor, member_round, member_means}
 
 -- the four ends of a client
-own_frames : (c : NetClient) (r : Role) (n : ℕ) → r ≡ Consumer → n ≡ rx_active c → Own member_means (Members.Client c) r n
+pub own_frames : (c : NetClient) (r : Role) (n : ℕ) → r ≡ Consumer → n ≡ rx_active c → Own member_means (Members.Client c) r n
 own_frames c r n e q = record { place = 0; post = intake_post c.frames.pipe.input; there = refl; queue = sym q; role = sym e }
 
-own_gives : (c : NetClient) (r : Role) (n : ℕ) → r ≡ Producer → n ≡ rx_free c → Own member_means (Members.Client c) r n
+pub own_gives : (c : NetClient) (r : Role) (n : ℕ) → r ≡ Producer → n ≡ rx_free c → Own member_means (Members.Client c) r n
 own_gives c r n e q = record { place = 1; post = outlet_post c.frames.pipe.output; there = refl; queue = sym q; role = sym e }
 
-own_sent : (c : NetClient) (r : Role) (n : ℕ) → r ≡ Consumer → n ≡ tx_free c → Own member_means (Members.Client c) r n
+pub own_sent : (c : NetClient) (r : Role) (n : ℕ) → r ≡ Consumer → n ≡ tx_free c → Own member_means (Members.Client c) r n
 own_sent c r n e q = record { place = 2; post = intake_post c.sent; there = refl; queue = sym q; role = sym e }
 
-own_send : (c : NetClient) (r : Role) (n : ℕ) → r ≡ Producer → n ≡ tx_active c → Own member_means (Members.Client c) r n
+pub own_send : (c : NetClient) (r : Role) (n : ℕ) → r ≡ Producer → n ≡ tx_active c → Own member_means (Members.Client c) r n
 own_send c r n e q = record { place = 3; post = outlet_post c.send; there = refl; queue = sym q; role = sym e }
 
 -- the four sorts of ends of a switch
 posts_of_intakes : (xs : Intakes) → length (intake_posts xs) ≡ length xs.ends.items
 posts_of_intakes xs = length-map xs.ends.items intake_post
 
-own_come : (v : NetSwitch) (k : ℕ) (i : Intake) (r : Role) (n : ℕ) → slice_get v.ends.come.ends.items k ≡ Some i → r ≡ Consumer → n ≡ i.queue.0 → Own member_means (Members.Switch v) r n
+pub own_come : (v : NetSwitch) (k : ℕ) (i : Intake) (r : Role) (n : ℕ) → slice_get v.ends.come.ends.items k ≡ Some i → r ≡ Consumer → n ≡ i.queue.0 → Own member_means (Members.Switch v) r n
 own_come v k i r n at e q = record {
   place = k;
   post = intake_post i;
@@ -60,7 +60,7 @@ own_come v k i r n at e q = record {
   role = sym e;
 }
 
-own_back : (v : NetSwitch) (k : ℕ) (o : Outlet) (r : Role) (n : ℕ) → slice_get v.ends.back.ends.items k ≡ Some o → r ≡ Producer → n ≡ o.queue.0 → Own member_means (Members.Switch v) r n
+pub own_back : (v : NetSwitch) (k : ℕ) (o : Outlet) (r : Role) (n : ℕ) → slice_get v.ends.back.ends.items k ≡ Some o → r ≡ Producer → n ≡ o.queue.0 → Own member_means (Members.Switch v) r n
 own_back v k o r n at e q = record {
   place = length (intake_posts v.ends.come) + k;
   post = outlet_post o;
@@ -70,7 +70,7 @@ own_back v k o r n at e q = record {
   role = sym e;
 }
 
-own_room : (v : NetSwitch) (k : ℕ) (i : Intake) (r : Role) (n : ℕ) → slice_get v.ends.room.ends.items k ≡ Some i → r ≡ Consumer → n ≡ i.queue.0 → Own member_means (Members.Switch v) r n
+pub own_room : (v : NetSwitch) (k : ℕ) (i : Intake) (r : Role) (n : ℕ) → slice_get v.ends.room.ends.items k ≡ Some i → r ≡ Consumer → n ≡ i.queue.0 → Own member_means (Members.Switch v) r n
 own_room v k i r n at e q = record {
   place = length (intake_posts v.ends.come) + (length (outlet_posts v.ends.back) + k);
   post = intake_post i;
@@ -81,7 +81,7 @@ own_room v k i r n at e q = record {
   role = sym e;
 }
 
-own_copy : (v : NetSwitch) (k : ℕ) (o : Outlet) (r : Role) (n : ℕ) → slice_get v.ends.copy.ends.items k ≡ Some o → r ≡ Producer → n ≡ o.queue.0 → Own member_means (Members.Switch v) r n
+pub own_copy : (v : NetSwitch) (k : ℕ) (o : Outlet) (r : Role) (n : ℕ) → slice_get v.ends.copy.ends.items k ≡ Some o → r ≡ Producer → n ≡ o.queue.0 → Own member_means (Members.Switch v) r n
 own_copy v k o r n at e q = record {
   place = length (intake_posts v.ends.come) + (length (outlet_posts v.ends.back) + (length (intake_posts v.ends.room) + k));
   post = outlet_post o;

@@ -1,5 +1,5 @@
 -- The actors of a switch's system: of each port its client, and behind them the switch.
-use Rattle.std.specs.Prelude.{◌≡◌, ◌+◌, ◌*◌, ◌<◌, ℕ, Some, List, length, slice_get}
+use Rattle.std.specs.Prelude.{◌≡◌, ◌+◌, ◌*◌, ◌<◌, ◌≤◌, ◌^◌, ℕ, Some, List, All, length, slice_get}
 use Rattle.frame_core.specs.declared.mac.Mac.{Mac}
 use Rattle.wire_core.specs.declared.names.QueueId.{QueueId}
 use Rattle.line_text.specs.Lists.{per_client}
@@ -10,6 +10,15 @@ use Rattle.client_programs.specs.declared.net.program.NetProgram.TheVariants as 
 use Rattle.switch_class.specs.declared.member.Member.{Member}
 use Rattle.switch_class.specs.Members.{Made, Runs, Switches, made_of}
 use Rattle.switch_class.specs.declared.actors.TheConstants.{BUFFERS, SIZE}
+
+-- ports of which actors can be made: there are 1 to 8; each has its frames, each of
+-- which has at most 65,535 bytes
+pub record CanBeMade (ports : Ports) : Type 0 where
+  pub some : 0 < length ports.macs
+  pub few : length ports.macs ≤ 8
+  pub lists : length ports.sends ≡ length ports.macs
+  pub short : (port : ℕ) (frames : List (List ℕ)) → slice_get ports.sends port ≡ Some frames
+      → All (λ frame. length frame < 2 ^ 16) frames
 
 -- a pool of a client, by its number
 abbrev pub pool_at : ℕ → PoolAt

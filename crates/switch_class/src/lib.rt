@@ -6,6 +6,6 @@ mod actors;
 mod member;
 mod queues;
 
-pub use actors::{BUFFERS, SIZE};
+pub use actors::{BUFFERS, SIZE, switch_actors};
 pub use member::Member;
 pub use queues::{CAPACITY, switch_queues};
