@@ -1,0 +1,3 @@
+pub mod Totals
+pub mod BusLimits
+pub mod PortLimits
