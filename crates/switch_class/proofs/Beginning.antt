@@ -1,9 +1,8 @@
 -- A play may begin with the actors of a switch's system.
-use Rattle.std.proofs.Common.{◌≡◌, ◌+◌, ◌*◌, ◌<◌, ◌≤◌, ◌++◌, ◌⊎◌, inl, inr, ℕ, zero, suc, Some, List, [], ◌∷◌, All, length, length-append, slice_get, get_or, refl, sym, ap, ◌∙◌, subst, arith}
+use Rattle.std.proofs.Common.{◌≡◌, ◌+◌, ◌*◌, ◌<◌, ◌≤◌, ◌++◌, ◌⊎◌, inl, inr, ℕ, Some, List, [], ◌∷◌, All, length, length-append, slice_get, get_or, refl, sym, ap, ◌∙◌, subst, arith}
 use Rattle.std.proofs.lemmas.Bool.{cases_lt}
 use Rattle.std.proofs.lemmas.Option.{slice_get-get_or}
 use Rattle.cargo_core.specs.Capacities.{IsCapacity}
-use Rattle.frame_core.specs.declared.mac.Mac.{Mac}
 use Rattle.wire_core.specs.declared.names.QueueRow.{QueueRow}
 use Rattle.wire_core.specs.Ends.{Role}
 use Rattle.wire_core.specs.Lists.{nothing_passed}
@@ -24,7 +23,7 @@ use Rattle.switch_class.specs.Queues.{AreQueues}
 use Rattle.switch_class.specs.Members.{member_round, MemberStandsFor, FitsMember, member_means}
 use Rattle.switch_class.specs.Casting.{CanBeMade, AreMade, client_made, switch_made}
 use Rattle.switch_class.specs.Starting.{IsClientOf, IsSwitchOf, AreClients}
-use Rattle.switch_class.proofs.Lanes.{offset, role_at, other, client_owns, switch_owns, roles, LaneRow, row_lane}
+use Rattle.switch_class.proofs.Lanes.{role_at, other, client_owns, switch_owns, roles, LaneRow, row_lane}
 use Rattle.switch_class.proofs.Starts.{client_queues, client_is_made, client_fits, client_is_round, client_given, client_all}
 use Rattle.switch_class.proofs.SwitchStarts.{switch_is_made, switch_fits, switch_is_round, switch_given, switch_all}
 

@@ -1,7 +1,5 @@
 -- The four queues of a port as lanes, each with its number, its ends and who has them.
-use Rattle.std.proofs.Common.{◌≡◌, ◌+◌, ◌*◌, ◌<◌, ◌≤◌, ◌++◌, ◌⊎◌, inl, inr, ℕ, zero, suc, Some, List, [], ◌∷◌, length, map, slice_get, refl, sym, ap, ◌∙◌, subst, arith}
-use Rattle.cargo_core.specs.Capacities.{IsCapacity}
-use Rattle.cargo_core.specs.declared.item.QueueKind.TheVariants as Kind
+use Rattle.std.proofs.Common.{◌≡◌, ◌+◌, ◌*◌, ◌<◌, ◌++◌, ◌⊎◌, inl, inr, ℕ, zero, suc, Some, List, [], ◌∷◌, length, slice_get, refl, sym, ap, ◌∙◌, subst, arith}
 use Rattle.wire_core.specs.declared.names.QueueRow.{QueueRow}
 use Rattle.wire_core.specs.Ends.{Role, Consumer, Producer}
 use Rattle.wire_core.specs.Journal.{owner_of}
@@ -117,7 +115,7 @@ pub record LaneRow (ports n : ℕ) (row : QueueRow) : Type 0 where
 
 module _ (ports : ℕ) (rows : List QueueRow) (q : AreQueues ports rows) where
   pub lane_row : (l : Lane) (port : ℕ) → port < ports → GoesAt rows (4 * port + offset l) (from_at l port ports) (to_at l port ports)
-  lane_row TxActive port lt = q.of_ports.tx_active port lt
+  lane_row TxActive port lt = let z : 4 * port ≡ 4 * port + 0 = omega arith in subst (λ k. GoesAt rows k port ports) z (q.of_ports.tx_active port lt)
   lane_row TxFree port lt = q.of_ports.tx_free port lt
   lane_row RxActive port lt = q.of_ports.rx_active port lt
   lane_row RxFree port lt = q.of_ports.rx_free port lt

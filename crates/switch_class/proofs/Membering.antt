@@ -1,5 +1,5 @@
 -- A step of either kind of actor is one of the member.
-use Rattle.std.proofs.Common.{◌≡◌, ap, ap₂, ◌∙◌, ℕ, List, Result, Ok, Err, IfOk}
+use Rattle.std.proofs.Common.{◌≡◌, ap, ap₂, ◌∙◌, List, Result, Ok, Err, IfOk}
 use Rattle.cargo_core.specs.declared.item.PoolId.{PoolId}
 use Rattle.cargo_core.specs.declared.memory.Memory.{Memory}
 use Rattle.frame_core.specs.declared.mac.Mac.{Mac}
@@ -20,7 +20,7 @@ use Rattle.net_switch.specs.declared.switch.NetSwitch.{NetSwitch}
 use Rattle.net_switch.specs.Ends.{come_queues, back_queues, room_queues, copy_queues}
 use Rattle.net_switch.specs.Switching.{SwitchStandsFor, SameSwitch, switch_round}
 use Rattle.switch_class.specs.declared.member.Member.TheVariants as Members
-use Rattle.switch_class.specs.Members.{Made, Runs, Switches, pool_of, made_of, member_means}
+use Rattle.switch_class.specs.Members.{Runs, Switches, pool_of, made_of, member_means}
 
 same_pool : (old new : Stock) → SameStock old new → pool_of new ≡ pool_of old
 same_pool old new s =

@@ -1,9 +1,13 @@
 -- The queues of a switch, port by port.
-use Rattle.std.proofs.Common.{◌≡◌, ◌+◌, ◌*◌, ◌<◌, ◌≤◌, ◌++◌, ◌⊎◌, inl, inr, ℕ, zero, suc, Some, List, [], ◌∷◌, length, length-append, slice_get, refl, sym, ap, ◌∙◌, subst, arith}
+use Rattle.std.proofs.Common.{◌≡◌, ◌+◌, ◌*◌, ◌<◌, ◌≤◌, ◌++◌, ◌⊎◌, inl, inr, ℕ, Some, List, [], ◌∷◌, length, length-append, slice_get, refl, sym, ap, ◌∙◌, subst, arith}
 use Rattle.std.proofs.lemmas.Bool.{cases_lt}
 use Rattle.buffer_kit.proofs.TwoLists.{get_front, get_behind}
 use Rattle.wire_core.specs.declared.names.QueueRow.{QueueRow}
 use Rattle.switch_class.specs.Queues.{IsQueue, Added, GoesAt, HaveQueues, AreQueues}
+
+pub four_pushed : (xs : List QueueRow) (a b c d : QueueRow) → (((xs ++ a ∷ []) ++ b ∷ []) ++ c ∷ []) ++ d ∷ [] ≡ xs ++ a ∷ b ∷ c ∷ d ∷ []
+four_pushed [] a b c d = refl
+four_pushed (x ∷ xs) a b c d = ap (λ l. x ∷ l) (four_pushed xs a b c d)
 
 module _ (port switch : ℕ) (old new : List QueueRow) (a : Added port switch old new) where
   abbrev four : List QueueRow

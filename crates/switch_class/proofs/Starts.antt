@@ -1,13 +1,12 @@
 -- The clients of a switch's ports in their start state: of what they are made, and that they fit
 -- the ends that the rows give them.
-use Rattle.std.proofs.Common.{◌≡◌, ◌+◌, ◌*◌, ◌-◌, ◌<◌, ◌≤◌, ◌^◌, ◌⊎◌, inl, inr, ℕ, zero, suc, Bool, true, Option, Some, None, List, [], ◌∷◌, All, length, length-append, map, reverse, slice_get, refl, sym, ap, ap₂, ◌∙◌, subst, arith, lt-ltb}
+use Rattle.std.proofs.Common.{◌≡◌, ◌+◌, ◌*◌, ◌<◌, ◌≤◌, ◌^◌, ◌⊎◌, inl, inr, ℕ, zero, suc, Bool, true, Option, Some, None, List, All, length, length-append, map, reverse, slice_get, refl, sym, ap, ap₂, ◌∙◌, subst, arith, lt-ltb}
 use Rattle.std.specs.Option.{option_to_list, ForSome}
 use Rattle.std.proofs.lemmas.List.{length-map, length-reverse}
 use Rattle.cargo_core.specs.Items.{kind_of}
 use Rattle.cargo_core.specs.Pages.{Paged}
 use Rattle.cargo_core.specs.declared.item.PoolId.{PoolId}
 use Rattle.cargo_core.specs.declared.item.QueueKind.TheVariants as Kind
-use Rattle.frame_core.specs.declared.mac.Mac.{Mac}
 use Rattle.wire_core.specs.declared.names.QueueId.{QueueId}
 use Rattle.wire_core.specs.declared.names.QueueRow.{QueueRow}
 use Rattle.wire_core.specs.declared.names.Side.TheVariants.{Forward, Backward}
@@ -17,7 +16,6 @@ use Rattle.wire_core.specs.Queues.{Queue, starts, start_queue, no_queue, queue_a
 use Rattle.wire_core.specs.Journal.{owner_of}
 use Rattle.turn_kit.specs.Table.{Agrees, start_state}
 use Rattle.turn_kit.specs.Turns.{Post, IsRound}
-use Rattle.turn_kit.specs.Posts.{intake_post, outlet_post}
 use Rattle.turn_kit.specs.declared.end_state.EndState.{EndState}
 use Rattle.turn_kit.specs.declared.ends.Intake.{Intake}
 use Rattle.turn_kit.specs.declared.ends.Outlet.{Outlet}
@@ -33,13 +31,12 @@ use Rattle.client_programs.specs.Net.Clients.{FitsClient, client_round, rx_activ
 use Rattle.ports_text.specs.declared.ports.Ports.{Ports}
 use Rattle.owner_law.specs.Pools.Places.{PoolAt}
 use Rattle.small_system.specs.Meanings.{Own}
-use Rattle.switch_class.specs.declared.member.Member.{Member}
 use Rattle.switch_class.specs.declared.member.Member.TheVariants as Members
-use Rattle.switch_class.specs.Queues.{IsQueue, AreQueues}
-use Rattle.switch_class.specs.Members.{Made, Runs, pool_of, made_of, member_means}
+use Rattle.switch_class.specs.Queues.{AreQueues}
+use Rattle.switch_class.specs.Members.{Runs, pool_of, made_of, member_means}
 use Rattle.switch_class.specs.Casting.{CanBeMade, pool_at, rx_pool, tx_pool, program_of, client_made}
 use Rattle.switch_class.specs.Starting.{IsWhole, IsClientOf}
-use Rattle.switch_class.proofs.Laws.{own_frames, own_gives, own_sent, own_send}
+use Rattle.switch_class.specs.MemberLaws.{own_frames, own_gives, own_sent, own_send}
 use Rattle.switch_class.proofs.Lanes.{Lane, TxActive, TxFree, RxActive, RxFree, offset, role_at, other, client_owns, switch_owns, roles, same_lane, LaneRow, lane_row, row_lane}
 
 -- an end of a queue in its start state
@@ -166,10 +163,11 @@ module _ (ports : Ports) (can : CanBeMade ports) (port : ℕ) (c : NetClient) (o
 
   pub client_is_made : made_of (Members.Client c) ≡ client_made port of.mac of.frames
   client_is_made =
+      let zero_more : 4 * port + 0 ≡ 4 * port = omega arith in
       let rx : pool_of c.stock ≡ rx_pool port = pool_is c.stock (2 * port) of.pages of.rx of.new.is_start of.new.base in
       let tx : pool_of c.outbox.stock ≡ tx_pool port = pool_is c.outbox.stock (2 * port + 1) of.spare of.tx of.new.outbox.is_start of.new.outbox.base in
       ap₂ (λ a b. Runs a b (tx_active c) (tx_free c) c.program (pool_of c.stock) (pool_of c.outbox.stock)) (client_queues RxActive) (client_queues RxFree)
-      ∙ (ap₂ (λ a b. Runs (4 * port + 2) (4 * port + 3) a b c.program (pool_of c.stock) (pool_of c.outbox.stock)) (client_queues TxActive) (client_queues TxFree)
+      ∙ (ap₂ (λ a b. Runs (4 * port + 2) (4 * port + 3) a b c.program (pool_of c.stock) (pool_of c.outbox.stock)) (client_queues TxActive ∙ zero_more) (client_queues TxFree)
       ∙ (ap (λ (p : ClientProgram). Runs (4 * port + 2) (4 * port + 3) (4 * port) (4 * port + 1) p (pool_of c.stock) (pool_of c.outbox.stock)) of.new.program_is
       ∙ ap₂ (λ (p q : PoolAt). Runs (4 * port + 2) (4 * port + 3) (4 * port) (4 * port + 1) (program_of of.mac of.frames) p q) rx tx))
 

@@ -1,19 +1,19 @@
 -- The switch in its start state: of what it is made, and that it fits the ends that the rows give
 -- it.
-use Rattle.std.proofs.Common.{◌≡◌, ◌+◌, ◌*◌, ◌<◌, ◌≤◌, ◌^◌, ◌++◌, ◌⊎◌, inl, inr, ℕ, zero, suc, Some, List, [], ◌∷◌, length, map, slice_get, refl, sym, ap, ap₂, ◌∙◌, subst, arith}
+use Rattle.std.proofs.Common.{◌≡◌, ◌+◌, ◌*◌, ◌<◌, ◌++◌, ◌⊎◌, inl, inr, ℕ, Some, List, [], ◌∷◌, length, map, slice_get, refl, sym, ap, ap₂, ◌∙◌, subst, arith}
 use Rattle.std.proofs.lemmas.List.{length-map}
 use Rattle.cargo_core.specs.declared.item.QueueKind.TheVariants as Kind
 use Rattle.frame_core.specs.declared.mac.Mac.{Mac}
 use Rattle.wire_core.specs.declared.names.QueueId.{QueueId}
 use Rattle.wire_core.specs.declared.names.QueueRow.{QueueRow}
 use Rattle.wire_core.specs.declared.names.Side.TheVariants.{Forward, Backward}
-use Rattle.wire_core.specs.Ends.{Role, Consumer, Producer, End, waiting_role}
+use Rattle.wire_core.specs.Ends.{Role, Consumer, Producer, waiting_role}
 use Rattle.wire_core.specs.Queues.{starts, end_at}
 use Rattle.wire_core.specs.Journal.{owner_of}
 use Rattle.turn_kit.specs.Table.{Agrees, start_state}
 use Rattle.turn_kit.specs.Turns.{Post, IsRound}
 use Rattle.turn_kit.specs.Posts.{intake_post, outlet_post}
-use Rattle.turn_kit.specs.ManyEnds.{FitsIntakes, FitsOutlets, AreApart, intake_posts, outlet_posts}
+use Rattle.turn_kit.specs.ManyEnds.{FitsIntakes, FitsOutlets, intake_posts, outlet_posts}
 use Rattle.turn_kit.specs.declared.ends.Intake.{Intake}
 use Rattle.turn_kit.specs.declared.ends.Outlet.{Outlet}
 use Rattle.turn_kit.specs.declared.intakes.Intakes.{Intakes}
@@ -22,23 +22,21 @@ use Rattle.play_core.specs.Sheets.{IsSeat}
 use Rattle.play_core.proofs.Lists.{some_is, there_is, there_below, map_get, map_from}
 use Rattle.buffer_kit.specs.Virtualising.{new_intake, new_outlet}
 use Rattle.buffer_kit.proofs.TwoLists.{get_front}
-use Rattle.line_text.specs.Lists.{per_client}
 use Rattle.line_text.proofs.Rows.{length_per_client}
 use Rattle.ports_text.specs.declared.ports.Ports.{Ports}
 use Rattle.switch_desk.specs.Desks.{is_taking, is_returning, is_wanting, is_loaded}
 use Rattle.net_switch.specs.declared.switch.NetSwitch.{NetSwitch}
 use Rattle.net_switch.specs.declared.switch.PortEnds.{PortEnds}
-use Rattle.net_switch.specs.Ends.{FitsEnds, come_queues, back_queues, room_queues, copy_queues, switch_posts}
+use Rattle.net_switch.specs.Ends.{come_queues, back_queues, room_queues, copy_queues, switch_posts}
 use Rattle.net_switch.specs.Switching.{FitsSwitch, switch_round, queue_of}
 use Rattle.net_switch.proofs.Rounds.{needs_long}
 use Rattle.small_system.specs.Meanings.{Own}
-use Rattle.switch_class.specs.declared.member.Member.{Member}
 use Rattle.switch_class.specs.declared.member.Member.TheVariants as Members
-use Rattle.switch_class.specs.Queues.{IsQueue, AreQueues}
-use Rattle.switch_class.specs.Members.{Made, Switches, made_of, member_means}
+use Rattle.switch_class.specs.Queues.{AreQueues}
+use Rattle.switch_class.specs.Members.{Switches, made_of, member_means}
 use Rattle.switch_class.specs.Casting.{CanBeMade, queues_at, switch_made}
 use Rattle.switch_class.specs.Starting.{queue_no, ends_of, AreEnds, IsSwitchOf}
-use Rattle.switch_class.proofs.Laws.{own_come, own_back, own_room, own_copy}
+use Rattle.switch_class.specs.MemberLaws.{own_come, own_back, own_room, own_copy}
 use Rattle.switch_class.proofs.Lanes.{Lane, TxActive, TxFree, RxActive, RxFree, offset, role_at, other, client_owns, switch_owns, roles, same_lane, LaneRow, lane_row, row_lane, value_at, value_is, same_lists, get_split}
 use Rattle.switch_class.proofs.Starts.{takes_start, puts_start, kind_start}
 

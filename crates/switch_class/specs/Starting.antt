@@ -1,5 +1,6 @@
 -- The actors of a switch's system in their start state, for the contracts of this crate alone.
 use Rattle.std.specs.Prelude.{◌≡◌, ◌+◌, ◌*◌, ◌<◌, ℕ, Some, List, [], ◌∷◌, length, slice_get}
+use Rattle.std.specs.Prelude.{replicate}
 use Rattle.cargo_core.specs.Pages.{Paged}
 use Rattle.frame_core.specs.declared.mac.Mac.{Mac}
 use Rattle.wire_core.specs.declared.names.QueueId.{QueueId}
@@ -15,6 +16,11 @@ use Rattle.net_switch.specs.Switching.{IsNewSwitch, SwitchStandsFor}
 use Rattle.switch_class.specs.declared.member.Member.{Member}
 use Rattle.switch_class.specs.declared.member.Member.TheVariants as Members
 use Rattle.switch_class.specs.declared.actors.TheConstants.{BUFFERS, SIZE}
+
+-- a new buffer of a pool
+abbrev pub new_page : (pool k : ℕ) → Paged
+new_page pool k =
+    record { pool = record { 0 = pool }; no = k; bytes = replicate SIZE 0 }
 
 -- all buffers of a pool
 pub record IsWhole (pool : ℕ) (pages : List Paged) : Type 0 where

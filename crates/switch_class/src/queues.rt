@@ -25,12 +25,7 @@ fn queue(alloc: Global, name: &str, producer: u16, consumer: u16) -> Result<Queu
 }
 
 // Adds the four queues of a port.
-fn add_port(
-    alloc: Global,
-    queues: &mut Vec<QueueRow>,
-    port: u16,
-    switch: u16,
-) -> Result<(), Memory>
+fn add_port(alloc: Global, queues: &mut Vec<QueueRow>, port: u16, switch: u16) -> Result<(), Memory>
     ensures { OnOk result (Added port switch queues.old.items queues.new.items) }
 {
     let tx_active = queue(alloc, "tx_active", port, switch)?;

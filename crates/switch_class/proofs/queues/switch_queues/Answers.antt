@@ -1,5 +1,5 @@
-use Rattle.std.proofs.Common.{◌≡◌, ◌+◌, arith}
-use Rattle.switch_class.proofs.Queueing.{none_yet, one_more, all_queues}
+use Rattle.std.proofs.Common.{arith}
+use Rattle.switch_class.proofs.Queueing.{one_more, all_queues}
 use Rattle.switch_class.proofs.queues.switch_queues.Goals as goal
 
 pub loop-port-preserved : goal.loop-port-preserved
