@@ -1,23 +1,22 @@
 -- Entries carry the pages that their items name at each moment of a tale, where each actor of a
 -- class hands pages on.
 use Rattle.std.proofs.Common.{◌≡◌, ◌<◌, ◌++◌, ℕ, List, [], ◌∷◌, Some, length, slice_get, append_assoc, append-nil, refl, sym, ap, ◌∙◌, subst, arith}
-use Rattle.cargo_core.specs.Lists.{IsPrefix}
 use Rattle.wire_core.specs.declared.names.QueueRow.{QueueRow}
 use Rattle.wire_core.specs.declared.names.Entry.{Entry}
-use Rattle.wire_core.specs.Ends.{Role, Consumer, Producer, role_of}
+use Rattle.wire_core.specs.Ends.{Consumer, Producer, role_of}
 use Rattle.wire_core.specs.Lists.{Passed, with_deed, nothing_passed}
 use Rattle.wire_core.specs.Queues.{queue_at}
 use Rattle.wire_core.specs.Journal.{start_history, owner_of}
-use Rattle.play_core.specs.Moved.{Moved, Seat, moved}
-use Rattle.play_core.specs.Sheets.{IsSeat, HaveTwoOwners}
+use Rattle.play_core.specs.Moved.{Moved, moved}
+use Rattle.play_core.specs.Sheets.{HaveTwoOwners}
 use Rattle.play_core.specs.Wants.{intake, outlet}
 use Rattle.play_core.proofs.Lists.{some_is, there_is, there_below}
 use Rattle.owner_law.specs.Things.{Naming}
 use Rattle.owner_law.specs.Keeping.{Keeper}
 use Rattle.owner_law.specs.Pages.{CarryPages}
-use Rattle.owner_law.specs.Pools.Handing.{HandsOn, IsOnward}
+use Rattle.owner_law.specs.Pools.Handing.{HandsOn}
 use Rattle.owner_law.proofs.PoolsLemmas.Handing.{carry_start, carry_step}
-use Rattle.small_system.specs.Meanings.{Means, Lawful, Own}
+use Rattle.small_system.specs.Meanings.{Means, Lawful}
 use Rattle.small_system.specs.Tales.{Moment, Turn, start_of, IsTurn, moment_after, IsTale, entry_of, journal_of, passed_from, passed_by}
 use Rattle.small_system.specs.Standing.{Begins, Holds}
 use Rattle.small_system.proofs.Posts.{own_call}

@@ -1,16 +1,16 @@
 -- What the items of each queue name.
-use Rattle.std.proofs.Common.{◌≡◌, ◌⊎◌, inl, inr, ◌+◌, ◌*◌, ◌<◌, ◌≤◌, ℕ, zero, suc, true, Some, List, [], ◌∷◌, length, slice_get, refl, sym, ap, ◌∙◌, subst, arith}
+use Rattle.std.proofs.Common.{◌≡◌, ◌⊎◌, inl, inr, ◌+◌, ◌*◌, ◌<◌, ◌≤◌, ℕ, zero, suc, true, Some, List, slice_get, refl, sym, ap, ◌∙◌, subst, arith}
 use Rattle.std.specs.Prelude.{slice_index_or}
 use Rattle.std.proofs.lemmas.Bool.{cases_lt}
 use Rattle.wire_core.specs.declared.names.QueueRow.{QueueRow}
 use Rattle.wire_core.specs.Journal.{nobody}
 use Rattle.play_core.specs.Still.{Holds}
-use Rattle.owner_law.specs.Things.{Window, Names, NoBuffers, Buffers, Answers, Naming}
+use Rattle.owner_law.specs.Things.{Window, NoBuffers, Answers}
 use Rattle.owner_law.specs.Keeping.{is_lending, IsNaming}
-use Rattle.owner_law.specs.Pools.Places.{PoolAt, by_offset}
+use Rattle.owner_law.specs.Pools.Places.{PoolAt}
 use Rattle.switch_class.specs.Queues.{AreQueues}
 use Rattle.switch_class.specs.Casting.{rx_pool, tx_pool}
-use Rattle.switch_class.proofs.Lanes.{Lane, TxActive, TxFree, RxActive, RxFree, offset, from_at, to_at, InLane, in_lane, lane_row}
+use Rattle.switch_class.proofs.Lanes.{Lane, TxActive, TxFree, RxActive, RxFree, offset, InLane, in_lane, lane_row}
 use Rattle.switch_owners.specs.Owning.{names_of, names_from, switch_naming}
 
 -- the pool of a lane
@@ -39,6 +39,9 @@ name_from (suc ports) first (suc port) l lt =
 
 pub name_at : (ports port : ℕ) (l : Lane) → port < ports → switch_naming ports (4 * port + offset l) ≡ names_of (pool_in l port)
 name_at ports port l lt = let z : 0 + port ≡ port = omega arith in name_from ports 0 port l lt ∙ ap (λ k. names_of (pool_in l k)) z
+
+pub name_tx : (ports port : ℕ) → port < ports → switch_naming ports (4 * port) ≡ names_of (tx_pool port)
+name_tx ports port lt = let z : 4 * port ≡ 4 * port + 0 = omega arith in ap (switch_naming ports) z ∙ name_at ports port TxActive lt
 
 past_from : (ports first n : ℕ) → 4 * ports ≤ n → slice_index_or (names_from first ports) n NoBuffers ≡ NoBuffers
 past_from zero first n le = refl

@@ -12,7 +12,7 @@ use Rattle.turn_kit.proofs.Holding.{buffers-append, cargo-append}
 use Rattle.play_core.specs.Moved.{Moved, Seat}
 use Rattle.play_core.specs.Wants.{intake, outlet}
 use Rattle.play_core.specs.Rests.Showing.{HaveItems}
-use Rattle.owner_law.specs.Things.{times, names_in, Buffer, Window, Buffers, Naming, Thing, Nothing, Whole, things_sent, things_taken, as_buffer, as_lease, lends}
+use Rattle.owner_law.specs.Things.{times, names_in, Buffer, Window, Naming, Thing, Nothing, Whole, things_sent, things_taken, as_buffer, as_lease, lends}
 use Rattle.owner_law.specs.Keeping.{Keeps, all_taken, all_put, is_lending}
 use Rattle.owner_law.specs.Pools.Places.{by_offset}
 use Rattle.owner_law.specs.Pools.Handing.{TakesPages, PutsPages, HandsOn}
@@ -25,9 +25,9 @@ use Rattle.net_law.proofs.OwnersLemmas.Few.{few, filled_few}
 use Rattle.net_quiet.proofs.PoolsLemmas.Carrying.{takes_here, takes_rest, puts_none, puts_in, puts_out, passed_on, filled_on}
 use Rattle.net_quiet.proofs.PoolsLemmas.Holding.{lends_none, lends_in, lends_out}
 use Rattle.switch_class.specs.Casting.{rx_pool, tx_pool}
-use Rattle.switch_class.proofs.Lanes.{TxActive, TxFree, RxActive, RxFree, offset}
-use Rattle.switch_owners.specs.Owning.{names_of, switch_naming, ends_from}
-use Rattle.switch_owners.proofs.Naming.{pool_in, name_at}
+use Rattle.switch_class.proofs.Lanes.{TxFree, RxActive, RxFree}
+use Rattle.switch_owners.specs.Owning.{switch_naming, ends_from}
+use Rattle.switch_owners.proofs.Naming.{name_tx, name_at}
 
 -- of what came from a port it put the first, and has the rest in its hand; and it filled the
 -- buffers that the port gave, put the first of them, and has the rest
@@ -73,7 +73,7 @@ module _ (n : ℕ) (passed : Passed) (m : Moved) (held copy : ℕ → List Cargo
     buffers_from b (suc j) k le =
         let lt : k < n = omega (arith, le) in
         let way = ways k lt in
-        let a = buffers_are naming m (4 * k) (m.taken (4 * k)) (tx k) (as_buffer b) b (name_at n k TxActive lt) refl (λ c. refl) ∙ ap (λ xs. times b (names_in (tx k) xs)) (sym (items.taken (4 * k))) in
+        let a = buffers_are naming m (4 * k) (m.taken (4 * k)) (tx k) (as_buffer b) b (name_tx n k lt) refl (λ c. refl) ∙ ap (λ xs. times b (names_in (tx k) xs)) (sym (items.taken (4 * k))) in
         let c = buffers_are naming m (4 * k + 1) (m.sent (4 * k + 1)) (tx k) (as_buffer b) b (name_at n k TxFree lt) refl (λ c. refl) ∙ ap (λ xs. times b (names_in (tx k) xs)) (sym (items.sent (4 * k + 1))) in
         let d = buffers_are naming m (4 * k + 3) (m.taken (4 * k + 3)) (rx k) (as_buffer b) b (name_at n k RxFree lt) refl (λ c. refl) ∙ ap (λ xs. times b (names_in (rx k) xs)) (sym (items.taken (4 * k + 3))) in
         let e = buffers_are naming m (4 * k + 2) (m.sent (4 * k + 2)) (rx k) (as_buffer b) b (name_at n k RxActive lt) refl (λ c. refl) ∙ ap (λ xs. times b (names_in (rx k) xs)) (sym (items.sent (4 * k + 2))) in
@@ -86,7 +86,7 @@ module _ (n : ℕ) (passed : Passed) (m : Moved) (held copy : ℕ → List Cargo
     came_none f none whole zero k le = refl
     came_none f none whole (suc j) k le =
         let lt : k < n = omega (arith, le) in
-        omega (arith, came_sum f k j, buffers_none naming m (4 * k) (m.taken (4 * k)) (tx k) f (name_at n k TxActive lt) none whole, buffers_none naming m (4 * k + 3) (m.taken (4 * k + 3)) (rx k) f (name_at n k RxFree lt) none whole, came_none f none whole j (k + 1) (omega (arith, le)))
+        omega (arith, came_sum f k j, buffers_none naming m (4 * k) (m.taken (4 * k)) (tx k) f (name_tx n k lt) none whole, buffers_none naming m (4 * k + 3) (m.taken (4 * k + 3)) (rx k) f (name_at n k RxFree lt) none whole, came_none f none whole j (k + 1) (omega (arith, le)))
 
     went_none : (f : Thing → ℕ) → f Nothing ≡ 0 → ((c : Buffer) → f (Whole c) ≡ 0) → (j k : ℕ) → k + j ≤ n → sum_by f (all_put naming m (ends_from k j)) ≡ 0
     went_none f none whole zero k le = refl
@@ -114,7 +114,7 @@ module _ (n : ℕ) (passed : Passed) (m : Moved) (held copy : ℕ → List Cargo
       let given_here = takes_here naming m passed (4 * k + 3) fourth rest in
       let more = on_from j (k + 1) (omega (arith, le)) (takes_rest naming m passed (intake (4 * k + 3)) fourth rest) in
       puts_in naming m passed (4 * k) first
-      (puts_out naming m passed (4 * k + 1) second (passed_on naming m (tx k) (4 * k) (4 * k + 1) (inl (name_at n k TxActive lt)) (inl (name_at n k TxFree lt)) (passed.taken (4 * k)) (passed.sent (4 * k + 1)) (held k, way.held_is) came_here)
+      (puts_out naming m passed (4 * k + 1) second (passed_on naming m (tx k) (4 * k) (4 * k + 1) (inl (name_tx n k lt)) (inl (name_at n k TxFree lt)) (passed.taken (4 * k)) (passed.sent (4 * k + 1)) (held k, way.held_is) came_here)
       (puts_out naming m passed (4 * k + 2) third (filled_on naming m (rx k) way.frames (4 * k + 3) (4 * k + 2) (inl (name_at n k RxFree lt)) (inl (name_at n k RxActive lt)) (passed.taken (4 * k + 3)) (passed.sent (4 * k + 2)) (copy k, way.copy_is) given_here)
       (puts_in naming m passed (4 * k + 3) fourth more)))
 
@@ -156,7 +156,7 @@ module _ (n : ℕ) (passed : Passed) (m : Moved) (held copy : ℕ → List Cargo
       let third : List Seat = intake (4 * k + 3) ∷ fourth in
       let second : List Seat = outlet (4 * k + 2) ∷ third in
       let first : List Seat = outlet (4 * k + 1) ∷ second in
-      lends_in naming (4 * k) first (ap is_lending (name_at n k TxActive lt)) (lends_out naming (4 * k + 1) second (lends_out naming (4 * k + 2) third (lends_in naming (4 * k + 3) fourth (ap is_lending (name_at n k RxFree lt)) (lends_from j (k + 1) (omega (arith, le))))))
+      lends_in naming (4 * k) first (ap is_lending (name_tx n k lt)) (lends_out naming (4 * k + 1) second (lends_out naming (4 * k + 2) third (lends_in naming (4 * k + 3) fourth (ap is_lending (name_at n k RxFree lt)) (lends_from j (k + 1) (omega (arith, le))))))
 
   pub ways_hold : (sizes : ℕ → ℕ) → HoldsIts naming sizes m passed (record { keeper = record { ends = ends_from 0 n; hand = λ pool. [] }; hand = hand_from held copy 0 n; lent = λ pool. 0 })
   ways_hold sizes = record {

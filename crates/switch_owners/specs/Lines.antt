@@ -1,6 +1,5 @@
 -- Where the buffers of a switch's pools are.
 use Rattle.std.specs.Prelude.{◌≡◌, ◌+◌, ℕ, List, sum_by}
-use Rattle.cargo_core.specs.declared.item.PoolId.{PoolId}
 use Rattle.cargo_core.specs.Bodies.{buffers_of}
 use Rattle.wire_core.specs.declared.names.QueueRow.{QueueRow}
 use Rattle.wire_core.specs.declared.names.Entry.{Entry}
@@ -9,7 +8,7 @@ use Rattle.wire_core.specs.Queues.{Queue}
 use Rattle.turn_kit.specs.Hands.{bodies_of}
 use Rattle.owner_law.specs.Owners.{Table, replay}
 use Rattle.owner_law.specs.Keeping.{start_table}
-use Rattle.owner_law.specs.Census.{Census, census}
+use Rattle.owner_law.specs.Census.{Census}
 use Rattle.switch_class.specs.declared.actors.TheConstants.{BUFFERS}
 use Rattle.switch_owners.specs.Owning.{switch_naming, switch_keepers}
 

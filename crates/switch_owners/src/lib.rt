@@ -20,12 +20,8 @@ ghost use Rattle.switch_class.specs.Casting.{CanBeMade, AreMade};
 ghost use Rattle.switch_owners.specs.Owning.{switch_naming, switch_keepers};
 ghost use Rattle.switch_owners.specs.Lines.{table_after, queued, IsLine};
 
-use client_programs::net::{hand_law, row_law as client_law};
-use net_law::owners::net_owner_law;
-use net_quiet::pools::{hand_on_law, hold_law};
-use net_switch::row_law;
 use owner_law::census_law;
-use owner_law::pools::{carry_law, line_law, spread_law};
+use owner_law::pools::{line_law, spread_law};
 use small_law::keeper_law;
 use switch_class::Member;
 
@@ -38,9 +34,6 @@ pub fn keepers_law()
         → HaveKeepers member_means (switch_naming (length ports.macs)) (length ports.macs) rows
         start (switch_keepers (length ports.macs)) }
 {
-    client_law();
-    net_owner_law();
-    row_law();
     spread_law();
 }
 
@@ -63,12 +56,6 @@ pub fn switch_owner_law()
 {
     keepers_law();
     keeper_law::<Member>();
-    client_law();
-    hand_law();
-    hand_on_law();
-    hold_law();
-    row_law();
-    carry_law();
     census_law();
     line_law();
     spread_law();
