@@ -1,0 +1,7 @@
+-- The proofs on one moment of a switch's system.
+pub mod Borrowed
+pub mod Taking
+pub mod Sized
+pub mod Ports
+pub mod Sums
+pub mod Telling
