@@ -5,3 +5,7 @@ pub mod Sized
 pub mod Ports
 pub mod Sums
 pub mod Telling
+pub mod Counting
+pub mod Records
+pub mod Putting
+pub mod Still

@@ -100,7 +100,7 @@ pub some_false : (n : ℕ) (p : ℕ → Bool) → ((k : ℕ) → k < n → p k �
 some_false zero p none = refl
 some_false (suc n) p none = let rest = some_false n p (λ k less. none k (omega (arith, less))) in let here = none n (omega arith) in rw (rest, here) refl
 
-index_within : (bs : List Bool) (k : ℕ) → slice_index_or bs k false ≡ true → k < length bs
+pub index_within : (bs : List Bool) (k : ℕ) → slice_index_or bs k false ≡ true → k < length bs
 index_within [] k h = cc
 index_within (b ∷ bs) zero h = omega arith
 index_within (b ∷ bs) (suc k) h = let r = index_within bs k h in omega (arith, r)

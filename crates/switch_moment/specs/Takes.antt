@@ -61,3 +61,7 @@ reaching macs port xs = filter (reaches macs port) xs
 -- the frames alone
 abbrev pub frames_in : List FromPort → List (List ℕ)
 frames_in xs = map (λ (x : FromPort). x.1) xs
+
+-- the frames of one port
+abbrev pub sent_by : (port : ℕ) → List FromPort → List (List ℕ)
+sent_by port xs = frames_in (filter (λ (x : FromPort). x.0 == port) xs)
