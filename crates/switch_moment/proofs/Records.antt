@@ -26,12 +26,12 @@ use Rattle.net_switch.specs.declared.switch.NetSwitch.{NetSwitch}
 use Rattle.net_switch.specs.Ends.{come_queues}
 use Rattle.net_switch.specs.Switching.{takes_on}
 use Rattle.switch_moment.specs.Scene.{buffer_size, IsClientOf, IsSwitched}
-use Rattle.switch_moment.specs.Takes.{FromPort, frames_taken, reaches_none, reaching, frames_in}
+use Rattle.switch_moment.specs.Takes.{FromPort, told, frames_taken, reaches_none, reaching, frames_in, sent_by}
 use Rattle.switch_moment.proofs.Borrowed.{frames_are, begins_map}
-use Rattle.switch_moment.proofs.Taking.{told, taken_same}
+use Rattle.switch_moment.proofs.Taking.{taken_same}
 use Rattle.switch_moment.proofs.Sized.{AreShort, roomy}
 use Rattle.switch_moment.proofs.Sums.{sum_same, sum_total}
-use Rattle.switch_moment.proofs.Telling.{each_at, frames_each, reaching_told, frames_told, lost_count}
+use Rattle.switch_moment.proofs.Telling.{each_at, frames_each, reaching_told, frames_told, sent_told, lost_count}
 use Rattle.switch_moment.proofs.Counting.{AreWithin, all_parts}
 use Rattle.switch_moment.proofs.Ports.{log, came, called, flow, holds, filled, used_long, copies, room_long, ports_many}
 
@@ -59,7 +59,7 @@ module _ (ports : Ports) (ends : Role → ℕ → End) (v : NetSwitch) (passed :
     takes_first = prefix_trans (map frame_of (passed.taken (4 * port))) (map frame_of (passed.sent (4 * port))) frames
         (begins_map frame_of (passed.taken (4 * port)) (passed.sent (4 * port)) (flow ports ends v passed h 0 port)) puts_first
 
-  below : (port : ℕ) (fs : List (List ℕ)) → slice_get ports.sends port ≡ Some fs → port < length ports.macs
+  pub below : (port : ℕ) (fs : List (List ℕ)) → slice_get ports.sends port ≡ Some fs → port < length ports.macs
   below port fs at = let a = there_below ports.sends port fs at in let b = h.playable.as_many in omega (arith, a, b)
 
   pub first : (port : ℕ) (fs : List (List ℕ)) → slice_get ports.sends port ≡ Some fs → IsPrefix (map (λ (c : Cargo). frame_of c) (passed.taken (4 * port))) fs
@@ -86,7 +86,7 @@ module _ (ports : Ports) (ends : Role → ℕ → End) (v : NetSwitch) (passed :
   pub within : AreWithin (length ports.macs) taken
   within k x at = (log_fits k x at).0
 
-  are_first : AreFirst ports.sends taken
+  pub are_first : AreFirst ports.sends taken
   are_first = record {
     ports = λ k x at. (let a = within k x at in let b = h.playable.as_many in omega (arith, a, b));
     firsts = λ port fs at. subst (λ l. IsPrefix (map (λ (c : Cargo). frame_of c) l) fs) (sym (came ports ends v passed h port (below port fs at))) (first port fs at);
@@ -129,11 +129,21 @@ module _ (ports : Ports) (ends : Role → ℕ → End) (v : NetSwitch) (passed :
       sym (frames_told (sent_to ports.macs port taken))
       ∙ ap frames_in (sym (reaching_told ports.macs port mac at taken) ∙ ap (reaching ports.macs port) log_told)
 
+  -- what it took of a port
+  pub sent_is : (port : ℕ) → port < length ports.macs → sent_by port (frames_taken ports.sends passed.calls) ≡ map frame_of (passed.taken (4 * port))
+  sent_is port less = ap (sent_by port) (sym log_told) ∙ (sent_told port taken ∙ ap (map frame_of) (came ports ends v passed h port less))
+
+  pub sent_first : (port : ℕ) (fs : List (List ℕ)) → slice_get ports.sends port ≡ Some fs → IsPrefix (sent_by port (frames_taken ports.sends passed.calls)) fs
+  sent_first port fs at = subst (λ l. IsPrefix l fs) (sym (sent_is port (below port fs at))) (first port fs at)
+
+  pub frames_few : length (frames_taken ports.sends passed.calls) ≤ total ports.sends
+  frames_few = let few = few_taken in let e = ap (λ l. length l) log_told in let m = length-map taken told in omega (arith, few, e, m)
+
   -- a client at the port records what comes
   pub recorded : (port : ℕ) (c : NetClient) → IsClientOf ports port c → ClientStandsFor c passed → c.frames.tape.shown ≡ map frame_of (passed.taken (4 * port + 2))
   recorded port c is st = st.got ∙ ap (λ n. map frame_of (passed.taken n)) is.rx_active_is
 
-  there : (port : ℕ) (c : NetClient) → IsClientOf ports port c → port < length ports.macs
+  pub there : (port : ℕ) (c : NetClient) → IsClientOf ports port c → port < length ports.macs
   there port c is = there_below ports.macs port is.mac is.address
 
   pub record_first : (port : ℕ) (c : NetClient) → IsClientOf ports port c → ClientStandsFor c passed → IsPrefix c.frames.tape.shown (frames_in (reaching ports.macs port (frames_taken ports.sends passed.calls)))

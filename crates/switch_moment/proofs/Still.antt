@@ -3,13 +3,14 @@ use Rattle.std.proofs.Common.{◌≡◌, ◌⊎◌, ◌==◌, ◌&&◌, ◌||◌
 use Rattle.std.specs.Option.{option_to_list, option_map}
 use Rattle.std.proofs.lemmas.Bool.{cases_lt, and_parts, lt-ltb}
 use Rattle.std.proofs.lemmas.List.{length-map}
+use Rattle.cargo_core.specs.Lists.{Merge}
 use Rattle.ports_text.specs.declared.ports.Ports.{Ports}
 use Rattle.frame_core.specs.declared.mac.Mac.{Mac}
 use Rattle.wire_core.specs.Bells.{bit}
 use Rattle.wire_core.specs.Deeds.{Cargo}
 use Rattle.wire_core.specs.Ends.{Role, End}
 use Rattle.wire_core.specs.Lists.{Passed}
-use Rattle.play_core.proofs.Lists.{there_is, there_below}
+use Rattle.play_core.proofs.Lists.{some_is, there_is, there_below}
 use Rattle.play_core.proofs.Walks.{begins_few}
 use Rattle.play_core.proofs.OneQueue.{whole_prefix}
 use Rattle.buffer_kit.specs.Entries.{frame_of, all_filled}
@@ -29,13 +30,15 @@ use Rattle.switch_desk.specs.declared.desk.Desk.{Desk}
 use Rattle.switch_desk.specs.declared.slot.Slot.{Slot}
 use Rattle.switch_desk.specs.Frames.{Sent, sent_to, frames_to, entries_from}
 use Rattle.switch_desk.specs.Desks.{IsDesk, held_at, copy_at, owes, owed_by, owed_to, first_owing, is_taking, is_returning, is_wanting, is_loaded, is_free, is_owing, is_copied, has_copy}
+use Rattle.switch_law.specs.Ports.{AreAll, all_to}
 use Rattle.net_switch.specs.declared.switch.NetSwitch.{NetSwitch}
 use Rattle.switch_desk.proofs.Owing.{there_found}
 use Rattle.switch_moment.specs.Scene.{IsClientOf, IsSwitched}
-use Rattle.switch_moment.specs.Quiet.{RestsAt, PortRests, AllRest}
+use Rattle.switch_moment.specs.Takes.{frames_taken, reaching, frames_in, sent_by}
+use Rattle.switch_moment.specs.Quiet.{AllRest}
 use Rattle.switch_moment.proofs.Borrowed.{none_left}
 use Rattle.switch_moment.proofs.Telling.{index_within}
-use Rattle.switch_moment.proofs.Records.{takes_first, comes_first}
+use Rattle.switch_moment.proofs.Records.{takes_first, comes_first, below, sent_is, recorded, there, frames_there, are_first}
 use Rattle.switch_moment.proofs.Ports.{log, came, flow, holds, stands, own, own_many, spare, spare_many, out}
 
 -- whether things are so
@@ -368,3 +371,27 @@ module _ (ports : Ports) (ends : Role → ℕ → End) (v : NetSwitch) (passed :
         let wide = length-map (sent_to ports.macs port taken) (λ (x : Sent). frame_of x.1) in
         let same = ap (λ macs. length (sent_to macs port taken)) h.switch.macs_are in
         omega (arith, all, come, long, wide, same))
+
+  -- in the words of the ports
+  pub took_whole : (port : ℕ) (fs : List (List ℕ)) → slice_get ports.sends port ≡ Some fs → sent_by port (frames_taken ports.sends passed.calls) ≡ fs
+  took_whole port fs at =
+      let less = below ports ends v passed h port fs at in
+      sent_is ports ends v passed h port less ∙ (took_all port less ∙ some_is (sym (h.clients port less).is.sends ∙ at))
+
+  pub record_whole : (port : ℕ) (c : NetClient) → IsClientOf ports port c → ClientStandsFor c passed → c.frames.tape.shown ≡ frames_to ports.macs port taken
+  record_whole port c is st = recorded ports ends v passed h port c is st ∙ got_all port (there ports ends v passed h port c is)
+
+  pub record_all : (port : ℕ) (c : NetClient) → IsClientOf ports port c → ClientStandsFor c passed → c.frames.tape.shown ≡ frames_in (reaching ports.macs port (frames_taken ports.sends passed.calls))
+  record_all port c is st = record_whole port c is st ∙ frames_there ports ends v passed h port is.mac is.address
+
+  are_all : AreAll ports.sends taken
+  are_all = record {
+    first = are_first ports ends v passed h;
+    all = λ port fs at. (let less = below ports ends v passed h port fs at in
+    ap (map (λ (x : Cargo). frame_of x)) (came ports ends v passed h port less) ∙ (took_all port less ∙ some_is (sym (h.clients port less).is.sends ∙ at)));
+  }
+
+  module _ (whole : (macs : List Mac) (receiver : ℕ) (mac : Mac) (sends : List (List (List ℕ))) (sent : List Sent) → length macs ≡ length sends → slice_get macs receiver ≡ Some mac → AreAll sends sent → Merge (all_to 0 receiver mac sends) (frames_to macs receiver sent)) where
+    pub record_merged : (port : ℕ) (mac : Mac) → slice_get ports.macs port ≡ Some mac → (c : NetClient) → IsClientOf ports port c → ClientStandsFor c passed → Merge (all_to 0 port mac ports.sends) c.frames.tape.shown
+    record_merged port mac at c is st =
+        subst (Merge (all_to 0 port mac ports.sends)) (sym (record_whole port c is st)) (whole ports.macs port mac ports.sends taken (sym h.playable.as_many) at are_all)

@@ -13,15 +13,10 @@ use Rattle.turn_kit.specs.ManyEnds.{AreApart}
 use Rattle.play_core.proofs.Lists.{some_is, map_get, there_is, there_below}
 use Rattle.buffer_kit.specs.Entries.{frame_of}
 use Rattle.switch_moment.proofs.Borrowed.{prefix_get}
-use Rattle.switch_desk.specs.Frames.{Sent}
 use Rattle.net_switch.specs.Ends.{is_take}
 use Rattle.net_switch.specs.Switching.{takes_on, took, taken_after}
 use Rattle.net_switch.proofs.Takes.{takes, took_none, took_here}
-use Rattle.switch_moment.specs.Takes.{FromPort, takes_from, next_frame, frames_after}
-
--- a frame that was taken with its port, of an entry
-abbrev pub told : Sent → FromPort
-told x = (x.0, frame_of x.1)
+use Rattle.switch_moment.specs.Takes.{told, takes_from, next_frame, frames_after}
 
 -- a call that took among others
 takes_before : (n : ℕ) (before es : List Event) (e : Event) → takes n e ≡ true → takes_on n before < takes_on n (before ++ e ∷ es)

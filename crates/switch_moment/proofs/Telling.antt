@@ -16,8 +16,7 @@ use Rattle.switch_desk.specs.Frames as desk
 use Rattle.switch_desk.specs.Frames.{Sent}
 use Rattle.switch_law.proofs.Going.{goes_own, goes_other, lost_nowhere, kept_somewhere}
 use Rattle.net_switch.specs.Switching.{takes_on}
-use Rattle.switch_moment.specs.Takes.{FromPort, takes_from, next_frame, frames_after, reaches, some_below, reaches_none, reaching, frames_in}
-use Rattle.switch_moment.proofs.Taking.{told}
+use Rattle.switch_moment.specs.Takes.{FromPort, told, takes_from, next_frame, frames_after, reaches, some_below, reaches_none, reaching, frames_in, sent_by}
 
 -- P of each element
 abbrev pub Each : {X : Type 0} → (X → Type 0) → List X → Type 0
@@ -136,3 +135,13 @@ lost_count macs (x ∷ xs) =
     let here : cond {A = ℕ} (desk.is_lost macs x) 1 0 ≡ cond (reaches_none macs (told x)) 1 0 = ap (λ b. cond {A = ℕ} b 1 0) (lost_same macs x) in
     let rest = lost_count macs xs in
     omega (arith, a, b, here, rest)
+
+-- the frames of one port are those of its entries
+pub sent_told : (port : ℕ) (xs : List Sent) → sent_by port (map told xs) ≡ map frame_of (desk.entries_from port xs)
+sent_told port [] = refl
+sent_told port (x ∷ xs) = by (x.0 == port) (sent_told port xs)
+  where
+    by : (b : Bool) → sent_by port (map told xs) ≡ map frame_of (desk.entries_from port xs) → frames_in (cond b (told x ∷ filter (λ (y : FromPort). y.0 == port) (map told xs)) (filter (λ (y : FromPort). y.0 == port) (map told xs)))
+        ≡ map frame_of (map (λ (y : Sent). y.1) (cond b (x ∷ filter (λ (y : Sent). y.0 == port) xs) (filter (λ (y : Sent). y.0 == port) xs)))
+    by true rest = ap (λ l. frame_of x.1 ∷ l) rest
+    by false rest = rest

@@ -7,13 +7,19 @@ use Rattle.std.specs.Option.{option_map, option_to_list}
 use Rattle.frame_core.specs.declared.mac.Mac.{Mac}
 use Rattle.wire_core.specs.declared.names.Event.{Event}
 use Rattle.buffer_kit.specs.Clients.{is_so}
+use Rattle.buffer_kit.specs.Entries.{frame_of}
 use Rattle.net_expect.specs.Expecting.{is_for_client}
+use Rattle.switch_desk.specs.Frames.{Sent}
 use Rattle.net_switch.specs.Ends.{is_take}
 use Rattle.net_switch.specs.Switching.{takes_on}
 
 -- a frame with the number of the port that sent it
 abbrev pub FromPort : Type 0
 FromPort = ℕ × List ℕ
+
+-- of an entry that the switch took
+abbrev pub told : Sent → FromPort
+told x = (x.0, frame_of x.1)
 
 -- a call takes at the queue of a port's frames
 abbrev pub takes_from : (port : ℕ) → Event → Bool

@@ -1,10 +1,88 @@
-//! What the rows of a switch and of its clients say of one moment of their system, in the words of
+//! What a switch and the clients at its ports say of one moment of their system, in the words of
 //! its ports: laws on what passed at their queues, which know no player.
 #![tactic(auto)]
 
-ghost use Rattle.std.specs.Prelude.{◌≡◌, ℕ};
+ghost use Rattle.std.specs.Prelude.{◌≡◌, ◌≤◌, ℕ, Some, List, length, map, slice_get, count_by};
+ghost use Rattle.cargo_core.specs.Lists.{IsPrefix, Merge, PrefixMerge};
+ghost use Rattle.frame_core.specs.declared.mac.Mac.{Mac};
+ghost use Rattle.ports_text.specs.declared.ports.Ports.{Ports};
+ghost use Rattle.wire_core.specs.Ends.{Role, End};
+ghost use Rattle.wire_core.specs.Lists.{Passed};
+ghost use Rattle.play_core.specs.Totals.{total};
+ghost use Rattle.client_programs.specs.declared.net.NetClient.{NetClient};
+ghost use Rattle.client_programs.specs.Net.Clients.{ClientStandsFor};
+ghost use Rattle.net_switch.specs.declared.switch.NetSwitch.{NetSwitch};
+ghost use Rattle.net_switch.specs.Switching.{all_sent};
+ghost use Rattle.switch_law.specs.Ports.{all_to};
+ghost use Rattle.switch_moment.specs.Scene.{IsSwitched, IsClientOf};
+ghost use Rattle.switch_moment.specs.Takes.{told, frames_taken, reaches_none, reaching, frames_in};
+ghost use Rattle.switch_moment.specs.Takes.{sent_by};
+ghost use Rattle.switch_moment.specs.Puts.{all_put, puts_most};
+ghost use Rattle.switch_moment.specs.Quiet.{AllRest};
 
-/// For a while.
-pub fn try_law()
-    ensures { (n : ℕ) → n ≡ n }
+use switch_law::ports_law;
+
+/// What the switch took, in the order of its takes, is told by the calls on the queues of the ports'
+/// frames and by what the ports send: of each port the first of its frames. Those that go to no
+/// port are counted as lost, each once.
+pub fn take_law()
+    ensures log { (ports : Ports) (ends : Role → ℕ → End) (v : NetSwitch) (passed : Passed)
+        → IsSwitched ports ends v passed
+        → map told (all_sent v passed) ≡ frames_taken ports.sends passed.calls }
+    ensures first { (ports : Ports) (ends : Role → ℕ → End) (v : NetSwitch) (passed : Passed)
+        → IsSwitched ports ends v passed → (port : ℕ) (frames : List (List ℕ))
+        → slice_get ports.sends port ≡ Some frames
+        → IsPrefix (sent_by port (frames_taken ports.sends passed.calls)) frames }
+    ensures few { (ports : Ports) (ends : Role → ℕ → End) (v : NetSwitch) (passed : Passed)
+        → IsSwitched ports ends v passed
+        → length (frames_taken ports.sends passed.calls) ≤ total ports.sends }
+    ensures lost { (ports : Ports) (ends : Role → ℕ → End) (v : NetSwitch) (passed : Passed)
+        → IsSwitched ports ends v passed
+        → v.desk.lost
+        ≡ count_by (reaches_none ports.macs) (frames_taken ports.sends passed.calls) }
 {}
+
+/// What a port's client recorded are the first of those frames that go there, in the order in which
+/// the switch took them; and that is a merge of beginnings of what each other port sends to it.
+pub fn record_law()
+    ensures first { (ports : Ports) (ends : Role → ℕ → End) (v : NetSwitch) (passed : Passed)
+        → IsSwitched ports ends v passed → (port : ℕ) (c : NetClient) → IsClientOf ports port c
+        → ClientStandsFor c passed → IsPrefix c.frames.tape.shown
+        (frames_in (reaching ports.macs port (frames_taken ports.sends passed.calls))) }
+    ensures merges { (ports : Ports) (ends : Role → ℕ → End) (v : NetSwitch) (passed : Passed)
+        → IsSwitched ports ends v passed → (port : ℕ) (mac : Mac)
+        → slice_get ports.macs port ≡ Some mac → (c : NetClient) → IsClientOf ports port c
+        → ClientStandsFor c passed
+        → PrefixMerge (all_to 0 port mac ports.sends) c.frames.tape.shown }
+{
+    ports_law();
+}
+
+/// No more is put to the queues than the moves that are counted: of each frame its sender's buffer
+/// and one of each other port, there and back, and once each buffer in which a port receives.
+pub fn put_law()
+    ensures { (ports : Ports) (ends : Role → ℕ → End) (v : NetSwitch) (passed : Passed)
+        → IsSwitched ports ends v passed
+        → all_put (length ports.macs) passed ≤ puts_most ports }
+{}
+
+/// Where all queues rest, the switch took every frame of every port, and each port's client
+/// recorded all that go there: a merge of the whole of what each other port sends to it.
+pub fn whole_law()
+    ensures taken { (ports : Ports) (ends : Role → ℕ → End) (v : NetSwitch) (passed : Passed)
+        → (h : IsSwitched ports ends v passed) → AllRest ports ends v passed h
+        → (port : ℕ) (frames : List (List ℕ)) → slice_get ports.sends port ≡ Some frames
+        → sent_by port (frames_taken ports.sends passed.calls) ≡ frames }
+    ensures records { (ports : Ports) (ends : Role → ℕ → End) (v : NetSwitch) (passed : Passed)
+        → (h : IsSwitched ports ends v passed) → AllRest ports ends v passed h
+        → (port : ℕ) (c : NetClient) → IsClientOf ports port c → ClientStandsFor c passed
+        → c.frames.tape.shown
+        ≡ frames_in (reaching ports.macs port (frames_taken ports.sends passed.calls)) }
+    ensures merges { (ports : Ports) (ends : Role → ℕ → End) (v : NetSwitch) (passed : Passed)
+        → (h : IsSwitched ports ends v passed) → AllRest ports ends v passed h
+        → (port : ℕ) (mac : Mac) → slice_get ports.macs port ≡ Some mac → (c : NetClient)
+        → IsClientOf ports port c → ClientStandsFor c passed
+        → Merge (all_to 0 port mac ports.sends) c.frames.tape.shown }
+{
+    ports_law();
+}
