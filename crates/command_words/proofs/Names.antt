@@ -6,9 +6,10 @@ use Rattle.std.proofs.lemmas.List.{length-map}
 use Rattle.std.proofs.Math.ListN.{drop_of_length-le}
 use Rattle.std.proofs.lemmas.Option.{slice_get_cases, slice_get_within}
 use Rattle.command_words.specs.declared.command.Options.{Options}
+use Rattle.command_words.specs.declared.command.Schedule.{Schedule}
 use Rattle.command_words.specs.Options.{no_more, IsLimit, unlimited}
 use Rattle.command_words.specs.Words.{IsName, texts_of}
-use Rattle.command_words.specs.Reading.{IsFirstBad, IsBadFrom, IsOneName, IsNameAt, AreNamed, IsBadName, Asks, OptionsAre}
+use Rattle.command_words.specs.Reading.{IsFirstBad, IsBadFrom, IsOneName, IsNameAt, AreNamed, IsBadName, Asks, OptionsAre, AsksAlone, MayAskAlone, ScheduleIs, MayBeSchedule}
 use Rattle.command_words.proofs.FirstBad.{drop-at, bad-first, bad-none, bad-behind, bad-also}
 
 -- some word that may name a text
@@ -124,5 +125,56 @@ no-limit = (None, unlimited)
 pub three-words : (words : List (String Global)) → IsNameAt (texts_of words) 2 → 3 ≤ length words
 three-words words named =
     let lt = slice_get_within (texts_of words) 2 named.0 named.1 in
+    let l : length (texts_of words) ≡ length words = simp length-map refl in
+    omega arith
+
+-- one name, and a schedule behind it
+
+no-schedule : ScheduleIs [] (record { seed = 0; steps = None })
+no-schedule = (None, no_more, refl)
+
+alone : (trace : List ℕ) (more : List (List ℕ)) (d : Schedule) → IsName trace → ScheduleIs more d → AsksAlone (trace ∷ more) d
+alone trace more d named s = record { trace = trace; more = more; words_are = refl; trace_named = named; sets = s }
+
+pub bad-text : (words : List (List ℕ)) → (IsNameAt words 1 → ⊥) → IsBadFrom 1 MayAskAlone words 1
+bad-text words bad = (
+  0,
+  refl,
+  no-name MayAskAlone words 1 (codes "a" ∷ [], (record { seed = 0; steps = None }, alone (codes "a") [] (record { seed = 0; steps = None }) a-name no-schedule))
+      (λ w more g. let e : g.1.trace ≡ w = (let f = g.1.words_are in cc) in subst (λ x. IsName x) e g.1.trace_named)
+      (λ g. let f = g.1.words_are in cc) bad,
+)
+
+module _ (words : List (List ℕ)) (named : IsNameAt words 1) where
+  text-stands : drop 1 words ≡ named.0 ∷ drop 2 words
+  text-stands = drop-at words 1 named.0 named.1
+
+  behind-text : (more : List (List ℕ)) → MayBeSchedule more ↔ MayAskAlone (named.0 ∷ more)
+  behind-text more = (
+    (λ o. (o.0, alone named.0 more o.0 named.2 o.1)),
+    (λ g. let e : g.1.more ≡ more = (let f = g.1.words_are in cc) in (g.0, subst (λ ws. ScheduleIs ws g.0) e g.1.sets)),
+  )
+
+  bad-behind-text : (k : ℕ) → IsBadFrom 2 MayBeSchedule words k → IsBadFrom 1 MayAskAlone words k
+  bad-behind-text k b = (
+    1 + b.0,
+    (let e = b.1 in omega arith),
+    subst (λ ws. IsFirstBad MayAskAlone ws (1 + b.0)) (sym text-stands)
+        (bad-behind MayAskAlone (named.0 ∷ []) (drop 2 words) b.0 (1 + b.0) refl
+        (bad-also MayBeSchedule (λ ws. MayAskAlone (named.0 ∷ ws)) behind-text (drop 2 words) b.0 b.2)),
+  )
+
+  pub ok-alone : (r : Result Schedule ℕ) → IfOk r (ScheduleIs (drop 2 words)) → IfOk r (AsksAlone (drop 1 words))
+  ok-alone (Ok d) s = subst (λ ws. AsksAlone ws d) (sym text-stands) (alone named.0 (drop 2 words) d named.2 s)
+  ok-alone (Err k) s = tt
+
+  pub err-alone : (r : Result Schedule ℕ) → IfErr r (IsBadFrom 2 MayBeSchedule words) → IfErr r (IsBadFrom 1 MayAskAlone words)
+  err-alone (Ok d) b = tt
+  err-alone (Err k) b = bad-behind-text k b
+
+-- a text that is named is word 1
+pub two-words : (words : List (String Global)) → IsNameAt (texts_of words) 1 → 2 ≤ length words
+two-words words named =
+    let lt = slice_get_within (texts_of words) 1 named.0 named.1 in
     let l : length (texts_of words) ≡ length words = simp length-map refl in
     omega arith

@@ -3,6 +3,7 @@ use Rattle.std.specs.Prelude.{◌≡◌, ◌⊎◌, ◌↔◌, ◌+◌, ◌^◌,
 use Rattle.std.specs.Prelude.{None, unwrap_or, List, [], ◌∷◌, ◌++◌, length, take, drop, slice_get}
 use Rattle.std.specs.Prelude.{codes, decimal}
 use Rattle.command_words.specs.declared.command.Options.{Options}
+use Rattle.command_words.specs.declared.command.Schedule.{Schedule}
 use Rattle.command_words.specs.declared.chosen.Name.{Name}
 use Rattle.command_words.specs.declared.chosen.Name.TheVariants as An
 use Rattle.command_words.specs.declared.chosen.Chosen.{Chosen}
@@ -136,3 +137,24 @@ AsksToRun words steps = Asks IsLimit words steps
 -- the words ask to run something
 abbrev pub MayAskToRun : List (List ℕ) → Type 0
 MayAskToRun words = (steps : Option ℕ) × AsksToRun words steps
+
+-- the words are a schedule that sets this
+abbrev pub ScheduleIs : List (List ℕ) → Schedule → Type 0
+ScheduleIs words s =
+    (seed : Option ℕ) × AreOptions words seed s.steps false × (s.seed ≡ unwrap_or seed 0)
+
+-- the words are a schedule
+abbrev pub MayBeSchedule : List (List ℕ) → Type 0
+MayBeSchedule words = (schedule : Schedule) × ScheduleIs words schedule
+
+-- the words are the name of one text, and behind it a schedule that sets this
+pub record AsksAlone (words : List (List ℕ)) (s : Schedule) : Type 0 where
+  pub trace : List ℕ
+  pub more : List (List ℕ)
+  pub words_are : words ≡ trace ∷ more
+  pub trace_named : IsName trace
+  pub sets : ScheduleIs more s
+
+-- the words ask to play something of one text
+abbrev pub MayAskAlone : List (List ℕ) → Type 0
+MayAskAlone words = (schedule : Schedule) × AsksAlone words schedule

@@ -1,12 +1,13 @@
 -- The grammar of the program's words, and the first bad word of those that have none of its forms.
-use Rattle.std.specs.Prelude.{◌≡◌, ◌+◌, ◌^◌, ◌<◌, ◌≤◌, ℕ, Option, Some, unwrap_or, List, [], ◌∷◌}
-use Rattle.std.specs.Prelude.{◌++◌, length, take, slice_get, map, string_bytes, codes, decimal}
+use Rattle.std.specs.Prelude.{◌≡◌, ◌+◌, ◌^◌, ◌<◌, ◌≤◌, ℕ, false, Option, Some, unwrap_or, List, []}
+use Rattle.std.specs.Prelude.{◌∷◌, ◌++◌, length, take, slice_get, map, string_bytes, codes, decimal}
 use Rattle.std.specs.Global.{Global}
 use Rattle.std.specs.declared.string.String.{String}
 use Rattle.cargo_core.specs.Lists.{IsPrefix}
 use Rattle.command_words.specs.declared.command.Command.{Command}
 use Rattle.command_words.specs.declared.command.Command.TheVariants as Do
 use Rattle.command_words.specs.declared.command.Options.{Options}
+use Rattle.command_words.specs.declared.command.Schedule.{Schedule}
 use Rattle.command_words.specs.Options.{AreOptions, IsLimit}
 
 -- the bytes of each word
@@ -51,6 +52,25 @@ pub record IsGen (words : List (List ℕ)) (n : ℕ) : Type 0 where
   pub words_are : words ≡ codes "gen" ∷ decimal n ∷ []
   pub small : n < 2 ^ 64
 
+-- a kind of command, the name of its one text, and options, of which none asks for the journal;
+-- without a seed it is 0
+pub record IsAlone (kind : List ℕ) (words : List (List ℕ)) (trace : List ℕ) (schedule : Schedule)
+    : Type 0 where
+  pub more : List (List ℕ)
+  pub seed : Option ℕ
+  pub words_are : words ≡ kind ∷ trace ∷ more
+  pub trace_named : IsName trace
+  pub options_are : AreOptions more seed schedule.steps false
+  pub seed_is : schedule.seed ≡ unwrap_or seed 0
+
+-- `i2c`, the name of a trace, and a schedule
+abbrev pub IsI2c : List (List ℕ) → List ℕ → Schedule → Type 0
+IsI2c words trace schedule = IsAlone (codes "i2c") words trace schedule
+
+-- `switch`, the name of a trace, and a schedule
+abbrev pub IsSwitch : List (List ℕ) → List ℕ → Schedule → Type 0
+IsSwitch words trace schedule = IsAlone (codes "switch") words trace schedule
+
 -- the words spell a command
 abbrev pub Spells : List (List ℕ) → Command → Type 0
 Spells words Do.Check = (desc : List ℕ) × IsCheck words desc
@@ -58,6 +78,8 @@ Spells words Do.Layout = (desc : List ℕ) × IsLayout words desc
 Spells words (Do.Play options) = (desc trace : List ℕ) × IsPlay words desc trace options
 Spells words (Do.Run steps) = (desc trace : List ℕ) × IsRun words desc trace steps
 Spells words (Do.Gen n) = IsGen words n
+Spells words (Do.I2c schedule) = (trace : List ℕ) × IsI2c words trace schedule
+Spells words (Do.Switch schedule) = (trace : List ℕ) × IsSwitch words trace schedule
 
 -- a command begins with these words
 abbrev pub Begins : List (List ℕ) → Type 0
@@ -82,3 +104,5 @@ last_name Do.Layout = 1
 last_name (Do.Play options) = 2
 last_name (Do.Run steps) = 2
 last_name (Do.Gen n) = 1
+last_name (Do.I2c schedule) = 1
+last_name (Do.Switch schedule) = 1

@@ -1,4 +1,4 @@
-//! The options of `play` as they are read: each at most once, in any order.
+//! The options of `play`, `i2c` and `switch` as they are read: each at most once, in any order.
 
 ghost use Rattle.std.specs.Prelude.{◌≡◌, ◌≢◌, ◌↔◌, ◌<◌, ◌≤◌, ℕ, Option, List, Some, None, true};
 ghost use Rattle.std.specs.Prelude.{false, length, IfOk, IfErr, IfSome, IfNone, unwrap_or};
@@ -6,7 +6,7 @@ ghost use Rattle.command_words.specs.Words.{texts_of};
 ghost use Rattle.command_words.specs.Reading.{text_of, IsUnset, IsNumberAt, IsBadFrom, MayFollow};
 ghost use Rattle.command_words.specs.Reading.{HasRead};
 
-use crate::command::{MOST_STEPS, Options};
+use crate::command::{MOST_STEPS, Options, Schedule};
 use crate::name::word_at;
 use crate::number::read_number;
 
@@ -35,6 +35,31 @@ impl Chosen {
             seed: None,
             steps: None,
             journal: false,
+        }
+    }
+
+    // No option was read, and the journal can't be asked for.
+    pub fn without_journal() -> Chosen
+        ensures { result ≡ record { seed = None; steps = None; journal = true } }
+    {
+        Chosen {
+            seed: None,
+            steps: None,
+            journal: true,
+        }
+    }
+
+    // What seed and limit set.
+    pub fn schedule(&self) -> Schedule
+        ensures { result ≡ record {
+          seed = unwrap_or self.now.seed 0;
+          steps = self.now.steps;
+        } }
+    {
+        let seed = self.seed.unwrap_or(0);
+        Schedule {
+            seed,
+            steps: self.steps,
         }
     }
 

@@ -7,5 +7,5 @@ mod name;
 mod number;
 mod words;
 
-pub use command::{Command, MOST_STEPS, Options};
+pub use command::{Command, MOST_STEPS, Options, Schedule};
 pub use words::{begins_run, read_words};

@@ -7,10 +7,11 @@ ghost use Rattle.command_words.specs.Words.{texts_of, Spells, IsBadWord, BeginsR
 ghost use Rattle.command_words.specs.Reading.{IsBadFrom, IsOneName, IsTheNumber, IsOneNumber};
 ghost use Rattle.command_words.specs.Reading.{AreNamed, IsBadName, AsksToPlay, MayAskToPlay};
 ghost use Rattle.command_words.specs.Reading.{AsksToRun, MayAskToRun, OptionsAre, MayBeOptions};
-ghost use Rattle.command_words.specs.Reading.{MayBeLimit};
+ghost use Rattle.command_words.specs.Reading.{MayBeLimit, AsksAlone, MayAskAlone, ScheduleIs};
+ghost use Rattle.command_words.specs.Reading.{MayBeSchedule, Follow, MayFollow};
 
 use crate::chosen::{Chosen, number_at};
-use crate::command::{Command, MOST_STEPS, Options};
+use crate::command::{Command, MOST_STEPS, Options, Schedule};
 use crate::name::{is_name_at, is_word, word_at};
 
 /// The command that the words spell, or the place of the first bad word: the least place such that
@@ -67,6 +68,12 @@ fn read_command(words: &[String]) -> Result<Command, usize>
     if is_word(name, "gen") {
         return Ok(Command::Gen(read_one_number(words)?));
     }
+    if is_word(name, "i2c") {
+        return Ok(Command::I2c(read_one_text(words)?));
+    }
+    if is_word(name, "switch") {
+        return Ok(Command::Switch(read_one_text(words)?));
+    }
     Err(0)
 }
 
@@ -96,6 +103,17 @@ fn read_name(words: &[String]) -> Result<(), usize>
         return Err(2);
     }
     Ok(())
+}
+
+// Reads what stands behind `i2c` or `switch`: one name and a schedule.
+fn read_one_text(words: &[String]) -> Result<Schedule, usize>
+    ensures ok { IfOk result (AsksAlone (drop 1 (texts_of words.now))) }
+    ensures err { IfErr result (IsBadFrom 1 MayAskAlone (texts_of words.now)) }
+{
+    if !is_name_at(words, 1) {
+        return Err(1);
+    }
+    read_schedule(words)
 }
 
 // Reads what stands behind `play`: two names and options.
@@ -136,12 +154,32 @@ fn read_options(words: &[String]) -> Result<Options, usize>
     ensures ok { IfOk result (OptionsAre (drop 3 (texts_of words.now))) }
     ensures err { IfErr result (IsBadFrom 3 MayBeOptions (texts_of words.now)) }
 {
-    let mut chosen = Chosen::nothing();
-    let mut at = 3;
+    let chosen = read_chosen(words, 3, Chosen::nothing())?;
+    Ok(chosen.options())
+}
+
+// Reads a schedule, which stands behind two words.
+fn read_schedule(words: &[String]) -> Result<Schedule, usize>
+    requires { 2 ≤ length words.now }
+    ensures ok { IfOk result (ScheduleIs (drop 2 (texts_of words.now))) }
+    ensures err { IfErr result (IsBadFrom 2 MayBeSchedule (texts_of words.now)) }
+{
+    let chosen = read_chosen(words, 2, Chosen::without_journal())?;
+    Ok(chosen.schedule())
+}
+
+// Reads all options from a place on, behind those that count as chosen.
+fn read_chosen(words: &[String], from: usize, first: Chosen) -> Result<Chosen, usize>
+    requires { from ≤ length words.now }
+    ensures ok { IfOk result (Follow first (drop from (texts_of words.now))) }
+    ensures err { IfErr result (IsBadFrom from (MayFollow first) (texts_of words.now)) }
+{
+    let mut chosen = first;
+    let mut at = from;
     while at < words.len() {
         at = chosen.read(words, at)?;
     }
-    Ok(chosen.options())
+    Ok(chosen)
 }
 
 // Reads the limit of `run`, which stands behind three words, where it is there.

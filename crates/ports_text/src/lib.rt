@@ -1,5 +1,5 @@
 //! The text of the ports of a switch: their addresses and the frames that each of them sends, one
-//! line each, and how such a text is read.
+//! line each, and how such a text is read. And what a play of the switch reports.
 #![tactic(auto)]
 
 mod address;
@@ -9,6 +9,8 @@ mod port_tests;
 mod ports;
 mod read;
 mod reader;
+mod report;
 
 pub use ports::Ports;
 pub use read::{PortFault, read_ports};
+pub use report::PortReport;

@@ -1,4 +1,4 @@
-mod LineLemmas
+pub mod LineLemmas
 mod QueueLemmas
 mod RunLemmas
 mod HexLemmas

@@ -14,5 +14,5 @@ pub use answers::{write_accepted, write_bad_trace, write_refused, write_too_long
 pub use journal::write_journal;
 pub use layout::write_layout;
 pub use place::write_place;
-pub use report::write_report;
+pub use report::{add_frames, add_head, add_pools, write_report};
 pub use summary::write_summary;

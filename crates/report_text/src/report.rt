@@ -44,8 +44,8 @@ fn add_bytes(alloc: Global, to: &mut String, bytes: &[u8]) -> Result<(), Memory>
     add_hex(alloc, to, bytes)
 }
 
-// Appends each frame on a line.
-fn add_frames(alloc: Global, to: &mut String, frames: &FrameLog) -> Result<(), Memory>
+/// Appends each frame on a line, in hexadecimal.
+pub fn add_frames(alloc: Global, to: &mut String, frames: &FrameLog) -> Result<(), Memory>
     ensures { OnOk result (string_bytes to.new ≡ string_bytes to.old
         ++ text_of (map encode_lower frames.now)) }
 {
@@ -284,7 +284,7 @@ fn add_blk(alloc: Global, to: &mut String, clients: &Series<Series<Reply>>) -> R
     Ok(())
 }
 
-// Appends where the buffers of each pool are.
+/// Appends where the buffers of each pool are, a line for each.
 pub fn add_pools(to: &mut String, pools: &Series<Census>) -> Result<(), Memory>
     ensures { OnOk result (string_bytes to.new ≡ string_bytes to.old
         ++ text_of (map pool_line pools.now)) }
@@ -295,7 +295,7 @@ pub fn add_pools(to: &mut String, pools: &Series<Census>) -> Result<(), Memory>
     Ok(())
 }
 
-// Appends the two lines with which a report begins.
+/// Appends the two lines with which a report begins: how the play ended, and its steps.
 pub fn add_head(to: &mut String, quiet: bool, steps: u64) -> Result<(), Memory>
     ensures { OnOk result (string_bytes to.new ≡ string_bytes to.old
         ++ text_of (ending_line quiet ∷ steps_line steps ∷ [])) }

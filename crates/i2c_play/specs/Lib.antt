@@ -1,0 +1,5 @@
+-- What the play of a bus is: how many steps are enough for it (Bounds), what it promises (Playing),
+-- and how its report prints (Texts).
+pub mod Bounds
+pub mod Playing
+pub mod Texts

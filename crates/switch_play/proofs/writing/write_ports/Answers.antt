@@ -1,0 +1,14 @@
+use Rattle.std.proofs.Common.{[], ◌∷◌, ◌++◌, map}
+use Rattle.report_text.specs.Reports.{ending_line, steps_line, each_numbered, pool_line}
+use Rattle.report_text.proofs.LineLemmas.{written_on}
+use Rattle.switch_play.specs.Texts.{frames_lines, lost_line}
+use Rattle.switch_play.proofs.writing.write_ports.Goals as goal
+
+pub returns : goal.returns
+returns c =
+    let r = c.args.report.now in
+    let head = ending_line r.quiet ∷ steps_line r.steps ∷ [] in
+    let a = written_on [] head _ _ c.new-text.ensures.bytes c.in_ok-add_head.ensures in
+    let b = written_on head (each_numbered frames_lines 0 r.records) _ _ a c.in_ok-add_ports.ensures in
+    let d = written_on (head ++ each_numbered frames_lines 0 r.records) (map pool_line r.pools) _ _ b c.in_ok-add_pools.ensures in
+    written_on (head ++ each_numbered frames_lines 0 r.records ++ map pool_line r.pools) (lost_line r.lost ∷ []) _ _ d c.in_ok-add_lost.ensures

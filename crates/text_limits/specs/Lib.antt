@@ -1,0 +1,2 @@
+-- The limits of what was read from a text.
+pub mod Limits
