@@ -1,5 +1,4 @@
 -- The proofs on one moment of a switch's system.
-pub mod Borrowed
 pub mod Taking
 pub mod Sized
 pub mod Ports
@@ -8,4 +7,8 @@ pub mod Telling
 pub mod Counting
 pub mod Records
 pub mod Putting
+pub mod Facts
 pub mod Still
+pub mod Meeting
+pub mod Owed
+pub mod Wanting

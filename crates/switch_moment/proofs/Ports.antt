@@ -25,7 +25,7 @@ use Rattle.switch_desk.specs.Desks.{PortStands, held_at, copy_at, owed_to}
 use Rattle.net_switch.specs.declared.switch.NetSwitch.{NetSwitch}
 use Rattle.net_switch.specs.Ends.{come_queues, back_queues, room_queues, copy_queues}
 use Rattle.net_switch.specs.Switching.{all_sent, takes_on}
-use Rattle.switch_moment.specs.Borrowed.{HandsOver}
+use Rattle.net_law.specs.Receiving.{HandsOver}
 use Rattle.switch_moment.specs.Scene.{buffers, buffer_size, AreAt, IsClientOf, HasClient, IsSwitched}
 use Rattle.switch_moment.proofs.Sized.{AreLong, own_long, gave_long}
 

@@ -1,5 +1,5 @@
 -- How many entries are put to all queues.
-use Rattle.std.proofs.Common.{◌≡◌, ◌+◌, ◌*◌, ◌<◌, ◌≤◌, ◌-◌, ◌++◌, ℕ, zero, suc, Some, List, [], ◌∷◌, length, map, slice_get, slice_index_or, length-append, refl, sym, ap, ◌∙◌, subst, arith}
+use Rattle.std.proofs.Common.{◌≡◌, ◌+◌, ◌*◌, ◌<◌, ◌≤◌, ◌-◌, ◌++◌, ℕ, zero, suc, Some, List, [], ◌∷◌, length, map, slice_get, slice_index_or, sum_by, length-append, refl, sym, ap, ◌∙◌, subst, arith}
 use Rattle.std.specs.Option.{option_to_list}
 use Rattle.std.proofs.lemmas.List.{length-map}
 use Rattle.std.proofs.lemmas.Option.{get_or_from_slice_get}
@@ -7,7 +7,6 @@ use Rattle.ports_text.specs.declared.ports.Ports.{Ports}
 use Rattle.wire_core.specs.Ends.{Role, End}
 use Rattle.wire_core.specs.Lists.{Passed}
 use Rattle.wire_core.specs.Marks.{sum_below}
-use Rattle.play_core.specs.Totals.{total}
 use Rattle.play_core.proofs.Lists.{there_below}
 use Rattle.play_core.proofs.Walks.{begins_few}
 use Rattle.buffer_kit.specs.Entries.{frame_of}
@@ -17,7 +16,7 @@ use Rattle.switch_desk.proofs.Moves.{few_given}
 use Rattle.net_switch.specs.declared.switch.NetSwitch.{NetSwitch}
 use Rattle.switch_moment.specs.Scene.{IsSwitched}
 use Rattle.switch_moment.specs.Puts.{all_put, puts_most}
-use Rattle.switch_moment.proofs.Sums.{sum_both, sum_few, sum_each, sum_total, sum_fours}
+use Rattle.switch_moment.proofs.Sums.{sum_both, sum_few, sum_each, sum_lengths, sum_fours}
 use Rattle.switch_moment.proofs.Counting.{all_copies, times_more, times_some, times_two}
 use Rattle.switch_moment.proofs.Ports.{log, flow, stands, returned, gives, own, own_many}
 use Rattle.switch_moment.proofs.Records.{puts_first, within, few_taken}
@@ -86,10 +85,10 @@ module _ (ports : Ports) (ends : Role → ℕ → End) (v : NetSwitch) (passed :
         let on = begins_few (passed.taken (4 * port + 2)) (passed.sent (4 * port + 2)) (flow ports ends v passed h 2 port) in
         omega (arith, few, parts, many, on, third_few)
 
-  none_sent : n ≡ 0 → total ports.sends ≡ 0
+  none_sent : n ≡ 0 → sum_by length ports.sends ≡ 0
   none_sent none = by ports.sends (h.playable.as_many ∙ none)
     where
-      by : (l : List (List (List ℕ))) → length l ≡ 0 → total l ≡ 0
+      by : (l : List (List (List ℕ))) → length l ≡ 0 → sum_by length l ≡ 0
       by [] e = refl
       by (x ∷ l) e = absurd (omega (arith, e))
 
@@ -100,9 +99,9 @@ module _ (ports : Ports) (ends : Role → ℕ → End) (v : NetSwitch) (passed :
       let few = sum_few (λ k. f (4 * k) + f (4 * k + 1) + f (4 * k + 2) + f (4 * k + 3)) (λ k. sends k + sends k + copies k + (copies k + 4)) n
       (λ k less. let a = first_few k less in let b = second_few k less in let c = third_few k less in let d = fourth_few k less in omega (arith, a, b, c, d)) in
       let parts = sum_parts sends copies n in
-      let all = sum_total ports.sends sends (λ k l at. let e = ap (λ (fs : List (List ℕ)). length fs) (get_or_from_slice_get ports.sends k l [] at) in omega (arith, e)) in
+      let all = sum_lengths ports.sends sends (λ k l at. let e = ap (λ (fs : List (List ℕ)). length fs) (get_or_from_slice_get ports.sends k l [] at) in omega (arith, e)) in
       let many : sum_below sends (length ports.sends) ≡ sum_below sends n = ap (sum_below sends) h.playable.as_many in
-      let most = product_few n (length (log ports ends v passed h)) (total ports.sends) (sum_below copies n)
+      let most = product_few n (length (log ports ends v passed h)) (sum_by length ports.sends) (sum_below copies n)
       (all_copies v.desk.macs.items n (log ports ends v passed h) (within ports ends v passed h)) (few_taken ports ends v passed h) none_sent in
-      let twice = times_two n (total ports.sends) in
+      let twice = times_two n (sum_by length ports.sends) in
       omega (arith, fours, few, parts, all, many, most, twice)

@@ -1,5 +1,5 @@
 -- What a port gets, and what is lost, by the frames that the switch took.
-use Rattle.std.proofs.Common.{◌≡◌, ◌+◌, ◌*◌, ◌<◌, ◌≤◌, ◌^◌, ◌-◌, ◌++◌, ℕ, Some, List, [], ◌∷◌, length, map, min, slice_get, refl, sym, ap, ◌∙◌, subst, arith}
+use Rattle.std.proofs.Common.{◌≡◌, ◌+◌, ◌*◌, ◌<◌, ◌≤◌, ◌^◌, ◌-◌, ◌++◌, ℕ, Some, List, [], ◌∷◌, length, map, min, slice_get, sum_by, refl, sym, ap, ◌∙◌, subst, arith}
 use Rattle.std.specs.List.{count_by}
 use Rattle.std.proofs.lemmas.List.{length-map}
 use Rattle.std.proofs.lemmas.List.Sums.{count_by-le-length}
@@ -10,7 +10,6 @@ use Rattle.wire_core.specs.Deeds.{Cargo}
 use Rattle.wire_core.specs.Ends.{Role, End}
 use Rattle.wire_core.specs.Lists.{Passed}
 use Rattle.wire_core.specs.Marks.{sum_below}
-use Rattle.play_core.specs.Totals.{total}
 use Rattle.play_core.proofs.Lists.{some_is, map_get, map_from, prefix_trans, there_below}
 use Rattle.play_core.proofs.Walks.{begins_few}
 use Rattle.play_core.proofs.Merges.{prefix_merge, prefix_merge_wider}
@@ -27,10 +26,11 @@ use Rattle.net_switch.specs.Ends.{come_queues}
 use Rattle.net_switch.specs.Switching.{takes_on}
 use Rattle.switch_moment.specs.Scene.{buffer_size, IsClientOf, IsSwitched}
 use Rattle.switch_moment.specs.Takes.{FromPort, told, frames_taken, reaches_none, reaching, frames_in, sent_by}
-use Rattle.switch_moment.proofs.Borrowed.{frames_are, begins_map}
+use Rattle.net_law.proofs.Filled.{frames_are}
+use Rattle.net_law.proofs.Beginnings.{begins_map}
 use Rattle.switch_moment.proofs.Taking.{taken_same}
 use Rattle.switch_moment.proofs.Sized.{AreShort, roomy}
-use Rattle.switch_moment.proofs.Sums.{sum_same, sum_total}
+use Rattle.switch_moment.proofs.Sums.{sum_same, sum_lengths}
 use Rattle.switch_moment.proofs.Telling.{each_at, frames_each, reaching_told, frames_told, sent_told, lost_count}
 use Rattle.switch_moment.proofs.Counting.{AreWithin, all_parts}
 use Rattle.switch_moment.proofs.Ports.{log, came, called, flow, holds, filled, used_long, copies, room_long, ports_many}
@@ -93,11 +93,11 @@ module _ (ports : Ports) (ends : Role → ℕ → End) (v : NetSwitch) (passed :
   }
 
   -- it took no more than all that is sent
-  pub few_taken : length taken ≤ total ports.sends
+  pub few_taken : length taken ≤ sum_by length ports.sends
   few_taken =
       let parts = all_parts (length ports.macs) taken within in
       let f : ℕ → ℕ = λ p. length (entries_from p taken) in
-      let sum = sum_total ports.sends f (λ p fs at.
+      let sum = sum_lengths ports.sends f (λ p fs at.
       let less = below p fs at in
       let e = ap (λ l. length l) (came ports ends v passed h p less) in
       let few = begins_few (map (λ (c : Cargo). frame_of c) (passed.taken (4 * p))) fs (first p fs at) in
@@ -136,7 +136,7 @@ module _ (ports : Ports) (ends : Role → ℕ → End) (v : NetSwitch) (passed :
   pub sent_first : (port : ℕ) (fs : List (List ℕ)) → slice_get ports.sends port ≡ Some fs → IsPrefix (sent_by port (frames_taken ports.sends passed.calls)) fs
   sent_first port fs at = subst (λ l. IsPrefix l fs) (sym (sent_is port (below port fs at))) (first port fs at)
 
-  pub frames_few : length (frames_taken ports.sends passed.calls) ≤ total ports.sends
+  pub frames_few : length (frames_taken ports.sends passed.calls) ≤ sum_by length ports.sends
   frames_few = let few = few_taken in let e = ap (λ l. length l) log_told in let m = length-map taken told in omega (arith, few, e, m)
 
   -- a client at the port records what comes

@@ -15,8 +15,9 @@ use Rattle.buffer_kit.specs.Pools.{given_entry}
 use Rattle.buffer_kit.specs.Stocks.{IsStart}
 use Rattle.buffer_kit.specs.declared.stock.Stock.{Stock}
 use Rattle.buffer_kit.proofs.TwoLists.{get_front, get_behind}
-use Rattle.switch_moment.specs.Borrowed.{HasRoom, IsRoomy, AreRoomy}
-use Rattle.switch_moment.proofs.Borrowed.{prefix_get, filled_at, replaced_long}
+use Rattle.net_law.specs.Receiving.{HasRoom, IsRoomy, AreRoomy}
+use Rattle.net_law.proofs.PartsLemmas.Leasing.{prefix_get}
+use Rattle.net_law.proofs.PartsLemmas.Turning.{filled_at, replaced_long}
 
 -- an entry of the network with a page as long as a buffer
 abbrev pub IsLong : (size : ℕ) → Cargo → Type 0

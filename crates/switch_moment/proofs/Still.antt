@@ -36,8 +36,9 @@ use Rattle.switch_desk.proofs.Owing.{there_found}
 use Rattle.switch_moment.specs.Scene.{IsClientOf, IsSwitched}
 use Rattle.switch_moment.specs.Takes.{frames_taken, reaching, frames_in, sent_by}
 use Rattle.switch_moment.specs.Quiet.{AllRest}
-use Rattle.switch_moment.proofs.Borrowed.{none_left}
+use Rattle.net_law.proofs.RestsLemmas.Plain.{none_left}
 use Rattle.switch_moment.proofs.Telling.{index_within}
+use Rattle.switch_moment.proofs.Facts as facts
 use Rattle.switch_moment.proofs.Records.{takes_first, comes_first, below, sent_is, recorded, there, frames_there, are_first}
 use Rattle.switch_moment.proofs.Ports.{log, came, flow, holds, stands, own, own_many, spare, spare_many, out}
 
@@ -91,7 +92,7 @@ module _ (ports : Ports) (ends : Role → ℕ → End) (v : NetSwitch) (passed :
   desk_is = h.stands.fits
 
   macs_many : length d.macs.items ≡ n
-  macs_many = ap (λ (l : List Mac). length l) h.switch.macs_are
+  macs_many = facts.macs_many ports ends v passed h
 
   -- how many passed at the four queues of a port
   module _ (port : ℕ) (less : port < n) where
@@ -177,27 +178,19 @@ module _ (ports : Ports) (ends : Role → ℕ → End) (v : NetSwitch) (passed :
 
     -- what the switch holds
     held_many : s1 + length (option_to_list (held_at d port)) ≡ t0
-    held_many =
-        let st = stands ports ends v passed h port less in
-        let all = ap (λ l. length l) (st.backs ∙ came ports ends v passed h port less) in
-        let left = length-append (passed.sent (4 * port + 1)) (option_to_list (held_at d port)) in
-        omega (arith, all, left)
+    held_many = facts.held_many ports ends v passed h port less
 
     copy_many : t3 ≡ s2 + length (option_to_list (copy_at d port))
-    copy_many =
-        let st = stands ports ends v passed h port less in
-        let left = length-append (passed.sent (4 * port + 2)) (option_to_list (copy_at d port)) in
-        let takes = st.takes in
-        omega (arith, left, takes)
+    copy_many = facts.copy_many ports ends v passed h port less
 
-    slot : (s : Slot) × (slice_get d.slots.items port ≡ Some s)
-    slot = let many = desk_is.kept.many in let e = macs_many in there_is d.slots.items port (omega (arith, less, many, e))
+    abbrev slot : (s : Slot) × (slice_get d.slots.items port ≡ Some s)
+    slot = facts.slot ports ends v passed h port less
 
     held_is : held_at d port ≡ slot.0.frame
-    held_is = ap (entry_in (λ (s : Slot). s.frame)) slot.1
+    held_is = facts.held_is ports ends v passed h port less
 
     copy_is : copy_at d port ≡ slot.0.copy
-    copy_is = ap (entry_in (λ (s : Slot). s.copy)) slot.1
+    copy_is = facts.copy_is ports ends v passed h port less
 
     -- the client is no echo
     no_echo : needs_frame c ≡ is_none c.frames.pipe.load

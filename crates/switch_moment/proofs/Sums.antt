@@ -1,6 +1,7 @@
 -- Sums over the numbers below one, and over several lists.
-use Rattle.std.proofs.Common.{◌≡◌, ◌⊎◌, ◌==◌, ◌+◌, ◌*◌, ◌<◌, ◌≤◌, ℕ, zero, suc, Bool, true, false, Some, List, [], ◌∷◌, length, slice_get, refl, sym, ap, ◌∙◌, arith, inl, inr}
+use Rattle.std.proofs.Common.{◌≡◌, ◌⊎◌, ◌==◌, ◌+◌, ◌*◌, ◌<◌, ◌≤◌, ℕ, zero, suc, Bool, true, false, Some, List, [], ◌∷◌, length, slice_get, sum_by, refl, sym, ap, ◌∙◌, arith, inl, inr}
 use Rattle.std.proofs.lemmas.Bool.{cases_lt, cases_Bool, eq-eqb, eqb-true, ne_eqb}
+use Rattle.std.proofs.lemmas.List.Sums.{sum_by-cons}
 use Rattle.wire_core.specs.Bells.{bit}
 use Rattle.wire_core.specs.Marks.{sum_below}
 use Rattle.play_core.specs.Totals.{total}
@@ -70,13 +71,21 @@ sum_but_one p s n less isnt =
     few_bit false = omega arith
 
 -- a sum of lengths
-pub sum_total : {T : Type 0} (lists : List (List T)) (f : ℕ → ℕ) → ((k : ℕ) (l : List T) → slice_get lists k ≡ Some l → f k ≤ length l) → sum_below f (length lists) ≤ total lists
+sum_total : {T : Type 0} (lists : List (List T)) (f : ℕ → ℕ) → ((k : ℕ) (l : List T) → slice_get lists k ≡ Some l → f k ≤ length l) → sum_below f (length lists) ≤ total lists
 sum_total [] f few = omega arith
 sum_total (l ∷ lists) f few =
     let front = sum_front f (length lists) in
     let here = few 0 l refl in
     let rest = sum_total lists (λ k. f (suc k)) (λ k m at. few (suc k) m at) in
     omega (arith, front, here, rest)
+
+-- the lengths of lists together
+total_sum : {T : Type 0} (lists : List (List T)) → total lists ≡ sum_by length lists
+total_sum [] = refl
+total_sum {T} (l ∷ lists) = let rest = total_sum lists in let e = sum_by-cons (λ (m : List T). length m) l lists in omega (arith, rest, e)
+
+pub sum_lengths : {T : Type 0} (lists : List (List T)) (f : ℕ → ℕ) → ((k : ℕ) (l : List T) → slice_get lists k ≡ Some l → f k ≤ length l) → sum_below f (length lists) ≤ sum_by length lists
+sum_lengths lists f few = let a = sum_total lists f few in let b = total_sum lists in omega (arith, a, b)
 
 -- a sum by fours
 pub sum_fours : (f : ℕ → ℕ) (n : ℕ) → sum_below f (4 * n) ≡ sum_below (λ k. f (4 * k) + f (4 * k + 1) + f (4 * k + 2) + f (4 * k + 3)) n

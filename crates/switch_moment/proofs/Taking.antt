@@ -12,7 +12,7 @@ use Rattle.wire_core.specs.Lists.{Lists}
 use Rattle.turn_kit.specs.ManyEnds.{AreApart}
 use Rattle.play_core.proofs.Lists.{some_is, map_get, there_is, there_below}
 use Rattle.buffer_kit.specs.Entries.{frame_of}
-use Rattle.switch_moment.proofs.Borrowed.{prefix_get}
+use Rattle.net_law.proofs.PartsLemmas.Leasing.{prefix_get}
 use Rattle.net_switch.specs.Ends.{is_take}
 use Rattle.net_switch.specs.Switching.{takes_on, took, taken_after}
 use Rattle.net_switch.proofs.Takes.{takes, took_none, took_here}

@@ -1,14 +1,15 @@
 -- The actors of a switch's system at one moment: a client at each port, the switch, and what passed
 -- between them.
 use Rattle.std.specs.Prelude.{◌≡◌, ◌+◌, ◌*◌, ◌<◌, ◌≤◌, ◌^◌, ℕ, Some, List, length, slice_get}
+use Rattle.std.specs.Prelude.{sum_by}
 use Rattle.frame_core.specs.declared.mac.Mac.{Mac}
 use Rattle.ports_text.specs.declared.ports.Ports.{Ports}
 use Rattle.wire_core.specs.declared.names.QueueId.{QueueId}
 use Rattle.wire_core.specs.Ends.{Role, End}
 use Rattle.wire_core.specs.Lists.{Passed}
-use Rattle.play_core.specs.Totals.{total}
 use Rattle.owner_law.specs.Pools.Places.{PoolAt}
-use Rattle.switch_moment.specs.Borrowed.{HandsOver, stock_pool}
+use Rattle.net_law.specs.Receiving.{HandsOver}
+use Rattle.net_law.specs.Parts.Playing.{stock_pool}
 use Rattle.client_programs.specs.declared.net.NetClient.{NetClient}
 use Rattle.client_programs.specs.declared.net.program.NetProgram.TheVariants as Kind
 use Rattle.client_programs.specs.Net.Clients.{FitsClient, ClientStandsFor, rx_active, rx_free}
@@ -31,7 +32,7 @@ pub record ArePlayable (ports : Ports) : Type 0 where
   pub as_many : length ports.sends ≡ length ports.macs
   pub short : (port : ℕ) (frames : List (List ℕ)) → slice_get ports.sends port ≡ Some frames
       → (k : ℕ) (frame : List ℕ) → slice_get frames k ≡ Some frame → length frame ≤ buffer_size
-  pub few : total ports.sends < 2 ^ 64
+  pub few : sum_by length ports.sends < 2 ^ 64
 
 -- a pool of a client, by its number: its buffers stand at offsets
 abbrev pub pool_at : ℕ → PoolAt

@@ -3,22 +3,27 @@
 #![tactic(auto)]
 
 ghost use Rattle.std.specs.Prelude.{◌≡◌, ◌≤◌, ℕ, Some, List, length, map, slice_get, count_by};
+ghost use Rattle.std.specs.Prelude.{sum_by};
 ghost use Rattle.cargo_core.specs.Lists.{IsPrefix, Merge, PrefixMerge};
 ghost use Rattle.frame_core.specs.declared.mac.Mac.{Mac};
 ghost use Rattle.ports_text.specs.declared.ports.Ports.{Ports};
 ghost use Rattle.wire_core.specs.Ends.{Role, End};
 ghost use Rattle.wire_core.specs.Lists.{Passed};
-ghost use Rattle.play_core.specs.Totals.{total};
+ghost use Rattle.wire_core.specs.Queues.{Queue, end_at};
+ghost use Rattle.play_core.specs.Moved.{Moved};
+ghost use Rattle.play_core.specs.Rests.Meeting.{Meet};
+ghost use Rattle.play_core.specs.Rests.Showing.{HaveItems};
 ghost use Rattle.client_programs.specs.declared.net.NetClient.{NetClient};
-ghost use Rattle.client_programs.specs.Net.Clients.{ClientStandsFor};
+ghost use Rattle.client_programs.specs.Net.Clients.{FitsClient, ClientStandsFor, client_round};
 ghost use Rattle.net_switch.specs.declared.switch.NetSwitch.{NetSwitch};
-ghost use Rattle.net_switch.specs.Switching.{all_sent};
+ghost use Rattle.net_switch.specs.Switching.{all_sent, switch_round};
 ghost use Rattle.switch_law.specs.Ports.{all_to};
 ghost use Rattle.switch_moment.specs.Scene.{IsSwitched, IsClientOf};
 ghost use Rattle.switch_moment.specs.Takes.{told, frames_taken, reaches_none, reaching, frames_in};
 ghost use Rattle.switch_moment.specs.Takes.{sent_by};
 ghost use Rattle.switch_moment.specs.Puts.{all_put, puts_most};
 ghost use Rattle.switch_moment.specs.Quiet.{AllRest};
+ghost use Rattle.switch_moment.specs.Wants.{client_wants, switch_wants};
 
 use switch_law::ports_law;
 
@@ -35,7 +40,7 @@ pub fn take_law()
         → IsPrefix (sent_by port (frames_taken ports.sends passed.calls)) frames }
     ensures few { (ports : Ports) (ends : Role → ℕ → End) (v : NetSwitch) (passed : Passed)
         → IsSwitched ports ends v passed
-        → length (frames_taken ports.sends passed.calls) ≤ total ports.sends }
+        → length (frames_taken ports.sends passed.calls) ≤ sum_by length ports.sends }
     ensures lost { (ports : Ports) (ends : Role → ℕ → End) (v : NetSwitch) (passed : Passed)
         → IsSwitched ports ends v passed
         → v.desk.lost
@@ -86,3 +91,17 @@ pub fn whole_law()
 {
     ports_law();
 }
+
+/// The ends of a port's client, and those of the switch, as they keep them, are those that are
+/// wanted of them by what went through the queues and by the calls.
+pub fn wants_law()
+    ensures client { (ports : Ports) (world : List Queue) (passed : Passed) (m : Moved)
+        → HaveItems passed m → (port : ℕ) (c : NetClient) → IsClientOf ports port c
+        → FitsClient (end_at world) c → ClientStandsFor c passed
+        → Meet (end_at world) (client_round c).posts (client_round c).needs
+        (client_wants port (slice_get ports.macs port) (slice_get ports.sends port) m) }
+    ensures switch { (ports : Ports) (ends : Role → ℕ → End) (v : NetSwitch) (passed : Passed)
+        → IsSwitched ports ends v passed → (m : Moved) → HaveItems passed m
+        → Meet ends (switch_round v).posts (switch_round v).needs
+        (switch_wants ports m (frames_taken ports.sends passed.calls)) }
+{}
