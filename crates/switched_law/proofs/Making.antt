@@ -1,5 +1,5 @@
 -- What an actor is, by what it is made of.
-use Rattle.std.proofs.Common.{◌≡◌, ◌+◌, ◌*◌, ◌<◌, ℕ, zero, suc, Some, List, [], ◌∷◌, length, slice_get, refl, sym, ap, ◌∙◌, subst, arith}
+use Rattle.std.proofs.Common.{◌≡◌, ◌+◌, ◌*◌, ◌<◌, ℕ, zero, suc, Option, Some, List, [], ◌∷◌, length, slice_get, refl, sym, ap, ◌∙◌, subst, arith}
 use Rattle.frame_core.specs.declared.mac.Mac.{Mac}
 use Rattle.line_text.specs.Lists.{per_client}
 use Rattle.owner_law.specs.Pools.Places.{PoolAt}
@@ -84,13 +84,13 @@ per_at zero value k less = absurd (omega (arith, less))
 per_at (suc n) value zero less = refl
 per_at (suc n) value (suc k) less = per_at n (λ c. value (suc c)) k (omega (arith, less))
 
-number : ℕ → QueueId
-number q = record { 0 = q }
+abbrev queue_some : ℕ → Option QueueId
+queue_some q = Some (record { 0 = q })
 
 are_at : (n place : ℕ) (at : ℕ → ℕ) (qs : List QueueId) → ((k : ℕ) → 4 * k + place ≡ at k) → qs ≡ queues_at n place → AreAt n at qs
 are_at n place at qs same is = record {
   many = ap (λ l. length l) is ∙ per_many n (λ port. record { 0 = 4 * port + place });
-  each = λ k less. ap (λ l. slice_get l k) is ∙ (per_at n (λ port. record { 0 = 4 * port + place }) k less ∙ ap (λ (q : ℕ). Some {X = QueueId} (record { 0 = q })) (same k));
+  each = λ k less. ap (λ l. slice_get l k) is ∙ (per_at n (λ port. record { 0 = 4 * port + place }) k less ∙ ap queue_some (same k));
 }
 
 -- an actor that is made as the switch is it

@@ -72,7 +72,7 @@ module _ (laws : Laws) (ports : Ports) (rows : List QueueRow) (start : List Memb
       let v = switch_there ports.macs now.1 (now.4 ∙ p.made.switch now.0 now.2) in
       (v.0, now.3 ∙ ap Some v.1, v.2)
 
-  pub has_client : (port : ℕ) → port < length ports.macs → HasClient ports port ends passed
+  abbrev pub has_client : (port : ℕ) → port < length ports.macs → HasClient ports port ends passed
   has_client port less =
       let c = client_at port less in
       record {
@@ -89,7 +89,7 @@ module _ (laws : Laws) (ports : Ports) (rows : List QueueRow) (start : List Memb
   same_client c d e = cc
 
   -- so the moment is one of a switch's system
-  pub switched_at : IsSwitched ports ends switch_at.0 passed
+  abbrev pub switched_at : IsSwitched ports ends switch_at.0 passed
   switched_at = record {
     playable = p.playable;
     hands_over = λ n. ((queue_at mo.world n).entries, sym (holds.stands_there n));

@@ -5,6 +5,7 @@ use Rattle.play_core.specs.Still.{IsQuiet}
 use Rattle.small_system.specs.Tales.{start_of, after_tale, journal_of, passed_by}
 use Rattle.small_system.specs.Wants.{runs_by, wanted_by, calm}
 use Rattle.switch_moment.specs.Wants.{port_wants}
+use Rattle.switched_law.specs.Playing.{IsPlayed}
 use Rattle.switched_law.proofs.Standing.{Laws, holds, many}
 use Rattle.switched_law.proofs.Wanting.{WantLaws, rests_by, rests_along}
 use Rattle.switched_law.proofs.wants_law.Goals as goal
@@ -20,8 +21,8 @@ returns-clause-rests c = λ ports rows start turns p.
       items = c.tale_law.ensures.items;
       bells = c.tale_law.ensures.bells;
       rest = c.rest_law.ensures;
-      client = c.moment_wants_law.ensures.client;
-      switch = c.moment_wants_law.ensures.switch;
+      client = c.wants_law.ensures.client;
+      switch = c.wants_law.ensures.switch;
     } in
     rests_by laws more ports rows start turns p
 
@@ -36,8 +37,8 @@ returns-clause-runs c = λ ports rows start turns p.
       items = c.tale_law.ensures.items;
       bells = c.tale_law.ensures.bells;
       rest = c.rest_law.ensures;
-      client = c.moment_wants_law.ensures.client;
-      switch = c.moment_wants_law.ensures.switch;
+      client = c.wants_law.ensures.client;
+      switch = c.wants_law.ensures.switch;
     } in
     c.tale_law.ensures.runs (port_wants ports) rows (after_tale (start_of rows start) turns) (passed_by turns) (journal_of turns) (holds laws ports rows start turns p) (rests_by laws more ports rows start turns p)
     ∙ ap (λ n. runs_by (port_wants ports) rows n (journal_of turns)) (many laws ports rows start turns p)
@@ -53,10 +54,10 @@ returns-clause-picks c = λ ports rows start turns seed p picked.
       items = c.tale_law.ensures.items;
       bells = c.tale_law.ensures.bells;
       rest = c.rest_law.ensures;
-      client = c.moment_wants_law.ensures.client;
-      switch = c.moment_wants_law.ensures.switch;
+      client = c.wants_law.ensures.client;
+      switch = c.wants_law.ensures.switch;
     } in
-    let begun = record { playable = p.playable; queues = p.queues; made = p.made; begins = p.begins; tale = tt } in
+    let begun : IsPlayed ports rows start [] = record { playable = p.playable; queues = p.queues; made = p.made; begins = p.begins; tale = tt } in
     subst (λ n. PickedFrom (runs_by (port_wants ports) rows n) seed [] (journal_of turns)) p.made.many
     (c.tale_law.ensures.picks (port_wants ports) rows (start_of rows start) [] turns seed (c.tale_law.ensures.last rows start [] p.begins tt) p.tale
     (rests_along laws more ports rows start c.tale_law.ensures.joins [] turns begun p.tale) picked)
@@ -72,8 +73,8 @@ returns-clause-quiet c = λ ports rows start turns p none.
       items = c.tale_law.ensures.items;
       bells = c.tale_law.ensures.bells;
       rest = c.rest_law.ensures;
-      client = c.moment_wants_law.ensures.client;
-      switch = c.moment_wants_law.ensures.switch;
+      client = c.wants_law.ensures.client;
+      switch = c.wants_law.ensures.switch;
     } in
     subst (λ n. IsQuiet calm (start_history rows) rows (wanted_by (port_wants ports) rows n (journal_of turns)) (journal_of turns)) p.made.many
     (c.tale_law.ensures.quiet (port_wants ports) rows start turns p.begins p.tale (rests_by laws more ports rows start turns p) none)

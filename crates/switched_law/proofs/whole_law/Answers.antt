@@ -15,7 +15,7 @@ returns-clause-taken c = λ ports rows start turns p none port frames at.
     } in
     let still = c.still_law.ensures rows start turns member_wants p.begins p.tale wants_are none in
     subst (λ xs. sent_by port xs ≡ frames) (taken_is laws ports rows start turns p)
-    (c.moment_whole_law.ensures.taken ports (ends laws ports rows start turns p) (switch_at laws ports rows start turns p).0 (passed laws ports rows start turns p) (switched_at laws ports rows start turns p) (all_rest laws ports rows start turns p c.quiet_law.ensures.rests still) port frames at)
+    (c.whole_law.ensures.taken ports (ends laws ports rows start turns p) (switch_at laws ports rows start turns p).0 (passed laws ports rows start turns p) (switched_at laws ports rows start turns p) (all_rest laws ports rows start turns p c.quiet_law.ensures.rests still) port frames at)
 
 pub returns-clause-records : goal.returns-clause-records
 returns-clause-records c = λ ports rows start turns p none port x at.
@@ -25,7 +25,7 @@ returns-clause-records c = λ ports rows start turns p none port x at.
       parts = c.tale_law.ensures.parts;
     } in
     let still = c.still_law.ensures rows start turns member_wants p.begins p.tale wants_are none in
-    c.moment_whole_law.ensures.records ports (ends laws ports rows start turns p) (switch_at laws ports rows start turns p).0 (passed laws ports rows start turns p) (switched_at laws ports rows start turns p) (all_rest laws ports rows start turns p c.quiet_law.ensures.rests still) port x (client_is laws ports rows start turns p port x at) (client_stands laws ports rows start turns p port x at)
+    c.whole_law.ensures.records ports (ends laws ports rows start turns p) (switch_at laws ports rows start turns p).0 (passed laws ports rows start turns p) (switched_at laws ports rows start turns p) (all_rest laws ports rows start turns p c.quiet_law.ensures.rests still) port x (client_is laws ports rows start turns p port x at) (client_stands laws ports rows start turns p port x at)
     ∙ ap (λ xs. frames_in (reaching ports.macs port xs)) (taken_is laws ports rows start turns p)
 
 pub returns-clause-merges : goal.returns-clause-merges
@@ -36,4 +36,4 @@ returns-clause-merges c = λ ports rows start turns p none port mac address x at
       parts = c.tale_law.ensures.parts;
     } in
     let still = c.still_law.ensures rows start turns member_wants p.begins p.tale wants_are none in
-    c.moment_whole_law.ensures.merges ports (ends laws ports rows start turns p) (switch_at laws ports rows start turns p).0 (passed laws ports rows start turns p) (switched_at laws ports rows start turns p) (all_rest laws ports rows start turns p c.quiet_law.ensures.rests still) port mac address x (client_is laws ports rows start turns p port x at) (client_stands laws ports rows start turns p port x at)
+    c.whole_law.ensures.merges ports (ends laws ports rows start turns p) (switch_at laws ports rows start turns p).0 (passed laws ports rows start turns p) (switched_at laws ports rows start turns p) (all_rest laws ports rows start turns p c.quiet_law.ensures.rests still) port mac address x (client_is laws ports rows start turns p port x at) (client_stands laws ports rows start turns p port x at)
