@@ -1,5 +1,5 @@
 -- What the switch holds of one port, and how much passed there.
-use Rattle.std.proofs.Common.{◌≡◌, ◌+◌, ◌*◌, ◌<◌, ◌++◌, ℕ, Some, List, length, slice_get, length-append, refl, sym, ap, ◌∙◌, arith}
+use Rattle.std.proofs.Common.{◌≡◌, ◌+◌, ◌*◌, ◌<◌, ℕ, Some, List, length, slice_get, length-append, ap, ◌∙◌, arith}
 use Rattle.std.specs.Option.{option_to_list}
 use Rattle.frame_core.specs.declared.mac.Mac.{Mac}
 use Rattle.ports_text.specs.declared.ports.Ports.{Ports}

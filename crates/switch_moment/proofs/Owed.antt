@@ -1,9 +1,9 @@
 -- What is owed to a port, by what the desk holds and by what was taken.
-use Rattle.std.proofs.Common.{◌≡◌, ◌⊎◌, ◌==◌, ◌&&◌, ◌||◌, ◌+◌, ◌<◌, ◌≤◌, ◌++◌, ℕ, zero, suc, Bool, true, false, not, nat_lt, cond, flat_map, slice_index_or, is_some, Option, Some, None, List, [], ◌∷◌, length, map, drop, slice_get, refl, sym, ap, ◌∙◌, subst, arith, inl, inr}
+use Rattle.std.proofs.Common.{◌≡◌, ◌==◌, ◌||◌, ◌<◌, ◌++◌, ℕ, zero, suc, Bool, true, false, nat_lt, cond, flat_map, slice_index_or, is_some, Option, Some, None, List, [], ◌∷◌, length, map, drop, refl, sym, ap, ◌∙◌, subst, arith, inl, inr}
 use Rattle.std.specs.List.{find, list_any}
 use Rattle.std.specs.Option.{option_to_list, option_map}
-use Rattle.std.proofs.lemmas.Bool.{cases_Bool, lt-ltb, le-ltb, ltb-true, eqb-true, eq-eqb}
-use Rattle.std.proofs.lemmas.List.{length-map, map-append}
+use Rattle.std.proofs.lemmas.Bool.{cases_Bool, lt-ltb, eqb-true, eq-eqb}
+use Rattle.std.proofs.lemmas.List.{map-append}
 use Rattle.std.proofs.lemmas.List.Folds.{list_any-append}
 use Rattle.wire_core.specs.Bells.{bit}
 use Rattle.wire_core.specs.Deeds.{Cargo}
@@ -14,7 +14,7 @@ use Rattle.switch_desk.specs.declared.slot.Slot.{Slot}
 use Rattle.switch_desk.specs.Frames.{Sent}
 use Rattle.switch_desk.specs.Orders.{times}
 use Rattle.switch_desk.specs.Desks.{IsDesk, held_at, owes, owed_by, owed_to, first_owing}
-use Rattle.switch_desk.proofs.Orders.{skipped, counted}
+use Rattle.switch_desk.proofs.Orders.{skipped}
 use Rattle.switch_desk.proofs.Moves.{first_held}
 use Rattle.switch_desk.proofs.Owing.{owed_first}
 use Rattle.switch_moment.specs.Takes.{FromPort, told, some_below}

@@ -1,5 +1,5 @@
 -- What the switch and the client of one port say of its four queues.
-use Rattle.std.proofs.Common.{◌≡◌, ◌+◌, ◌*◌, ◌<◌, ◌≤◌, ◌++◌, ℕ, zero, suc, Bool, Some, List, [], ◌∷◌, length, map, slice_get, slice_index_or, length-append, refl, sym, ap, ◌∙◌, subst, arith}
+use Rattle.std.proofs.Common.{◌≡◌, ◌+◌, ◌*◌, ◌<◌, ◌++◌, ℕ, zero, suc, List, length, map, sym, ap, ◌∙◌, subst, arith}
 use Rattle.std.specs.Option.{option_to_list}
 use Rattle.std.proofs.lemmas.List.{length-map}
 use Rattle.cargo_core.specs.Lists.{IsPrefix}
@@ -11,22 +11,21 @@ use Rattle.wire_core.specs.Ends.{Role, End}
 use Rattle.wire_core.specs.Lists.{Passed}
 use Rattle.play_core.proofs.Lists.{prefix_trans}
 use Rattle.buffer_kit.specs.Clients.{queue_at}
-use Rattle.buffer_kit.specs.Entries.{all_filled, frame_of}
+use Rattle.buffer_kit.specs.Entries.{all_filled}
 use Rattle.buffer_kit.specs.Pools.{given_entry}
 use Rattle.buffer_kit.specs.Stocks.{stock_list}
 use Rattle.buffer_kit.proofs.ManyClients.{queue_is}
 use Rattle.client_programs.specs.declared.net.NetClient.{NetClient}
 use Rattle.client_programs.specs.declared.net.program.ClientProgram.{ClientProgram}
 use Rattle.client_programs.specs.Net.Programs.{frames_out}
-use Rattle.client_programs.specs.Net.Clients.{ClientHolds, client_frames, client_owes, rx_active, rx_free, tx_active, tx_free}
+use Rattle.client_programs.specs.Net.Clients.{ClientHolds, client_frames, client_owes, rx_free, tx_active, tx_free}
 use Rattle.owner_law.specs.Pools.Places.{PoolAt}
-use Rattle.switch_desk.specs.Frames.{Sent, sent_to, frames_to, entries_from}
-use Rattle.switch_desk.specs.Desks.{PortStands, held_at, copy_at, owed_to}
+use Rattle.switch_desk.specs.Frames.{Sent, frames_to, entries_from}
+use Rattle.switch_desk.specs.Desks.{PortStands, held_at, copy_at}
 use Rattle.net_switch.specs.declared.switch.NetSwitch.{NetSwitch}
 use Rattle.net_switch.specs.Ends.{come_queues, back_queues, room_queues, copy_queues}
 use Rattle.net_switch.specs.Switching.{all_sent, takes_on}
-use Rattle.net_law.specs.Receiving.{HandsOver}
-use Rattle.switch_moment.specs.Scene.{buffers, buffer_size, AreAt, IsClientOf, HasClient, IsSwitched}
+use Rattle.switch_moment.specs.Scene.{buffers, buffer_size, AreAt, HasClient, IsSwitched}
 use Rattle.switch_moment.proofs.Sized.{AreLong, own_long, gave_long}
 
 -- the queue of a port

@@ -1,5 +1,5 @@
 -- How many entries are put to all queues.
-use Rattle.std.proofs.Common.{◌≡◌, ◌+◌, ◌*◌, ◌<◌, ◌≤◌, ◌-◌, ◌++◌, ℕ, zero, suc, Some, List, [], ◌∷◌, length, map, slice_get, slice_index_or, sum_by, length-append, refl, sym, ap, ◌∙◌, subst, arith}
+use Rattle.std.proofs.Common.{◌≡◌, ◌+◌, ◌*◌, ◌<◌, ◌≤◌, ◌-◌, ◌++◌, ℕ, zero, suc, List, [], ◌∷◌, length, map, slice_index_or, sum_by, length-append, refl, ap, ◌∙◌, arith}
 use Rattle.std.specs.Option.{option_to_list}
 use Rattle.std.proofs.lemmas.List.{length-map}
 use Rattle.std.proofs.lemmas.Option.{get_or_from_slice_get}
@@ -7,7 +7,6 @@ use Rattle.ports_text.specs.declared.ports.Ports.{Ports}
 use Rattle.wire_core.specs.Ends.{Role, End}
 use Rattle.wire_core.specs.Lists.{Passed}
 use Rattle.wire_core.specs.Marks.{sum_below}
-use Rattle.play_core.proofs.Lists.{there_below}
 use Rattle.play_core.proofs.Walks.{begins_few}
 use Rattle.buffer_kit.specs.Entries.{frame_of}
 use Rattle.switch_desk.specs.Frames.{sent_to}

@@ -1,5 +1,5 @@
 -- What a port gets, and what is lost, by the frames that the switch took.
-use Rattle.std.proofs.Common.{◌≡◌, ◌+◌, ◌*◌, ◌<◌, ◌≤◌, ◌^◌, ◌-◌, ◌++◌, ℕ, Some, List, [], ◌∷◌, length, map, min, slice_get, sum_by, refl, sym, ap, ◌∙◌, subst, arith}
+use Rattle.std.proofs.Common.{◌≡◌, ◌+◌, ◌*◌, ◌<◌, ◌≤◌, ◌^◌, ◌-◌, ℕ, Some, List, [], length, map, min, slice_get, sum_by, sym, ap, ◌∙◌, subst, arith}
 use Rattle.std.specs.List.{count_by}
 use Rattle.std.proofs.lemmas.List.{length-map}
 use Rattle.std.proofs.lemmas.List.Sums.{count_by-le-length}
@@ -17,20 +17,19 @@ use Rattle.owner_law.proofs.PoolsLemmas.Merging.{kept_is}
 use Rattle.buffer_kit.specs.Clients.{capped}
 use Rattle.buffer_kit.specs.Entries.{all_filled, frame_of}
 use Rattle.client_programs.specs.declared.net.NetClient.{NetClient}
-use Rattle.client_programs.specs.Net.Clients.{ClientStandsFor, rx_active}
+use Rattle.client_programs.specs.Net.Clients.{ClientStandsFor}
 use Rattle.switch_desk.specs.Frames as desk
 use Rattle.switch_desk.specs.Frames.{Sent, frames_to, entries_from, sent_to}
 use Rattle.switch_law.specs.Ports.{AreFirst, all_to}
 use Rattle.net_switch.specs.declared.switch.NetSwitch.{NetSwitch}
 use Rattle.net_switch.specs.Ends.{come_queues}
-use Rattle.net_switch.specs.Switching.{takes_on}
 use Rattle.switch_moment.specs.Scene.{buffer_size, IsClientOf, IsSwitched}
 use Rattle.switch_moment.specs.Takes.{FromPort, told, frames_taken, reaches_none, reaching, frames_in, sent_by}
 use Rattle.net_law.proofs.Filled.{frames_are}
 use Rattle.net_law.proofs.Beginnings.{begins_map}
 use Rattle.switch_moment.proofs.Taking.{taken_same}
 use Rattle.switch_moment.proofs.Sized.{AreShort, roomy}
-use Rattle.switch_moment.proofs.Sums.{sum_same, sum_lengths}
+use Rattle.switch_moment.proofs.Sums.{sum_lengths}
 use Rattle.switch_moment.proofs.Telling.{each_at, frames_each, reaching_told, frames_told, sent_told, lost_count}
 use Rattle.switch_moment.proofs.Counting.{AreWithin, all_parts}
 use Rattle.switch_moment.proofs.Ports.{log, came, called, flow, holds, filled, used_long, copies, room_long, ports_many}

@@ -1,5 +1,5 @@
 -- Where nobody is runnable, the switch took all frames, and each port got all of its own.
-use Rattle.std.proofs.Common.{◌≡◌, ◌⊎◌, ◌==◌, ◌&&◌, ◌||◌, ◌+◌, ◌*◌, ◌<◌, ◌≤◌, ◌++◌, ℕ, zero, suc, Bool, true, false, not, nat_lt, cond, flat_map, slice_index_or, is_some, is_none, Option, Some, None, List, [], ◌∷◌, length, map, drop, slice_get, length-append, refl, sym, ap, ◌∙◌, subst, arith, inl, inr}
+use Rattle.std.proofs.Common.{◌≡◌, ◌&&◌, ◌||◌, ◌+◌, ◌*◌, ◌<◌, ◌≤◌, ◌++◌, ℕ, zero, suc, Bool, true, false, not, nat_lt, cond, flat_map, slice_index_or, is_some, is_none, Option, Some, None, List, [], ◌∷◌, length, map, drop, slice_get, length-append, refl, sym, ap, ◌∙◌, subst, arith, inl, inr}
 use Rattle.std.specs.Option.{option_to_list, option_map}
 use Rattle.std.proofs.lemmas.Bool.{cases_lt, and_parts, lt-ltb}
 use Rattle.std.proofs.lemmas.List.{length-map}
@@ -10,14 +10,13 @@ use Rattle.wire_core.specs.Bells.{bit}
 use Rattle.wire_core.specs.Deeds.{Cargo}
 use Rattle.wire_core.specs.Ends.{Role, End}
 use Rattle.wire_core.specs.Lists.{Passed}
-use Rattle.play_core.proofs.Lists.{some_is, there_is, there_below}
+use Rattle.play_core.proofs.Lists.{some_is, there_below}
 use Rattle.play_core.proofs.Walks.{begins_few}
 use Rattle.play_core.proofs.OneQueue.{whole_prefix}
-use Rattle.buffer_kit.specs.Entries.{frame_of, all_filled}
-use Rattle.buffer_kit.specs.Stocks.{stock_list, IsStock}
-use Rattle.buffer_kit.specs.declared.stock.Stock.{Stock}
+use Rattle.buffer_kit.specs.Entries.{frame_of}
+use Rattle.buffer_kit.specs.Stocks.{stock_list}
 use Rattle.buffer_kit.proofs.Filling.{filled_length}
-use Rattle.buffer_kit.specs.Clients.{is_so, entry_in}
+use Rattle.buffer_kit.specs.Clients.{is_so}
 use Rattle.buffer_kit.proofs.ManyClients.{so_there}
 use Rattle.net_virt_rx.specs.Sharing.{how_many}
 use Rattle.client_programs.specs.declared.net.NetClient.{NetClient}
@@ -28,7 +27,7 @@ use Rattle.client_programs.specs.Net.Clients.{ClientStandsFor, client_owes, clie
 use Rattle.client_programs.specs.Net.Sending.{is_sending, needs_buffer, is_through}
 use Rattle.switch_desk.specs.declared.desk.Desk.{Desk}
 use Rattle.switch_desk.specs.declared.slot.Slot.{Slot}
-use Rattle.switch_desk.specs.Frames.{Sent, sent_to, frames_to, entries_from}
+use Rattle.switch_desk.specs.Frames.{Sent, sent_to, frames_to}
 use Rattle.switch_desk.specs.Desks.{IsDesk, held_at, copy_at, owes, owed_by, owed_to, first_owing, is_taking, is_returning, is_wanting, is_loaded, is_free, is_owing, is_copied, has_copy}
 use Rattle.switch_law.specs.Ports.{AreAll, all_to}
 use Rattle.net_switch.specs.declared.switch.NetSwitch.{NetSwitch}
@@ -381,7 +380,7 @@ module _ (ports : Ports) (ends : Role → ℕ → End) (v : NetSwitch) (passed :
   are_all = record {
     first = are_first ports ends v passed h;
     all = λ port fs at. (let less = below ports ends v passed h port fs at in
-    ap (map (λ (x : Cargo). frame_of x)) (came ports ends v passed h port less) ∙ (took_all port less ∙ some_is (sym (h.clients port less).is.sends ∙ at)));
+        ap (map (λ (x : Cargo). frame_of x)) (came ports ends v passed h port less) ∙ (took_all port less ∙ some_is (sym (h.clients port less).is.sends ∙ at)));
   }
 
   module _ (whole : (macs : List Mac) (receiver : ℕ) (mac : Mac) (sends : List (List (List ℕ))) (sent : List Sent) → length macs ≡ length sends → slice_get macs receiver ≡ Some mac → AreAll sends sent → Merge (all_to 0 receiver mac sends) (frames_to macs receiver sent)) where

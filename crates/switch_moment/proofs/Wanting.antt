@@ -1,5 +1,5 @@
 -- What the switch and the clients want, by what went through the queues and by the calls.
-use Rattle.std.proofs.Common.{◌≡◌, ◌==◌, ◌&&◌, ◌+◌, ◌*◌, ◌<◌, ◌++◌, ℕ, Bool, true, false, not, nat_lt, is_some, is_none, slice_index_or, Option, Some, None, List, [], ◌∷◌, length, map, drop, slice_get, refl, sym, ap, ap₂, ◌∙◌, subst, arith}
+use Rattle.std.proofs.Common.{◌≡◌, ◌==◌, ◌&&◌, ◌+◌, ◌*◌, ◌<◌, ◌++◌, ℕ, true, false, not, nat_lt, is_some, is_none, slice_index_or, Option, Some, None, List, length, map, drop, slice_get, refl, sym, ap, ap₂, ◌∙◌, subst, arith}
 use Rattle.std.specs.Option.{option_to_list}
 use Rattle.std.specs.List.{list_any}
 use Rattle.std.proofs.lemmas.Bool.{lt-ltb, le-ltb, ltb-true}
@@ -13,12 +13,12 @@ use Rattle.wire_core.specs.Lists.{Passed}
 use Rattle.wire_core.specs.Queues.{Queue, end_at}
 use Rattle.turn_kit.specs.ManyEnds.{intake_posts, outlet_posts, needs_from}
 use Rattle.play_core.specs.Moved.{Moved}
-use Rattle.play_core.specs.Wants.{Want, intake_want, outlet_want}
+use Rattle.play_core.specs.Wants.{intake_want, outlet_want}
 use Rattle.play_core.specs.Rests.Meeting.{Meet}
 use Rattle.play_core.specs.Rests.Showing.{HaveItems}
-use Rattle.play_core.proofs.Lists.{there_is, there_below}
+use Rattle.play_core.proofs.Lists.{there_is}
 use Rattle.play_core.proofs.RestsLemmas.Settling.{took, put}
-use Rattle.buffer_kit.specs.Clients.{is_so, entry_in}
+use Rattle.buffer_kit.specs.Clients.{is_so}
 use Rattle.net_expect.specs.Expecting.{Program, Source}
 use Rattle.net_law.specs.Parts.Parts.{NetPart, NetClient as ClientPart}
 use Rattle.net_law.specs.Parts.Playing.{client_part, stock_pool}
@@ -30,14 +30,14 @@ use Rattle.client_programs.specs.declared.net.program.ClientProgram.{ClientProgr
 use Rattle.client_programs.specs.Net.Programs.{program_of, is_echo}
 use Rattle.client_programs.specs.Net.Clients.{FitsClient, ClientStandsFor, client_round, rx_active, rx_free, tx_active, tx_free}
 use Rattle.switch_desk.specs.declared.slot.Slot.{Slot}
-use Rattle.switch_desk.specs.Frames.{Sent, sent_to}
+use Rattle.switch_desk.specs.Frames.{sent_to}
 use Rattle.switch_desk.specs.Desks as desk
 use Rattle.switch_desk.specs.Desks.{held_at, copy_at, owes, first_owing, is_taking, is_returning, is_wanting, is_loaded, is_copied, is_owing, has_copy, is_free}
 use Rattle.net_switch.specs.declared.switch.NetSwitch.{NetSwitch}
 use Rattle.net_switch.specs.Ends.{come_queues, back_queues, room_queues, copy_queues}
 use Rattle.net_switch.specs.Switching.{switch_round}
 use Rattle.switch_moment.specs.Scene.{pool_at, IsClientOf, IsSwitched}
-use Rattle.switch_moment.specs.Takes.{FromPort, told, frames_taken, some_below, reaching}
+use Rattle.switch_moment.specs.Takes.{FromPort, told, frames_taken, reaching}
 use Rattle.switch_moment.specs.Wants.{no_scene, client_at, client_wants, is_held, is_ready, owed_to, is_owed, owes_of, switch_wants}
 use Rattle.switch_moment.proofs.Ports.{log as log_of, stands}
 use Rattle.switch_moment.proofs.Records.{log_told}

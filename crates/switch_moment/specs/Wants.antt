@@ -1,6 +1,6 @@
 -- What each actor of a switch's system wants of its ends, by what went through the queues and by
 -- the order of the calls.
-use Rattle.std.specs.Prelude.{◌≡◌, ◌+◌, ◌*◌, ◌==◌, ◌&&◌, if◌then◌else◌, ℕ, Bool, not, nat_lt}
+use Rattle.std.specs.Prelude.{◌+◌, ◌*◌, ◌==◌, ◌&&◌, if◌then◌else◌, ℕ, Bool, not, nat_lt}
 use Rattle.std.specs.Prelude.{Option, Some, None, List, [], ◌++◌, length, drop, slice_get}
 use Rattle.std.specs.List.{list_any}
 use Rattle.frame_core.specs.declared.mac.Mac.{Mac}

@@ -1,5 +1,5 @@
 -- How many entries are put in a play, and how many ends its actors have.
-use Rattle.std.proofs.Common.{◌≡◌, ◌⊎◌, ◌==◌, ◌+◌, ◌*◌, ◌<◌, ◌≤◌, ℕ, zero, suc, Bool, true, false, Some, List, [], ◌∷◌, length, map, slice_get, refl, sym, ap, ◌∙◌, subst, arith, inl, inr}
+use Rattle.std.proofs.Common.{◌≡◌, ◌⊎◌, ◌==◌, ◌+◌, ◌*◌, ◌<◌, ◌≤◌, ℕ, zero, suc, Bool, true, false, Some, List, [], ◌∷◌, length, slice_get, refl, sym, ap, ◌∙◌, subst, arith, inl, inr}
 use Rattle.std.proofs.lemmas.Bool.{cases_Bool, cases_lt, eqb-true, ne_eqb}
 use Rattle.std.proofs.lemmas.List.{length-map}
 use Rattle.ports_text.specs.declared.ports.Ports.{Ports}
@@ -21,16 +21,20 @@ fourth : (n q : ℕ) → q < 4 * n → (c : ℕ) × (c < n) × ((q ≡ 4 * c) �
 fourth zero q less = absurd (omega (arith, less))
 fourth (suc n) q less = elim (cases_lt q (4 * n)) [
   | inl below ↦ (let rest = fourth n q below in let low = rest.1 in (rest.0, omega (arith, low), rest.2))
-  | inr past ↦ (n, omega arith, elim (cases_lt q (4 * n + 1)) [
-    | inl a ↦ inl (omega (arith, past, a))
-    | inr b ↦ inr (elim (cases_lt q (4 * n + 2)) [
-      | inl a ↦ inl (omega (arith, b, a))
-      | inr d ↦ inr (elim (cases_lt q (4 * n + 3)) [
-        | inl a ↦ inl (omega (arith, d, a))
-        | inr e ↦ inr (omega (arith, less, e))
+  | inr past ↦ (
+    n,
+    omega arith,
+    elim (cases_lt q (4 * n + 1)) [
+      | inl a ↦ inl (omega (arith, past, a))
+      | inr b ↦ inr (elim (cases_lt q (4 * n + 2)) [
+        | inl a ↦ inl (omega (arith, b, a))
+        | inr d ↦ inr (elim (cases_lt q (4 * n + 3)) [
+          | inl a ↦ inl (omega (arith, d, a))
+          | inr e ↦ inr (omega (arith, less, e))
+        ])
       ])
-    ])
-  ])
+    ],
+  )
 ]
 
 -- the two ends of a row are of two actors

@@ -1,5 +1,5 @@
 -- What an actor is, by what it is made of.
-use Rattle.std.proofs.Common.{◌≡◌, ◌+◌, ◌*◌, ◌<◌, ℕ, zero, suc, Option, Some, List, [], ◌∷◌, length, slice_get, refl, sym, ap, ◌∙◌, subst, arith}
+use Rattle.std.proofs.Common.{◌≡◌, ◌+◌, ◌*◌, ◌<◌, ℕ, zero, suc, Option, Some, List, length, slice_get, refl, ap, ◌∙◌, arith}
 use Rattle.frame_core.specs.declared.mac.Mac.{Mac}
 use Rattle.line_text.specs.Lists.{per_client}
 use Rattle.owner_law.specs.Pools.Places.{PoolAt}
@@ -12,7 +12,7 @@ use Rattle.net_switch.specs.declared.switch.NetSwitch.{NetSwitch}
 use Rattle.net_switch.specs.Ends.{come_queues, back_queues, room_queues, copy_queues}
 use Rattle.switch_class.specs.declared.member.Member.{Member}
 use Rattle.switch_class.specs.declared.member.Member.TheVariants as Members
-use Rattle.switch_class.specs.Members.{Made, Runs, Switches, made_of, pool_of}
+use Rattle.switch_class.specs.Members.{Runs, Switches, made_of, pool_of}
 use Rattle.switch_class.specs.Casting.{client_made, switch_made, queues_at}
 use Rattle.switch_moment.specs.Scene.{AreAt, IsClientOf, IsSwitchOf}
 
@@ -27,35 +27,42 @@ record HasMade (c : NetClient) (a b d e : ℕ) (p : ClientProgram) (rx tx : Pool
   tx_pool : pool_of c.outbox.stock ≡ tx
 
 client_of : (y : Member) (a b d e : ℕ) (p : ClientProgram) (rx tx : PoolAt) → made_of y ≡ Runs a b d e p rx tx → (c : NetClient) × (y ≡ Members.Client c) × HasMade c a b d e p rx tx
-client_of (Members.Client c) a b d e p rx tx h = (c, refl, record {
-  rx_active_is = cc;
-  rx_free_is = cc;
-  tx_active_is = cc;
-  tx_free_is = cc;
-  program = cc;
-  rx_pool = cc;
-  tx_pool = cc;
-})
+client_of (Members.Client c) a b d e p rx tx h = (
+  c,
+  refl,
+  record {
+    rx_active_is = cc;
+    rx_free_is = cc;
+    tx_active_is = cc;
+    tx_free_is = cc;
+    program = cc;
+    rx_pool = cc;
+    tx_pool = cc;
+  },
+)
 client_of (Members.Switch v) a b d e p rx tx h = cc
 
 -- an actor that is made as the client of a port is one
 pub client_there : (ports : Ports) (port : ℕ) (mac : Mac) (frames : List (List ℕ)) (y : Member) → slice_get ports.macs port ≡ Some mac → slice_get ports.sends port ≡ Some frames → made_of y ≡ client_made port mac frames
     → (c : NetClient) × (y ≡ Members.Client c) × IsClientOf ports port c
 client_there ports port mac frames y at sends made =
-    let c = client_of y _ _ _ _ _ _ _ made in
-    (c.0, c.1, record {
-      mac = mac;
-      frames = frames;
-      address = at;
-      sends = sends;
-      program = c.2.program;
-      tx_active_is = c.2.tx_active_is;
-      tx_free_is = c.2.tx_free_is;
-      rx_active_is = c.2.rx_active_is;
-      rx_free_is = c.2.rx_free_is;
-      rx_pool = c.2.rx_pool;
-      tx_pool = c.2.tx_pool;
-    })
+    let c = client_of y _ _ _ _ _ _ _ made in (
+      c.0,
+      c.1,
+      record {
+        mac = mac;
+        frames = frames;
+        address = at;
+        sends = sends;
+        program = c.2.program;
+        tx_active_is = c.2.tx_active_is;
+        tx_free_is = c.2.tx_free_is;
+        rx_active_is = c.2.rx_active_is;
+        rx_free_is = c.2.rx_free_is;
+        rx_pool = c.2.rx_pool;
+        tx_pool = c.2.tx_pool;
+      },
+    )
 
 -- what a switch has
 record HasQueues (v : NetSwitch) (come back room copy : List QueueId) (macs : List Mac) : Type 0 where
@@ -67,13 +74,17 @@ record HasQueues (v : NetSwitch) (come back room copy : List QueueId) (macs : Li
 
 switch_of : (y : Member) (come back room copy : List QueueId) (macs : List Mac) → made_of y ≡ Switches come back room copy macs → (v : NetSwitch) × (y ≡ Members.Switch v) × HasQueues v come back room copy macs
 switch_of (Members.Client c) come back room copy macs h = cc
-switch_of (Members.Switch v) come back room copy macs h = (v, refl, record {
-  come_is = cc;
-  back_is = cc;
-  room_is = cc;
-  copy_is = cc;
-  macs_are = cc;
-})
+switch_of (Members.Switch v) come back room copy macs h = (
+  v,
+  refl,
+  record {
+    come_is = cc;
+    back_is = cc;
+    room_is = cc;
+    copy_is = cc;
+    macs_are = cc;
+  },
+)
 
 per_many : {T : Type 0} (n : ℕ) (value : ℕ → T) → length (per_client n value) ≡ n
 per_many zero value = refl
@@ -96,11 +107,14 @@ are_at n place at qs same is = record {
 -- an actor that is made as the switch is it
 pub switch_there : (macs : List Mac) (y : Member) → made_of y ≡ switch_made macs → (v : NetSwitch) × (y ≡ Members.Switch v) × IsSwitchOf macs v
 switch_there macs y made =
-    let v = switch_of y _ _ _ _ _ made in
-    (v.0, v.1, record {
-      macs_are = v.2.macs_are;
-      come = are_at (length macs) 0 (λ port. 4 * port) (come_queues v.0.ends) (λ k. omega arith) v.2.come_is;
-      back = are_at (length macs) 1 (λ port. 4 * port + 1) (back_queues v.0.ends) (λ k. refl) v.2.back_is;
-      copy = are_at (length macs) 2 (λ port. 4 * port + 2) (copy_queues v.0.ends) (λ k. refl) v.2.copy_is;
-      room = are_at (length macs) 3 (λ port. 4 * port + 3) (room_queues v.0.ends) (λ k. refl) v.2.room_is;
-    })
+    let v = switch_of y _ _ _ _ _ made in (
+      v.0,
+      v.1,
+      record {
+        macs_are = v.2.macs_are;
+        come = are_at (length macs) 0 (λ port. 4 * port) (come_queues v.0.ends) (λ k. omega arith) v.2.come_is;
+        back = are_at (length macs) 1 (λ port. 4 * port + 1) (back_queues v.0.ends) (λ k. refl) v.2.back_is;
+        copy = are_at (length macs) 2 (λ port. 4 * port + 2) (copy_queues v.0.ends) (λ k. refl) v.2.copy_is;
+        room = are_at (length macs) 3 (λ port. 4 * port + 3) (room_queues v.0.ends) (λ k. refl) v.2.room_is;
+      },
+    )

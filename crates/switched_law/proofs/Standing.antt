@@ -1,5 +1,5 @@
 -- A moment of a play: its actors stand for what passed.
-use Rattle.std.proofs.Common.{◌≡◌, ◌⊎◌, ◌+◌, ◌<◌, ◌≤◌, ◌++◌, ℕ, suc, Some, List, [], ◌∷◌, length, slice_get, refl, sym, ap, ◌∙◌, subst, arith, inl, inr}
+use Rattle.std.proofs.Common.{◌≡◌, ◌+◌, ◌<◌, ℕ, Some, List, length, slice_get, sym, ap, ◌∙◌, subst, arith, inl, inr}
 use Rattle.std.proofs.lemmas.Bool.{cases_lt}
 use Rattle.ports_text.specs.declared.ports.Ports.{Ports}
 use Rattle.wire_core.specs.declared.names.QueueRow.{QueueRow}
@@ -9,16 +9,15 @@ use Rattle.wire_core.specs.Lists.{Passed}
 use Rattle.wire_core.specs.Queues.{queue_at, end_at}
 use Rattle.play_core.proofs.Lists.{some_is, there_is, there_below}
 use Rattle.client_programs.specs.declared.net.NetClient.{NetClient}
-use Rattle.client_programs.specs.Net.Clients.{FitsClient, ClientStandsFor}
+use Rattle.client_programs.specs.Net.Clients.{ClientStandsFor}
 use Rattle.net_switch.specs.declared.switch.NetSwitch.{NetSwitch}
 use Rattle.small_system.specs.Tales.{Moment, Turn, start_of, IsTale, after_tale, journal_of, passed_by}
 use Rattle.small_system.specs.Standing.{Begins, Holds}
-use Rattle.small_system.specs.Wants.{calls_in}
 use Rattle.switch_class.specs.declared.member.Member.{Member}
 use Rattle.switch_class.specs.declared.member.Member.TheVariants as Members
 use Rattle.switch_class.specs.Members.{member_means, made_of}
 use Rattle.switch_moment.specs.Scene.{HasClient, IsClientOf, IsSwitchOf, IsSwitched}
-use Rattle.switch_moment.specs.Takes.{FromPort, frames_taken}
+use Rattle.switch_moment.specs.Takes.{frames_taken}
 use Rattle.switched_law.specs.Playing.{IsPlayed, taken_by}
 use Rattle.switched_law.proofs.Making.{client_there, switch_there}
 

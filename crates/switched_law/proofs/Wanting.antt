@@ -1,18 +1,17 @@
 -- The ends that an actor keeps are those that it wants, by its own state and by the journal.
-use Rattle.std.proofs.Common.{◌≡◌, ◌⊎◌, ◌==◌, ◌+◌, ◌*◌, ◌<◌, ◌≤◌, ◌++◌, ℕ, zero, suc, Bool, true, false, cond, Some, List, [], ◌∷◌, length, map, slice_get, refl, sym, ap, ◌∙◌, subst, arith, append-nil, append_assoc, inl, inr}
+use Rattle.std.proofs.Common.{◌≡◌, ◌+◌, ◌++◌, ℕ, suc, Bool, cond, Some, List, [], ◌∷◌, length, map, slice_get, refl, sym, ap, ◌∙◌, subst, arith, inl, inr}
 use Rattle.std.proofs.lemmas.Bool.{cases_lt, ne_eqb, eq-eqb}
 use Rattle.ports_text.specs.declared.ports.Ports.{Ports}
 use Rattle.wire_core.specs.declared.names.QueueId.{QueueId}
 use Rattle.wire_core.specs.declared.names.QueueRow.{QueueRow}
 use Rattle.wire_core.specs.declared.names.Entry.{Entry}
-use Rattle.wire_core.specs.Ends.{Role, Consumer, Producer, End}
+use Rattle.wire_core.specs.Ends.{Role, End}
 use Rattle.wire_core.specs.Lists.{Passed}
 use Rattle.wire_core.specs.Journal.{History, start_history}
 use Rattle.wire_core.specs.Queues.{Queue, end_at}
-use Rattle.turn_kit.specs.Table.{Agrees}
 use Rattle.turn_kit.specs.Turns.{Post, is_at_rest, settled_all}
 use Rattle.turn_kit.specs.Posts.{intake_post, outlet_post}
-use Rattle.turn_kit.specs.ManyEnds.{intake_posts, outlet_posts, needs_from, intake_queues, outlet_queues}
+use Rattle.turn_kit.specs.ManyEnds.{intake_posts, outlet_posts, needs_from}
 use Rattle.turn_kit.specs.declared.ends.Intake.{Intake}
 use Rattle.turn_kit.specs.declared.ends.Outlet.{Outlet}
 use Rattle.play_core.specs.Moved.{Moved, moved}
@@ -25,21 +24,21 @@ use Rattle.client_programs.specs.Net.Clients.{FitsClient, ClientStandsFor, clien
 use Rattle.switch_desk.specs.Desks.{is_taking, is_returning, is_wanting, is_loaded}
 use Rattle.net_switch.specs.declared.switch.NetSwitch.{NetSwitch}
 use Rattle.net_switch.specs.Ends.{come_queues, back_queues, room_queues, copy_queues}
-use Rattle.net_switch.specs.Switching.{FitsSwitch, switch_round}
+use Rattle.net_switch.specs.Switching.{switch_round}
 use Rattle.small_system.specs.Tales.{Moment, Turn, start_of, IsTale, after_tale, moment_after, journal_of, passed_by, Along}
-use Rattle.small_system.specs.Standing.{Begins, Holds}
+use Rattle.small_system.specs.Standing.{Holds}
 use Rattle.small_system.specs.Wants.{RestsBy, calls_in}
 use Rattle.small_law.specs.Wants.{WantsAre}
 use Rattle.switch_class.specs.declared.member.Member.{Member}
 use Rattle.switch_class.specs.declared.member.Member.TheVariants as Members
-use Rattle.switch_class.specs.Members.{member_means, member_round}
+use Rattle.switch_class.specs.Members.{member_means}
 use Rattle.switch_moment.specs.Scene.{IsClientOf, IsSwitched}
 use Rattle.switch_moment.specs.Takes.{frames_taken}
 use Rattle.switch_moment.specs.Wants.{client_wants, switch_wants, port_wants}
 use Rattle.switch_moment.proofs.Meeting.{meet_append}
 use Rattle.switched_law.specs.Playing.{IsPlayed, taken_by}
 use Rattle.switched_law.specs.Wants.{queue_wants, member_wants}
-use Rattle.switched_law.proofs.Standing.{Laws, holds, below, client_is, switched, switch_at, client_at, many, taken_is}
+use Rattle.switched_law.proofs.Standing.{Laws, holds, below, client_is, switched, client_at, many, taken_is}
 
 -- ends of one sort, by their queues
 queues_meet : (ends : Role → ℕ → End) {X : Type 0} (post : X → Post) (queue : X → QueueId) (want : ℕ → Bool → Want) (need : ℕ → Bool) (s : ℕ) (xs : List X)

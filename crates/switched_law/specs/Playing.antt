@@ -3,7 +3,7 @@ use Rattle.std.specs.Prelude.{List, length}
 use Rattle.ports_text.specs.declared.ports.Ports.{Ports}
 use Rattle.wire_core.specs.declared.names.QueueRow.{QueueRow}
 use Rattle.wire_core.specs.declared.names.Entry.{Entry}
-use Rattle.small_system.specs.Tales.{Moment, Turn, start_of, IsTale, after_tale}
+use Rattle.small_system.specs.Tales.{Turn, start_of, IsTale, after_tale}
 use Rattle.small_system.specs.Standing.{Begins}
 use Rattle.small_system.specs.Wants.{calls_in}
 use Rattle.switch_class.specs.declared.member.Member.{Member}

@@ -35,8 +35,9 @@ use play_core::rests::rest_law;
 use small_law::{bound_law, still_law};
 use small_system::tale_law;
 use switch_class::Member;
-use switch_moment::{put_law, record_law, take_law, wants_law as moment_wants_law};
-use switch_moment::whole_law as moment_whole_law;
+use switch_moment::{
+    put_law, record_law, take_law, wants_law as moment_wants_law, whole_law as moment_whole_law,
+};
 use text_limits::{ports_frames_law, ports_limits_law};
 
 /// Ports that were read can be played.

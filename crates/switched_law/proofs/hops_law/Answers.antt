@@ -1,4 +1,4 @@
-use Rattle.std.proofs.Common.{◌≡◌, ◌+◌, ◌*◌, ◌<◌, ◌≤◌, ℕ, length, subst, arith}
+use Rattle.std.proofs.Common.{◌+◌, ◌*◌, ◌<◌, ◌≤◌, length, subst, arith}
 use Rattle.wire_core.specs.Journal.{start_history}
 use Rattle.wire_core.specs.Marks.{all_sent}
 use Rattle.small_system.specs.Tales.{journal_of}

@@ -1,4 +1,4 @@
-use Rattle.std.proofs.Common.{◌≡◌, ◌≤◌, ◌<◌, ℕ, zero, suc, Some, List, [], ◌∷◌, length, slice_get, subst, arith}
+use Rattle.std.proofs.Common.{◌≡◌, ◌≤◌, ℕ, zero, suc, Some, List, [], ◌∷◌, length, slice_get, subst, arith}
 use Rattle.std.specs.List.{All}
 use Rattle.play_core.proofs.Lists.{some_is}
 use Rattle.switched_law.proofs.playable_law.Goals as goal

@@ -1,4 +1,4 @@
-use Rattle.std.proofs.Common.{◌≡◌, ◌∙◌, ap, subst, List, ℕ}
+use Rattle.std.proofs.Common.{◌∙◌, ap, subst}
 use Rattle.std.specs.List.{count_by}
 use Rattle.cargo_core.specs.Lists.{IsPrefix}
 use Rattle.switch_moment.specs.Takes.{reaches_none, reaching, frames_in, sent_by}

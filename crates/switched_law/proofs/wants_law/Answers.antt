@@ -1,4 +1,4 @@
-use Rattle.std.proofs.Common.{◌≡◌, ◌∙◌, ap, sym, subst, length, List, [], ℕ}
+use Rattle.std.proofs.Common.{◌∙◌, ap, subst, []}
 use Rattle.wire_core.specs.Journal.{start_history}
 use Rattle.wire_core.specs.Picks.{PickedFrom}
 use Rattle.play_core.specs.Still.{IsQuiet}

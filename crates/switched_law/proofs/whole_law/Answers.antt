@@ -1,4 +1,4 @@
-use Rattle.std.proofs.Common.{◌≡◌, ◌∙◌, ap, sym, subst, List, ℕ}
+use Rattle.std.proofs.Common.{◌≡◌, ◌∙◌, ap, subst}
 use Rattle.switch_moment.specs.Takes.{reaching, frames_in, sent_by}
 use Rattle.switched_law.specs.Wants.{member_wants}
 use Rattle.switched_law.proofs.Standing.{Laws, ends, passed, switch_at, switched_at, client_is, client_stands, taken_is}
