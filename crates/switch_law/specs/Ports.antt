@@ -1,6 +1,6 @@
 -- What each port of a switch must get of what each port sends.
-use Rattle.std.specs.Prelude.{◌≡◌, ◌+◌, ◌<◌, ◌==◌, ℕ, if◌then◌else◌, Some, List, [], ◌∷◌, length, map}
-use Rattle.std.specs.Prelude.{slice_get}
+use Rattle.std.specs.Prelude.{◌≡◌, ◌+◌, ◌<◌, ◌==◌, ℕ, if◌then◌else◌, Some, List, [], ◌∷◌, length}
+use Rattle.std.specs.Prelude.{map, slice_get}
 use Rattle.cargo_core.specs.Lists.{IsPrefix}
 use Rattle.frame_core.specs.declared.mac.Mac.{Mac}
 use Rattle.wire_core.specs.Deeds.{Cargo}

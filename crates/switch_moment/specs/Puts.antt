@@ -8,7 +8,7 @@ use Rattle.ports_text.specs.declared.ports.Ports.{Ports}
 abbrev pub all_put : (ports : ℕ) → Passed → ℕ
 all_put ports passed = sum_below (λ n. length (passed.sent n)) (4 * ports)
 
--- how many are put at most, where n ports send so many frames: of each frame its sender's buffer and
--- a buffer of each other port, there and back, and once each buffer in which a port receives
+-- how many are put at most, where so many ports send so many frames: of each frame its sender's
+-- buffer and one of each other port, there and back, and once each buffer in which a port receives
 abbrev pub puts_most : Ports → ℕ
 puts_most ports = 2 * length ports.macs * sum_by length ports.sends + 4 * length ports.macs

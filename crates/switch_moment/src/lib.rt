@@ -27,9 +27,9 @@ ghost use Rattle.switch_moment.specs.Wants.{client_wants, switch_wants};
 
 use switch_law::ports_law;
 
-/// What the switch took, in the order of its takes, is told by the calls on the queues of the ports'
-/// frames and by what the ports send: of each port the first of its frames. Those that go to no
-/// port are counted as lost, each once.
+/// What the switch took, in the order of its takes, is told by the calls on the queues of the
+/// ports' frames and by what the ports send: of each port the first of its frames. Those that go to
+/// no port are counted as lost, each once.
 pub fn take_law()
     ensures log { (ports : Ports) (ends : Role → ℕ → End) (v : NetSwitch) (passed : Passed)
         → IsSwitched ports ends v passed

@@ -1,6 +1,6 @@
-//! What holds of a switch between clients, however it is played: what each port records of what each
-//! other port sends, what is lost, how many steps it takes at most, and what is done where nobody is
-//! runnable.
+//! What holds of a switch between clients, however it is played: what each port records of what
+//! each other port sends, what is lost, how many steps it takes at most, and what is done where
+//! nobody is runnable.
 #![tactic(auto)]
 
 ghost use Rattle.std.specs.Prelude.{◌≡◌, ◌+◌, ◌*◌, ◌<◌, ◌≤◌, ℕ, Some, List, [], length, slice_get};
