@@ -1,5 +1,4 @@
--- A play of a switch between clients (Playing), what each of its actors wants by its own state
--- (Wants), and what is promised of its records (Reports).
+-- A play of a switch between clients (Playing), and what each of its actors wants by its own state
+-- (Wants).
 pub mod Playing
 pub mod Wants
-pub mod Reports

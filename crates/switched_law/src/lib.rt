@@ -29,7 +29,6 @@ ghost use Rattle.switch_moment.specs.Takes.{reaches_none, reaching, frames_in, s
 ghost use Rattle.switch_moment.specs.Puts.{puts_most};
 ghost use Rattle.switch_moment.specs.Wants.{port_wants};
 ghost use Rattle.switched_law.specs.Playing.{IsPlayed, actors_after, taken_by};
-ghost use Rattle.switched_law.specs.Reports.{AreTold, AreSwitched, AllSwitched};
 
 use play_core::quiet_law;
 use play_core::rests::rest_law;
@@ -137,26 +136,6 @@ pub fn whole_law()
     still_law::<Member>();
     quiet_law();
     moment_whole_law();
-}
-
-/// What is told of the actors after any turns is what the ports' frames and the journal's takes
-/// give; and where nobody is runnable, all of it.
-pub fn report_law()
-    ensures switched { (ports : Ports) (rows : List QueueRow) (start : List Member)
-        (turns : List (Turn Member)) (records : List (List (List ℕ))) (lost : ℕ)
-        → IsPlayed ports rows start turns
-        → AreTold (actors_after rows start turns) (length ports.macs) records lost
-        → AreSwitched ports (journal_of turns) records lost }
-    ensures done { (ports : Ports) (rows : List QueueRow) (start : List Member)
-        (turns : List (Turn Member)) (records : List (List (List ℕ))) (lost : ℕ)
-        → IsPlayed ports rows start turns
-        → AreTold (actors_after rows start turns) (length ports.macs) records lost
-        → running_in member_means (after_tale (start_of rows start) turns) ≡ []
-        → AllSwitched ports (journal_of turns) records }
-{
-    place_law();
-    records_law();
-    whole_law();
 }
 
 /// Each actor rests exactly where all is settled that it wants by what went through the queues and
