@@ -25,9 +25,9 @@ IsOfNoPlan (PlayBus bus schedule) = Unit {0}
 IsOfNoPlan (PlayPorts ports schedule) = Unit {0}
 
 text-alone : (Good : List ℕ → Type 0) (Bad : List ℕ → ℕ → Type 0) (play : List ℕ → Decision) (bytes : List ℕ) (d : Decision) → ((b : List ℕ) → IsOfNoPlan (play b)) → OneTextDecides Good Bad play bytes d → IsOfNoPlan d
-text-alone Good Bad play bytes _ no (long_text_alone l) = tt
-text-alone Good Bad play bytes _ no (bad_text k l b) = tt
-text-alone Good Bad play bytes _ no (good_text l g) = no bytes
+text-alone Good Bad play bytes _ free (long_text_alone l) = tt
+text-alone Good Bad play bytes _ free (bad_text k l b) = tt
+text-alone Good Bad play bytes _ free (good_text l g) = free bytes
 
 no-plan : (a : Alone) (bytes : List ℕ) (d : Decision) → AloneDecides a bytes d → IsOfNoPlan d
 no-plan (Only.Bus schedule) bytes d h = text-alone _ _ _ bytes d (λ b. tt) h
