@@ -20,7 +20,8 @@ pub struct Fills {
 #[tactic(auto, unfolding(crate::specs::Fills::level))]
 pub fn level(journal: &[Entry], queue: usize, k: usize) -> usize
     requires { k ≤ length journal.now }
-    ensures { result ≡ level journal.now queue k }
+    ensures entries { result ≡ level journal.now queue k }
+    ensures within { result ≤ length journal.now }
 {
     let before = &journal[..k];
     count(Way::Put, queue, before).saturating_sub(count(Way::Take, queue, before))
