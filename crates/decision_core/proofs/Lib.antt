@@ -2,4 +2,5 @@ pub mod DecisionLemmas
 pub mod GenLemmas
 pub mod JudgedLemmas
 pub mod LastLemmas
+pub mod NumberedLemmas
 pub mod WordLemmas

@@ -1,5 +1,6 @@
 -- What was decided, as it is kept.
 use Rattle.std.specs.Prelude.{ℕ, Option, List, string_bytes}
+use Rattle.sdf_plan.specs.Elements.{IsNumbered}
 use Rattle.trace_text.specs.Traces.{IsReadFor}
 use Rattle.decision_core.specs.declared.deciding.Decided.{Decided}
 use Rattle.decision_core.specs.declared.deciding.Decided.TheVariants as Is
@@ -17,6 +18,11 @@ decision_of (Is.Go plan trace asked) = asked_on plan trace asked
 abbrev pub IsSound : Decided → Type 0
 IsSound (Is.Say status text) = Unit {0}
 IsSound (Is.Go plan trace asked) = IsAcceptedPlan plan × IsReadFor plan trace
+
+-- the elements of a plan that is played or run are numbered
+abbrev pub IsOfNumbered : Decided → Type 0
+IsOfNumbered (Is.Say status text) = Unit {0}
+IsOfNumbered (Is.Go plan trace asked) = IsNumbered plan
 
 -- a run is asked for
 abbrev pub AsksToRun : Decided → Type 0

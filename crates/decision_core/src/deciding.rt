@@ -10,7 +10,7 @@ ghost use Rattle.command_words.specs.Words.{texts_of, IsGen, Spells, last_name};
 ghost use Rattle.command_words.specs.declared.command.Command.{Command};
 ghost use Rattle.shelf_core.specs.Shelves.{ReadsFrom};
 ghost use Rattle.decision_core.specs.Judged.{IsAcceptedPlan};
-ghost use Rattle.decision_core.specs.Decided.{decision_of, OfEach};
+ghost use Rattle.decision_core.specs.Decided.{decision_of, OfEach, IsOfNumbered};
 ghost use Rattle.decision_core.specs.Decisions.{Say, AsksFor, Decides, TextDecides, PlanDecides};
 ghost use Rattle.decision_core.specs.Decisions.{TraceDecides, GeneratedDecides, refuses, too_long};
 ghost use Rattle.decision_core.specs.Generating.{IsSummary};
@@ -119,7 +119,9 @@ fn say_layout(alloc: Global, plan: Plan) -> Result<Decided, Memory>
 
 /// What the bytes of a trace decide for a plan.
 fn decide_trace(alloc: Global, plan: Plan, asked: Asked, bytes: &[u8]) -> Result<Decided, Memory>
-    ensures { IfOk result (λ d. TraceDecides plan asked bytes.now (decision_of d)) }
+    requires { IsNumbered plan }
+    ensures decides { IfOk result (λ d. TraceDecides plan asked bytes.now (decision_of d)) }
+    ensures numbered { IfOk result IsOfNumbered }
 {
     if bytes.len() > TEXT_MOST {
         return say_too_long(alloc);
@@ -132,7 +134,9 @@ fn decide_trace(alloc: Global, plan: Plan, asked: Asked, bytes: &[u8]) -> Result
 
 /// What the trace of `gen` decides for the plan of its description.
 fn decide_generated(alloc: Global, plan: Plan, number: u64) -> Result<Decided, Memory>
-    ensures { IfOk result (λ d. GeneratedDecides number plan (decision_of d)) }
+    requires { IsNumbered plan }
+    ensures decides { IfOk result (λ d. GeneratedDecides number plan (decision_of d)) }
+    ensures numbered { IfOk result IsOfNumbered }
 {
     let text = generate(alloc, number)?;
     decide_trace(alloc, plan, Asked::Play(Showing::Summary), text.as_bytes())
@@ -140,7 +144,9 @@ fn decide_generated(alloc: Global, plan: Plan, number: u64) -> Result<Decided, M
 
 /// What `gen` decides, by the bytes of its description.
 fn decide_gen(alloc: Global, desc: &[u8], number: u64) -> Result<Decided, Memory>
-    ensures { IfOk result (λ d. TextDecides (GeneratedDecides number) desc.now (decision_of d)) }
+    ensures decides { IfOk result (λ d. TextDecides (GeneratedDecides number) desc.now
+        (decision_of d)) }
+    ensures numbered { IfOk result IsOfNumbered }
 {
     if desc.len() > TEXT_MOST {
         return say_too_long(alloc);
@@ -159,6 +165,7 @@ fn decide_named<F: Shelf>(
     plan: Plan,
     asked: Asked,
 ) -> Result<Decided, ReadStop>
+    requires numbered { IsNumbered plan }
     requires friendly { first_rogue plan ≡ None }
     requires asks { (desc : List ℕ) × (trace : List ℕ)
         × AsksFor (texts_of words.now) desc trace asked }
@@ -167,6 +174,7 @@ fn decide_named<F: Shelf>(
     ensures reads { ReadsFrom F.text F.left F.opens F.faults F.failed
         (OpensTrace (texts_of words.now))
         (OfEach (LeavesPlan (F.text shelf.old) (texts_of words.now))) shelf.old shelf.new result }
+    ensures numbered { IfOk result IsOfNumbered }
 {
     let bytes = read_text(alloc, shelf, words[2].as_str())?;
     Ok(decide_trace(alloc, plan, asked, bytes.as_slice())?)
@@ -189,6 +197,7 @@ fn decide_asked<F: Shelf>(
     ensures reads { ReadsFrom F.text F.left F.opens F.faults F.failed
         (OpensTrace (texts_of words.now))
         (OfEach (LeavesPlan (F.text shelf.old) (texts_of words.now))) shelf.old shelf.new result }
+    ensures numbered { IfOk result IsOfNumbered }
 {
     let rogue = first_rogue(alloc, &plan)?;
     match rogue {
@@ -214,6 +223,7 @@ fn decide_plan<F: Shelf>(
     ensures reads { ReadsFrom F.text F.left F.opens F.faults F.failed
         (OpensTrace (texts_of words.now))
         (OfEach (LeavesPlan (F.text shelf.old) (texts_of words.now))) shelf.old shelf.new result }
+    ensures numbered { IfOk result IsOfNumbered }
 {
     match command {
         Command::Check => Ok(say_accepted(alloc, plan)?),
@@ -249,6 +259,7 @@ fn decide_text<F: Shelf>(
         (OpensText (texts_of words.now) text.now)
         (OfEach (LeavesText (F.text shelf.old) (texts_of words.now) text.now))
         shelf.old shelf.new result }
+    ensures numbered { IfOk result IsOfNumbered }
 {
     if text.len() > TEXT_MOST {
         return Ok(say_too_long(alloc)?);
@@ -274,6 +285,7 @@ fn decide_command<F: Shelf>(
         (OpensInTurn (WasRead (F.text shelf.old)) (texts_of words.now))
         (OfEach (ReadLast (F.text shelf.old) (texts_of words.now)))
         shelf.old shelf.new result }
+    ensures numbered { IfOk result IsOfNumbered }
 {
     let text = read_text(alloc, shelf, words[1].as_str())?;
     decide_text(alloc, shelf, words, command, text.as_slice())
@@ -296,6 +308,7 @@ pub fn decide_words<F: Shelf>(
     ensures unread { (n : ℕ) → IsGen (texts_of words.now) n → shelf.new ≡ shelf.old }
     ensures plays { (n : ℕ) → IsGen (texts_of words.now) n
         → IfOk result (λ d. IsSummary (decision_of d)) }
+    ensures numbered { IfOk result IsOfNumbered }
 {
     match read_words(words) {
         Ok(Command::Gen(number)) => Ok(decide_gen(alloc, FULL_EXAMPLE.as_bytes(), number)?),

@@ -4,16 +4,16 @@ use Rattle.decision_core.specs.Decisions.{TextDecides, GeneratedDecides, long_de
 use Rattle.decision_core.proofs.DecisionLemmas.{map-ok}
 use Rattle.decision_core.proofs.deciding.decide_gen.Goals as goal
 
-pub returns-then-desc-gt-TEXT_MOST : goal.returns-then-desc-gt-TEXT_MOST
-returns-then-desc-gt-TEXT_MOST c =
+pub returns-then-desc-gt-TEXT_MOST-clause-decides : goal.returns-then-desc-gt-TEXT_MOST-clause-decides
+returns-then-desc-gt-TEXT_MOST-clause-decides c =
     map-ok c.say_too_long.result _ _ (λ d e. subst (λ x. TextDecides (GeneratedDecides c.args.number) c.args.desc.now x) (sym e) (long_description c.if-desc-gt-TEXT_MOST.true)) c.say_too_long.ensures
 
-pub returns-in-Ok : goal.returns-in-Ok
-returns-in-Ok c =
-    map-ok c.decide_generated.result _ _ (λ d h. accepted c.in-Ok.plan (decision_of d) c.if-desc-gt-TEXT_MOST.false c.in-Ok.ensures.accepted h) c.decide_generated.ensures
+pub returns-in-Ok-clause-decides : goal.returns-in-Ok-clause-decides
+returns-in-Ok-clause-decides c =
+    map-ok c.decide_generated.result _ _ (λ d h. accepted c.in-Ok.plan (decision_of d) c.if-desc-gt-TEXT_MOST.false c.in-Ok.ensures.accepted h) c.decide_generated.ensures.decides
 
-pub returns-in-Err : goal.returns-in-Err
-returns-in-Err c =
+pub returns-in-Err-clause-decides : goal.returns-in-Err-clause-decides
+returns-in-Err-clause-decides c =
     map-ok c.say_unaccepted.result _ _
     (λ d h. subst (λ x. TextDecides (GeneratedDecides c.args.number) c.args.desc.now x) (sym h.2) (refused h.0 c.if-desc-gt-TEXT_MOST.false (c.in-Err.ensures.refused h.0 (ap Err h.1))))
     c.say_unaccepted.ensures

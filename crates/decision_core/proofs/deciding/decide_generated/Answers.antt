@@ -6,6 +6,6 @@ use Rattle.decision_core.specs.Decisions.{TraceDecides}
 use Rattle.decision_core.proofs.DecisionLemmas.{map-ok}
 use Rattle.decision_core.proofs.deciding.decide_generated.Goals as goal
 
-pub returns : goal.returns
-returns c =
-    map-ok c.decide_trace.result _ _ (λ d h. subst (λ x. TraceDecides c.args.plan (Ask.Play Show.Summary) x (decision_of d)) (c.as_bytes.ensures.value ∙ c.in_ok-text.ensures) h) c.decide_trace.ensures
+pub returns-clause-decides : goal.returns-clause-decides
+returns-clause-decides c =
+    map-ok c.decide_trace.result _ _ (λ d h. subst (λ x. TraceDecides c.args.plan (Ask.Play Show.Summary) x (decision_of d)) (c.as_bytes.ensures.value ∙ c.in_ok-text.ensures) h) c.decide_trace.ensures.decides

@@ -16,7 +16,7 @@ returns-clause-decides g c =
     let asks : AsksFor (texts_of c.args.words.now) c.requires.asks.0 c.as_str.result.now c.args.asked
     = subst (λ x. AsksFor (texts_of c.args.words.now) c.requires.asks.0 x c.args.asked) (sym c.as_str.ensures.value) (third-named c.args.words.now c.requires.asks.0 c.requires.asks.1 c.args.asked c.index-words-2.result c.requires.asks.2 c.index-words-2.is) in
     traced c.requires.asks.0 c.as_str.result.now c.in_ok-bytes.bytes c.args.asked (decision_of c.in_ok-decide_trace.field-0) asks c.requires.friendly c.in_ok-bytes.ensures.bytes
-    (subst (λ x. TraceDecides c.args.plan c.args.asked x (decision_of c.in_ok-decide_trace.field-0)) c.as_slice.ensures c.in_ok-decide_trace.ensures)
+    (subst (λ x. TraceDecides c.args.plan c.args.asked x (decision_of c.in_ok-decide_trace.field-0)) c.as_slice.ensures c.in_ok-decide_trace.ensures.decides)
 
 pub returns-in_err-bytes-clause-reads : goal.returns-in_err-bytes-clause-reads
 returns-in_err-bytes-clause-reads g c =
@@ -50,7 +50,7 @@ returns-clause-reads g c =
       asks,
       (
         rest,
-        trace-status _ _ _ _ _ status (subst (λ x. IsRead (g.F.Shelf.text c.args.shelf.now c.as_str.result.now) x) (sym c.as_slice.ensures) c.in_ok-bytes.ensures.bytes) c.in_ok-decide_trace.ensures e,
+        trace-status _ _ _ _ _ status (subst (λ x. IsRead (g.F.Shelf.text c.args.shelf.now c.as_str.result.now) x) (sym c.as_slice.ensures) c.in_ok-bytes.ensures.bytes) c.in_ok-decide_trace.ensures.decides e,
         c.in_ok-bytes.ensures.reads.opened,
       ),
     ))

@@ -3,16 +3,16 @@ use Rattle.decision_core.specs.Decisions.{TraceDecides, asked_on, long_trace, ba
 use Rattle.decision_core.proofs.DecisionLemmas.{map-ok}
 use Rattle.decision_core.proofs.deciding.decide_trace.Goals as goal
 
-pub returns-then-bytes-gt-TEXT_MOST : goal.returns-then-bytes-gt-TEXT_MOST
-returns-then-bytes-gt-TEXT_MOST c =
+pub returns-then-bytes-gt-TEXT_MOST-clause-decides : goal.returns-then-bytes-gt-TEXT_MOST-clause-decides
+returns-then-bytes-gt-TEXT_MOST-clause-decides c =
     map-ok c.say_too_long.result _ _ (λ d e. subst (λ x. TraceDecides c.args.plan c.args.asked c.args.bytes.now x) (sym e) (long_trace c.if-bytes-gt-TEXT_MOST.true)) c.say_too_long.ensures
 
-pub returns-in-Ok : goal.returns-in-Ok
-returns-in-Ok c =
+pub returns-in-Ok-clause-decides : goal.returns-in-Ok-clause-decides
+returns-in-Ok-clause-decides c =
     subst (λ t. TraceDecides c.args.plan c.args.asked c.args.bytes.now (asked_on c.args.plan t c.args.asked)) (sym c.in-Ok.ensures.trace) (good_trace c.if-bytes-gt-TEXT_MOST.false c.in-Ok.ensures.good)
 
-pub returns-in-Err : goal.returns-in-Err
-returns-in-Err c =
+pub returns-in-Err-clause-decides : goal.returns-in-Err-clause-decides
+returns-in-Err-clause-decides c =
     map-ok c.say_unread.result _ _
     (λ d h. subst (λ x. TraceDecides c.args.plan c.args.asked c.args.bytes.now x) (sym h.2) (bad_trace h.0 c.if-bytes-gt-TEXT_MOST.false (c.in-Err.ensures.bad h.0 (ap Err h.1))))
     c.say_unread.ensures

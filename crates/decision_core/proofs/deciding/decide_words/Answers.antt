@@ -15,7 +15,7 @@ pub returns-in_ok-decide_gen-in-Ok-Gen-clause-decides : goal.returns-in_ok-decid
 returns-in_ok-decide_gen-in-Ok-Gen-clause-decides g c =
     let s : Spells (texts_of c.args.words.now) (Do.Gen c.in-Ok-Gen.number) = rw c.in-Ok-Gen.field-0-is at c.in-Ok-Gen.ensures.command in
     let d = decision_of c.in_ok-decide_gen-in-Ok-Gen.field-0 in
-    generated c.in-Ok-Gen.number d s (subst (λ x. TextDecides (GeneratedDecides c.in-Ok-Gen.number) x d) c.as_bytes.ensures.value c.in_ok-decide_gen-in-Ok-Gen.ensures)
+    generated c.in-Ok-Gen.number d s (subst (λ x. TextDecides (GeneratedDecides c.in-Ok-Gen.number) x d) c.as_bytes.ensures.value c.in_ok-decide_gen-in-Ok-Gen.ensures.decides)
 
 pub returns-in_ok-decide_gen-in-Ok-Gen-clause-reads : goal.returns-in_ok-decide_gen-in-Ok-Gen-clause-reads
 returns-in_ok-decide_gen-in-Ok-Gen-clause-reads g c =
@@ -23,7 +23,7 @@ returns-in_ok-decide_gen-in-Ok-Gen-clause-reads g c =
     record {
       texts = λ n. refl;
       opened = opens_nothing (λ desc named. gen-or-named (texts_of c.args.words.now) c.in-Ok-Gen.number desc s named) refl;
-      last = λ status e. read_no_text c.in-Ok-Gen.number s (gen-unread c.in-Ok-Gen.number _ (decision_of c.in_ok-decide_gen-in-Ok-Gen.field-0) status c.in_ok-decide_gen-in-Ok-Gen.ensures e) refl refl;
+      last = λ status e. read_no_text c.in-Ok-Gen.number s (gen-unread c.in-Ok-Gen.number _ (decision_of c.in_ok-decide_gen-in-Ok-Gen.field-0) status c.in_ok-decide_gen-in-Ok-Gen.ensures.decides e) refl refl;
       calm = refl;
       stopped = tt;
     }
@@ -67,7 +67,7 @@ returns-in_err-say_usage-in-Err-clause-reads g c =
 pub returns-in_ok-decide_gen-in-Ok-Gen-clause-plays : goal.returns-in_ok-decide_gen-in-Ok-Gen-clause-plays
 returns-in_ok-decide_gen-in-Ok-Gen-clause-plays g c n is =
     let d = decision_of c.in_ok-decide_gen-in-Ok-Gen.field-0 in
-    gen-plays c.in-Ok-Gen.number d (subst (λ x. TextDecides (GeneratedDecides c.in-Ok-Gen.number) x d) c.as_bytes.ensures.value c.in_ok-decide_gen-in-Ok-Gen.ensures)
+    gen-plays c.in-Ok-Gen.number d (subst (λ x. TextDecides (GeneratedDecides c.in-Ok-Gen.number) x d) c.as_bytes.ensures.value c.in_ok-decide_gen-in-Ok-Gen.ensures.decides)
 
 pub returns-in_ok-say_usage-in-Err-clause-plays : goal.returns-in_ok-say_usage-in-Err-clause-plays
 returns-in_ok-say_usage-in-Err-clause-plays g c n is =
