@@ -19,10 +19,11 @@ abbrev pub IsSound : Decided → Type 0
 IsSound (Is.Say status text) = Unit {0}
 IsSound (Is.Go plan trace asked) = IsAcceptedPlan plan × IsReadFor plan trace
 
--- the elements of a plan that is played or run are numbered
-abbrev pub IsOfNumbered : Decided → Type 0
-IsOfNumbered (Is.Say status text) = Unit {0}
-IsOfNumbered (Is.Go plan trace asked) = IsNumbered plan
+-- what is played or run can be played: the plan is accepted, its elements are numbered, and the
+-- trace is read for it
+abbrev pub IsPlayable : Decided → Type 0
+IsPlayable (Is.Say status text) = Unit {0}
+IsPlayable (Is.Go plan trace asked) = IsAcceptedPlan plan × IsNumbered plan × IsReadFor plan trace
 
 -- a run is asked for
 abbrev pub AsksToRun : Decided → Type 0

@@ -1,5 +1,8 @@
--- What the contracts of drawn plays say: words (Words), what is drawn (Drawn), and what the words
--- decide (Deciding).
+-- What the contracts of drawn plays say: words (Words, Reading), what is drawn (Drawn), progress
+-- (Progress), what the words decide (Deciding), and what becomes of the answer (Viewed).
 pub mod Words
+pub mod Reading
 pub mod Drawn
+pub mod Progress
 pub mod Deciding
+pub mod Viewed

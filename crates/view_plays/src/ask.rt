@@ -1,133 +1,137 @@
-//! The words of a play that is drawn: those of the main program's `play`, with `html` in place of
-//! the first for a page, and behind them the picture's own options.
-ghost use Rattle.std.specs.Prelude.{◌≡◌, ◌≤◌, ◌↔◌, IsTrue, IfOk, IfErr, length, drop};
+//! The words of a play that is drawn: `play` or `html`, the names of a description and a trace, and
+//! options.
+ghost use Rattle.std.specs.Prelude.{◌≡◌, ◌≤◌, ◌++◌, IfOk, IfErr, OnOk, length, drop};
 ghost use Rattle.command_words.specs.Words.{texts_of};
-ghost use Rattle.view_plays.specs.Words.{is_own, own_at, play_words, IsRange, is_page, HasWordAt};
+ghost use Rattle.command_words.specs.Reading.{IsBadFrom};
+ghost use Rattle.view_plays.specs.Words.{Spells, IsBadWord, IsKind};
+ghost use Rattle.view_plays.specs.Words.{main_words, number_words};
+ghost use Rattle.view_plays.specs.Reading.{OptionsAre, MayBeOptions, MayAsk, Asks};
 
-use cargo_core::Memory;
+use crate::options::{Name, Setting, number_of, read_setting};
+use cargo_core::{Memory, Series};
+use command_words::{is_word, read_names, word_at};
 use std::alloc::Global;
 
-/// Which steps of a play are drawn: from the first named one up to the second, which isn't drawn;
-/// without the first from step 0 on, and without the second 2,000 steps.
-#[derive(Clone, Copy, Debug, PartialEq, Eq)]
-pub struct Range {
-    pub from: Option<u64>,
-    pub to: Option<u64>,
+/// What is drawn of a play: a page, or a picture alone; and the options, in the order in which they
+/// stand.
+#[derive(Debug, Drop)]
+pub struct Drawing {
+    pub page: bool,
+    pub settings: Series<Setting>,
 }
 
-/// What is drawn of a play.
-#[derive(Clone, Copy, Debug, PartialEq, Eq)]
-pub enum Drawing {
-    /// `play DESC TRACE`: a chart of its steps.
-    Steps(Range),
-    /// `html DESC TRACE`: a page, with the layout, that chart, the pools and the report.
-    Page(Range),
-}
-
-// Whether a word is one of the picture's own options; the journal isn't written, so its option is
-// none of the play's here.
-fn is_own(word: &str) -> bool
-    ensures { result ≡ is_own word.now }
+// Whether a page is asked for by the first word, or a picture alone.
+fn read_kind(words: &[String]) -> Result<bool, usize>
+    ensures ok { IfOk result (IsKind (texts_of words.now)) }
+    ensures err { IfErr result (IsBadWord (texts_of words.now)) }
 {
-    word == "--from" || word == "--to" || word == "--journal"
+    if words.is_empty() {
+        return Err(0);
+    }
+    let word = word_at(words, 0);
+    if is_word(word, "play") {
+        return Ok(false);
+    }
+    if is_word(word, "html") {
+        return Ok(true);
+    }
+    Err(0)
 }
 
-/// The place of the first of the picture's own options, or the number of the words.
-pub fn own_at(words: &[String]) -> usize
-    ensures place { result ≡ own_at (texts_of words.now) }
-    ensures within { result ≤ length words.now }
+// Reads the options, which stand behind three words.
+fn read_options(
+    alloc: Global,
+    words: &[String],
+) -> Result<Result<Series<Setting>, usize>, Memory>
+    requires { 3 ≤ length words.now }
+    ensures ok { IfOk result (λ read. IfOk read
+        (OptionsAre (drop 3 (texts_of words.now)))) }
+    ensures err { IfOk result (λ read. IfErr read
+        (IsBadFrom 3 MayBeOptions (texts_of words.now))) }
 {
-    for (k, word) in words.iter().enumerate() {
-        if is_own(word.as_str()) {
-            return k;
+    let mut settings = Series::new(alloc);
+    let mut at = 3;
+    while at < words.len() {
+        match read_setting(words, at, settings.as_slice()) {
+            Ok((setting, next)) => {
+                settings.push(setting)?;
+                at = next;
+            }
+            Err(place) => return Ok(Err(place)),
         }
     }
-    words.len()
+    Ok(Ok(settings))
 }
 
-/// The words of the main program that play what these draw: `play` in place of the first, and the
-/// others up to the picture's own.
-pub fn play_words(alloc: Global, words: &[String], own: usize) -> Result<Vec<String>, Memory>
-    requires { own ≤ length words.now }
+// Reads what stands behind the first word: two names and options.
+fn read_behind(
+    alloc: Global,
+    words: &[String],
+) -> Result<Result<Series<Setting>, usize>, Memory>
+    ensures ok { IfOk result (λ read. IfOk read
+        (Asks OptionsAre (drop 1 (texts_of words.now)))) }
+    ensures err { IfOk result (λ read. IfErr read
+        (IsBadFrom 1 MayAsk (texts_of words.now))) }
+{
+    if let Err(place) = read_names(words) {
+        return Ok(Err(place));
+    }
+    read_options(alloc, words)
+}
+
+/// What the words ask for, or the place of the first bad word, counted from 0: the least place such
+/// that neither form begins with the words up to it, or the number of the words where a form begins
+/// with all of them and they are none.
+pub fn read_drawing(
+    alloc: Global,
+    words: &[String],
+) -> Result<Result<Drawing, usize>, Memory>
+    ensures ok { IfOk result (λ read. IfOk read (Spells (texts_of words.now))) }
+    ensures err { IfOk result (λ read. IfErr read (IsBadWord (texts_of words.now))) }
+{
+    let page = match read_kind(words) {
+        Ok(page) => page,
+        Err(place) => return Ok(Err(place)),
+    };
+    match read_behind(alloc, words)? {
+        Ok(settings) => Ok(Ok(Drawing { page, settings })),
+        Err(place) => Ok(Err(place)),
+    }
+}
+
+// Appends the words of an option of the main program, where it is set.
+fn add_option(
+    alloc: Global,
+    main: &mut Vec<String>,
+    name: &str,
+    number: Option<u64>,
+) -> Result<(), Memory>
+    ensures { OnOk result (texts_of main.new
+        ≡ texts_of main.old ++ number_words name.now number) }
+{
+    if let Some(number) = number {
+        main.push(String::from_str(alloc, name)?)?;
+        main.push(format!(in alloc; "{number}")?)?;
+    }
+    Ok(())
+}
+
+/// The words by which the main program plays the same: `play`, the two names, and the seed and the
+/// limit of steps where they are set.
+pub fn main_words(
+    alloc: Global,
+    words: &[String],
+    settings: &[Setting],
+) -> Result<Vec<String>, Memory>
+    requires { 3 ≤ length words.now }
     ensures { IfOk result (λ main. texts_of main.items
-        ≡ play_words own (texts_of words.now)) }
+        ≡ main_words (texts_of words.now) settings.now) }
 {
     let mut main = Vec::new(alloc);
     main.push(String::from_str(alloc, "play")?)?;
-    for k in 1..own {
-        main.push(String::from_str(alloc, words[k].as_str())?)?;
-    }
+    main.push(String::from_str(alloc, word_at(words, 1))?)?;
+    main.push(String::from_str(alloc, word_at(words, 2))?)?;
+    add_option(alloc, &mut main, "--seed", number_of(settings, Name::Seed))?;
+    add_option(alloc, &mut main, "--steps", number_of(settings, Name::Steps))?;
     Ok(main)
-}
-
-// Whether there is a word at a place, and it is this one.
-fn has_word_at(words: &[String], at: usize, word: &str) -> bool
-    ensures { IsTrue result ↔ HasWordAt (texts_of words.now) at word.now }
-{
-    words.get(at).is_some_and(|w| w.as_str() == word)
-}
-
-// The number that a word spells in decimal, without a sign or leading zeros.
-fn number_of(alloc: Global, word: &str) -> Result<Option<u64>, Memory> {
-    let Ok(number) = word.parse::<u64>() else {
-        return Ok(None);
-    };
-    let spelled = format!(in alloc; "{number}")?;
-    Ok(if spelled.as_str() == word {
-        Some(number)
-    } else {
-        None
-    })
-}
-
-// The number behind an option that may stand at a place, and the place behind both; or the place of
-// the word that is none.
-fn option_at(
-    alloc: Global,
-    words: &[String],
-    at: usize,
-    name: &str,
-) -> Result<Result<(Option<u64>, usize), usize>, Memory> {
-    if !has_word_at(words, at, name) {
-        return Ok(Ok((None, at)));
-    }
-    if at + 1 >= words.len() {
-        return Ok(Err(at + 1));
-    }
-    match number_of(alloc, words[at + 1].as_str())? {
-        Some(number) => Ok(Ok((Some(number), at + 2))),
-        None => Ok(Err(at + 1)),
-    }
-}
-
-/// The steps that the picture's own options name, from their place on: `--from N`, `--to N`, in
-/// this order, each or none; or the place of a word that is none of them.
-pub fn read_range(
-    alloc: Global,
-    words: &[String],
-    own: usize,
-) -> Result<Result<Range, usize>, Memory>
-    requires { own ≤ length words.now }
-    ensures { IfOk result (λ read. IfOk read (λ range.
-        IsRange (drop own (texts_of words.now)) range.from range.to)) }
-{
-    let (from, at) = match option_at(alloc, words, own, "--from")? {
-        Ok(read) => read,
-        Err(k) => return Ok(Err(k)),
-    };
-    let (to, at) = match option_at(alloc, words, at, "--to")? {
-        Ok(read) => read,
-        Err(k) => return Ok(Err(k)),
-    };
-    if at < words.len() {
-        return Ok(Err(at));
-    }
-    Ok(Ok(Range { from, to }))
-}
-
-/// Whether a page is asked for, and not a chart alone.
-pub fn is_page(words: &[String]) -> bool
-    ensures { IsTrue result ↔ HasWordAt (texts_of words.now) 0 (codes "html") }
-{
-    has_word_at(words, 0, "html")
 }

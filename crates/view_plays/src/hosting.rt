@@ -1,11 +1,13 @@
-//! The program on a machine.
-use crate::viewing::view_play;
+//! The program on a machine: its words are the arguments behind its name, its texts are files, what
+//! it shows goes to standard output, and lines of refusal and of progress to standard error.
+use crate::viewing::view_any;
 use shelf_core::{FileShelf, OutSink};
 use std::rt::{Env, Files};
 use std::{env, io};
-use view_core::{ErrSink, view};
+use view_core::ErrSink;
 
-/// The status where the system doesn't give the words as texts.
+/// The status where the system doesn't give the words as texts: memory was refused, or one isn't in
+/// UTF-8. No word can be judged then.
 const NO_WORDS: u8 = 9;
 
 // The words of the program: the arguments behind its name.
@@ -17,15 +19,9 @@ fn words_of<R: Env + AllocGlobal>(rt: &R) -> io::Result<Vec<String>> {
     Ok(words)
 }
 
-// Whether a play is to be drawn.
-fn draws_play(words: &[String]) -> bool {
-    words
-        .first()
-        .is_some_and(|w| w.as_str() == "play" || w.as_str() == "html")
-}
-
 /// Does what the arguments behind the program's name ask for, over files, standard output and
-/// standard error, and answers the status with which the program ends.
+/// standard error, and answers the status with which the program ends. No contract tells what
+/// arguments, files and streams hold: what is promised stands at `view_any`, which it calls on them.
 pub fn plays_host<R: Env + Files + Print + Eprint + AllocGlobal>(rt: &R) -> u8 {
     let Ok(words) = words_of(rt) else {
         return NO_WORDS;
@@ -33,10 +29,5 @@ pub fn plays_host<R: Env + Files + Print + Eprint + AllocGlobal>(rt: &R) -> u8 {
     let mut shelf = FileShelf::new(rt);
     let mut out = OutSink::new(rt);
     let mut err = ErrSink::new(rt);
-    let alloc = rt.alloc();
-    if draws_play(&words) {
-        view_play(alloc, &words, &mut shelf, &mut out, &mut err).code()
-    } else {
-        view(alloc, &words, &mut shelf, &mut out, &mut err).code()
-    }
+    view_any(rt.alloc(), &words, &mut shelf, &mut out, &mut err)
 }
