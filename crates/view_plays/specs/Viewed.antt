@@ -8,7 +8,7 @@ use Rattle.decision_core.specs.declared.status.Status.{Status}
 use Rattle.decision_core.specs.declared.status.Status.TheVariants as Ended
 use Rattle.view_plays.specs.Deciding.{Answered, Drawn, Refused, DrawsPlay, OpensFor}
 use Rattle.view_plays.specs.Progress.{IsProgress}
-use Rattle.view_plays.specs.Words.{IsKind}
+use Rattle.play_words.specs.Words.{IsKind}
 
 -- a text was written to its end, or only its beginning, where the sink failed last
 pub data IsTold {K : Type 0} (written : K → Option (List ℕ)) (faults : K → ℕ) (failed : K → Bool)

@@ -2,18 +2,12 @@
 //! What is played is what the main program plays for the same words.
 #![tactic(auto)]
 
-mod ask;
-mod drawing;
 mod hosting;
-mod options;
 mod playing;
 mod progress;
 mod viewing;
 
-pub use ask::{Drawing, main_words, read_drawing};
-pub use drawing::draw_play;
 pub use hosting::plays_host;
-pub use options::{Name, Setting};
 pub use playing::{Reply, decide_play};
 pub use progress::played_told;
 pub use viewing::{view_any, view_play};

@@ -3,9 +3,9 @@ ghost use Rattle.std.specs.Prelude.{◌≡◌, ◌≢◌, ◌<◌, ℕ, List, So
 ghost use Rattle.std.specs.Prelude.{length, slice_get};
 ghost use Rattle.command_words.specs.Words.{texts_of};
 ghost use Rattle.command_words.specs.Reading.{IsBadFrom};
-ghost use Rattle.view_plays.specs.Words.{text_of, takes_number, least_of, most_of, same_name};
-ghost use Rattle.view_plays.specs.Words.{number_of, AreFit};
-ghost use Rattle.view_plays.specs.Reading.{MayFollow, HasRead};
+ghost use Rattle.play_words.specs.Words.{text_of, takes_number, least_of, most_of, same_name};
+ghost use Rattle.play_words.specs.Words.{number_of, AreFit};
+ghost use Rattle.play_words.specs.Reading.{MayFollow, HasRead};
 
 use command_words::{MOST_STEPS, number_at, word_at};
 

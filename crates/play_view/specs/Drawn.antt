@@ -16,10 +16,10 @@ use Rattle.fill_picture.specs.Fills.{counts_of as fills_of}
 use Rattle.play_picture.specs.Pictures.{picture_of}
 use Rattle.pool_picture.specs.Pictures.{picture_of as pools_of}
 use Rattle.layout_view.specs.Drawn.{layout_shapes}
-use Rattle.view_plays.specs.declared.ask.Drawing.{Drawing}
-use Rattle.view_plays.specs.declared.options.Name.TheVariants as An
-use Rattle.view_plays.specs.declared.options.Setting.{Setting}
-use Rattle.view_plays.specs.Words.{number_of}
+use Rattle.play_words.specs.declared.ask.Drawing.{Drawing}
+use Rattle.play_words.specs.declared.options.Name.TheVariants as An
+use Rattle.play_words.specs.declared.options.Setting.{Setting}
+use Rattle.play_words.specs.Words.{number_of}
 
 -- the first step that the options name, or 0
 abbrev pub named_first : List Setting → ℕ

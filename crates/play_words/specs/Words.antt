@@ -4,10 +4,10 @@ use Rattle.std.specs.Prelude.{◌≡◌, ℕ, ◌+◌, ◌<◌, ◌≤◌, Bool,
 use Rattle.std.specs.Prelude.{◌∷◌, ◌++◌, if◌then◌else◌, length, take, drop, slice_get, decimal}
 use Rattle.std.specs.Prelude.{codes, bytes_eq}
 use Rattle.command_words.specs.Words.{IsName}
-use Rattle.view_plays.specs.declared.ask.Drawing.{Drawing}
-use Rattle.view_plays.specs.declared.options.Name.{Name}
-use Rattle.view_plays.specs.declared.options.Name.TheVariants as An
-use Rattle.view_plays.specs.declared.options.Setting.{Setting}
+use Rattle.play_words.specs.declared.ask.Drawing.{Drawing}
+use Rattle.play_words.specs.declared.options.Name.{Name}
+use Rattle.play_words.specs.declared.options.Name.TheVariants as An
+use Rattle.play_words.specs.declared.options.Setting.{Setting}
 
 -- the word by which an option is named
 abbrev pub text_of : Name → List ℕ

@@ -1,8 +1,8 @@
 -- What the private functions say of the options that they read; no public clause cites it.
 use Rattle.std.specs.Prelude.{◌≡◌, ℕ, ◌+◌, List, [], ◌∷◌, ◌++◌, length, drop}
 use Rattle.command_words.specs.Reading.{Asks as AsksWith}
-use Rattle.view_plays.specs.declared.options.Setting.{Setting}
-use Rattle.view_plays.specs.Words.{text_of, number_words_of, option_words, AreFit}
+use Rattle.play_words.specs.declared.options.Setting.{Setting}
+use Rattle.play_words.specs.Words.{text_of, number_words_of, option_words, AreFit}
 
 -- the words are these options
 abbrev pub OptionsAre : List (List ℕ) → List Setting → Type 0

@@ -3,9 +3,9 @@
 ghost use Rattle.std.specs.Prelude.{◌≡◌, ◌≤◌, ◌++◌, IfOk, IfErr, OnOk, length, drop};
 ghost use Rattle.command_words.specs.Words.{texts_of};
 ghost use Rattle.command_words.specs.Reading.{IsBadFrom};
-ghost use Rattle.view_plays.specs.Words.{Spells, IsBadWord, IsKind};
-ghost use Rattle.view_plays.specs.Words.{main_words, number_words};
-ghost use Rattle.view_plays.specs.Reading.{OptionsAre, MayBeOptions, MayAsk, Asks};
+ghost use Rattle.play_words.specs.Words.{Spells, IsBadWord, IsKind};
+ghost use Rattle.play_words.specs.Words.{main_words, number_words};
+ghost use Rattle.play_words.specs.Reading.{OptionsAre, MayBeOptions, MayAsk, Asks};
 
 use crate::options::{Name, Setting, number_of, read_setting};
 use cargo_core::{Memory, Series};
@@ -69,7 +69,7 @@ fn read_behind(
     words: &[String],
 ) -> Result<Result<Series<Setting>, usize>, Memory>
     ensures ok { IfOk result (λ read. IfOk read
-        (Asks OptionsAre (drop 1 (texts_of words.now)))) }
+        (Asks (drop 1 (texts_of words.now)))) }
     ensures err { IfOk result (λ read. IfErr read
         (IsBadFrom 1 MayAsk (texts_of words.now))) }
 {
@@ -106,8 +106,8 @@ fn add_option(
     name: &str,
     number: Option<u64>,
 ) -> Result<(), Memory>
-    ensures { OnOk result (texts_of main.new
-        ≡ texts_of main.old ++ number_words name.now number) }
+    ensures { OnOk result (texts_of main.new.items
+        ≡ texts_of main.old.items ++ number_words name.now number) }
 {
     if let Some(number) = number {
         main.push(String::from_str(alloc, name)?)?;

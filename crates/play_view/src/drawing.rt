@@ -3,11 +3,9 @@ ghost use Rattle.std.specs.Prelude.{◌≡◌, ◌≤◌, ◌<◌, ◌^◌, leng
 ghost use Rattle.sdf_plan.specs.Elements.{IsNumbered};
 ghost use Rattle.sdf_check.specs.Valid.{Valid};
 ghost use Rattle.region_layout.specs.Layouts.{layout_of};
-ghost use Rattle.view_plays.specs.Drawn.{last_of, first_of, steps_of, counts_of, chart_of};
-ghost use Rattle.view_plays.specs.Drawn.{parts_of, drawn_text, is_counted};
+ghost use Rattle.play_view.specs.Drawn.{last_of, first_of, steps_of, counts_of, chart_of};
+ghost use Rattle.play_view.specs.Drawn.{parts_of, drawn_text, is_counted};
 
-use crate::ask::Drawing;
-use crate::options::{Name, Setting, number_of};
 use cargo_core::{Bytes, Memory, Text};
 use expect_core::Report;
 use fill_picture::fill_picture;
@@ -17,6 +15,7 @@ use page_text::{Part, write_page};
 use picture_kit::{Picture, write_svg};
 use picture_style::{PAGE_END, PAGE_FRONT, PICTURE_STYLE};
 use play_picture::{Cast, play_picture};
+use play_words::{Drawing, Name, Setting, number_of};
 use pool_picture::pool_picture;
 use region_layout::Layout;
 use report_text::write_report;
