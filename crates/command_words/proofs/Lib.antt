@@ -1,9 +1,9 @@
 mod Commands
-mod FirstBad
+pub mod FirstBad
 mod Inverted
 pub mod Letters
 mod Limits
-mod Names
+pub mod Names
 mod Numbers
 pub mod Once
 mod OneNumber

@@ -1,4 +1,5 @@
--- What the private functions say of the words that they read; no public clause cites it.
+-- What the functions say of the words that they read. Of the public ones only those cite it that
+-- read a part of the words, for other programs; `read_words` does not.
 use Rattle.std.specs.Prelude.{◌≡◌, ◌⊎◌, ◌↔◌, ◌+◌, ◌^◌, ◌<◌, ◌≤◌, ℕ, true, false, Bool, Option, Some}
 use Rattle.std.specs.Prelude.{None, unwrap_or, List, [], ◌∷◌, ◌++◌, length, take, drop, slice_get}
 use Rattle.std.specs.Prelude.{codes, decimal}

@@ -126,7 +126,7 @@ impl Chosen {
     }
 }
 
-// The number within limits that the word at a place spells.
+/// The number within limits that the word at a place spells, in decimal without leading zeros.
 pub fn number_at(words: &[String], at: usize, least: u64, most: u64) -> Option<u64>
     ensures some { IfSome result (IsNumberAt (texts_of words.now) at least most) }
     ensures none { IfNone result ((n : ℕ) → IsNumberAt (texts_of words.now) at least most n → ⊥) }

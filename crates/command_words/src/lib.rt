@@ -7,5 +7,7 @@ mod name;
 mod number;
 mod words;
 
+pub use chosen::number_at;
 pub use command::{Command, MOST_STEPS, Options, Schedule};
-pub use words::{begins_run, read_words};
+pub use name::{is_word, word_at};
+pub use words::{begins_run, read_names, read_words};

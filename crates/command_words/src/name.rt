@@ -4,7 +4,7 @@ ghost use Rattle.std.specs.Prelude.{◌≡◌, ◌<◌, ◌↔◌, Some, length,
 ghost use Rattle.command_words.specs.Words.{texts_of, IsName};
 ghost use Rattle.command_words.specs.Reading.{IsNameAt};
 
-// The word at a place.
+/// The word at a place.
 pub fn word_at(words: &[String], at: usize) -> &str
     requires { at < length words.now }
     ensures { slice_get (texts_of words.now) at ≡ Some result.now }
@@ -12,7 +12,7 @@ pub fn word_at(words: &[String], at: usize) -> &str
     words[at].as_str()
 }
 
-// Whether a word is this one.
+/// Whether a word is this one.
 pub fn is_word(word: &str, other: &str) -> bool
     ensures { IsTrue result ↔ (word.now ≡ other.now) }
 {

@@ -134,8 +134,9 @@ fn read_run(words: &[String]) -> Result<Option<u64>, usize>
     read_limit(words)
 }
 
-// Reads the two names behind the first word.
-fn read_names(words: &[String]) -> Result<(), usize>
+/// Reads the names of a description and a trace, which stand behind the first word. The only error
+/// is the place of the first that is none.
+pub fn read_names(words: &[String]) -> Result<(), usize>
     ensures ok { OnOk result (AreNamed (texts_of words.now)) }
     ensures err { IfErr result (IsBadName (texts_of words.now)) }
 {

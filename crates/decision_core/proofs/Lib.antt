@@ -2,5 +2,5 @@ pub mod DecisionLemmas
 pub mod GenLemmas
 pub mod JudgedLemmas
 pub mod LastLemmas
-pub mod NumberedLemmas
+pub mod PlayableLemmas
 pub mod WordLemmas

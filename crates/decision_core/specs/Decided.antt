@@ -27,12 +27,13 @@ IsSound (Is.Go plan trace asked) = IsAcceptedPlan plan × IsReadFor plan trace
 IsSound (Is.Bus bus schedule) = IsReadBus bus
 IsSound (Is.Ports ports schedule) = ArePorts ports
 
--- the elements of a plan that is played or run are numbered
-abbrev pub IsOfNumbered : Decided → Type 0
-IsOfNumbered (Is.Say status text) = Unit {0}
-IsOfNumbered (Is.Go plan trace asked) = IsNumbered plan
-IsOfNumbered (Is.Bus bus schedule) = Unit {0}
-IsOfNumbered (Is.Ports ports schedule) = Unit {0}
+-- what is played or run can be played: the plan is accepted, its elements are numbered, and the
+-- trace is read for it; a bus and the ports of a switch are what was read
+abbrev pub IsPlayable : Decided → Type 0
+IsPlayable (Is.Say status text) = Unit {0}
+IsPlayable (Is.Go plan trace asked) = IsAcceptedPlan plan × IsNumbered plan × IsReadFor plan trace
+IsPlayable (Is.Bus bus schedule) = IsReadBus bus
+IsPlayable (Is.Ports ports schedule) = ArePorts ports
 
 -- a run is asked for
 abbrev pub AsksToRun : Decided → Type 0

@@ -4,7 +4,7 @@ ghost use Rattle.report_text.specs.Answers.{bad_trace_text};
 ghost use Rattle.command_words.specs.Words.{texts_of};
 ghost use Rattle.shelf_core.specs.Shelves.{ReadsFrom};
 ghost use Rattle.shelf_core.specs.Reading.{WasRead};
-ghost use Rattle.decision_core.specs.Decided.{decision_of, OfEach, IsOfNumbered};
+ghost use Rattle.decision_core.specs.Decided.{decision_of, OfEach, IsPlayable};
 ghost use Rattle.decision_core.specs.Decisions.{Say, AloneDecides, AsksAlone, Decides};
 ghost use Rattle.decision_core.specs.Readings.{ReadLast, OpensInTurn};
 
@@ -90,7 +90,7 @@ pub fn decide_alone<F: Shelf>(
         (OpensInTurn (WasRead (F.text shelf.old)) (texts_of words.now))
         (OfEach (ReadLast (F.text shelf.old) (texts_of words.now)))
         shelf.old shelf.new result }
-    ensures numbered { IfOk result IsOfNumbered }
+    ensures playable { IfOk result IsPlayable }
 {
     let bytes = read_text(alloc, shelf, words[1].as_str())?;
     Ok(decide_bytes(alloc, asked, bytes.as_slice())?)

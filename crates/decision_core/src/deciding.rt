@@ -10,7 +10,7 @@ ghost use Rattle.command_words.specs.Words.{texts_of, IsGen, Spells, last_name};
 ghost use Rattle.command_words.specs.declared.command.Command.{Command};
 ghost use Rattle.shelf_core.specs.Shelves.{ReadsFrom};
 ghost use Rattle.decision_core.specs.Judged.{IsAcceptedPlan};
-ghost use Rattle.decision_core.specs.Decided.{decision_of, OfEach, IsOfNumbered};
+ghost use Rattle.decision_core.specs.Decided.{decision_of, OfEach, IsPlayable};
 ghost use Rattle.decision_core.specs.Decisions.{Say, AsksFor, Decides, TextDecides, PlanDecides};
 ghost use Rattle.decision_core.specs.Decisions.{TraceDecides, GeneratedDecides, refuses, too_long};
 ghost use Rattle.decision_core.specs.Generating.{IsSummary};
@@ -127,9 +127,10 @@ fn say_layout(alloc: Global, plan: Plan) -> Result<Decided, Memory>
 
 /// What the bytes of a trace decide for a plan.
 fn decide_trace(alloc: Global, plan: Plan, asked: Asked, bytes: &[u8]) -> Result<Decided, Memory>
-    requires { IsNumbered plan }
+    requires accepted { IsAcceptedPlan plan }
+    requires numbered { IsNumbered plan }
     ensures decides { IfOk result (λ d. TraceDecides plan asked bytes.now (decision_of d)) }
-    ensures numbered { IfOk result IsOfNumbered }
+    ensures playable { IfOk result IsPlayable }
 {
     if bytes.len() > TEXT_MOST {
         return say_too_long(alloc);
@@ -142,9 +143,10 @@ fn decide_trace(alloc: Global, plan: Plan, asked: Asked, bytes: &[u8]) -> Result
 
 /// What the trace of `gen` decides for the plan of its description.
 fn decide_generated(alloc: Global, plan: Plan, number: u64) -> Result<Decided, Memory>
-    requires { IsNumbered plan }
+    requires accepted { IsAcceptedPlan plan }
+    requires numbered { IsNumbered plan }
     ensures decides { IfOk result (λ d. GeneratedDecides number plan (decision_of d)) }
-    ensures numbered { IfOk result IsOfNumbered }
+    ensures playable { IfOk result IsPlayable }
 {
     let text = generate(alloc, number)?;
     decide_trace(alloc, plan, Asked::Play(Showing::Summary), text.as_bytes())
@@ -154,7 +156,7 @@ fn decide_generated(alloc: Global, plan: Plan, number: u64) -> Result<Decided, M
 fn decide_gen(alloc: Global, desc: &[u8], number: u64) -> Result<Decided, Memory>
     ensures decides { IfOk result (λ d. TextDecides (GeneratedDecides number) desc.now
         (decision_of d)) }
-    ensures numbered { IfOk result IsOfNumbered }
+    ensures playable { IfOk result IsPlayable }
 {
     if desc.len() > TEXT_MOST {
         return say_too_long(alloc);
@@ -173,6 +175,7 @@ fn decide_named<F: Shelf>(
     plan: Plan,
     asked: Asked,
 ) -> Result<Decided, ReadStop>
+    requires accepted { IsAcceptedPlan plan }
     requires numbered { IsNumbered plan }
     requires friendly { first_rogue plan ≡ None }
     requires asks { (desc : List ℕ) × (trace : List ℕ)
@@ -182,7 +185,7 @@ fn decide_named<F: Shelf>(
     ensures reads { ReadsFrom F.text F.left F.opens F.faults F.failed
         (OpensTrace (texts_of words.now))
         (OfEach (LeavesPlan (F.text shelf.old) (texts_of words.now))) shelf.old shelf.new result }
-    ensures numbered { IfOk result IsOfNumbered }
+    ensures playable { IfOk result IsPlayable }
 {
     let bytes = read_text(alloc, shelf, words[2].as_str())?;
     Ok(decide_trace(alloc, plan, asked, bytes.as_slice())?)
@@ -197,6 +200,7 @@ fn decide_asked<F: Shelf>(
     plan: Plan,
     asked: Asked,
 ) -> Result<Decided, ReadStop>
+    requires accepted { IsAcceptedPlan plan }
     requires numbered { IsNumbered plan }
     requires asks { (desc : List ℕ) × (trace : List ℕ)
         × AsksFor (texts_of words.now) desc trace asked }
@@ -205,7 +209,7 @@ fn decide_asked<F: Shelf>(
     ensures reads { ReadsFrom F.text F.left F.opens F.faults F.failed
         (OpensTrace (texts_of words.now))
         (OfEach (LeavesPlan (F.text shelf.old) (texts_of words.now))) shelf.old shelf.new result }
-    ensures numbered { IfOk result IsOfNumbered }
+    ensures playable { IfOk result IsPlayable }
 {
     let rogue = first_rogue(alloc, &plan)?;
     match rogue {
@@ -231,7 +235,7 @@ fn decide_plan<F: Shelf>(
     ensures reads { ReadsFrom F.text F.left F.opens F.faults F.failed
         (OpensTrace (texts_of words.now))
         (OfEach (LeavesPlan (F.text shelf.old) (texts_of words.now))) shelf.old shelf.new result }
-    ensures numbered { IfOk result IsOfNumbered }
+    ensures playable { IfOk result IsPlayable }
 {
     match command {
         Command::Check => Ok(say_accepted(alloc, plan)?),
@@ -269,7 +273,7 @@ fn decide_text<F: Shelf>(
         (OpensText (texts_of words.now) text.now)
         (OfEach (LeavesText (F.text shelf.old) (texts_of words.now) text.now))
         shelf.old shelf.new result }
-    ensures numbered { IfOk result IsOfNumbered }
+    ensures playable { IfOk result IsPlayable }
 {
     if text.len() > TEXT_MOST {
         return Ok(say_too_long(alloc)?);
@@ -295,7 +299,7 @@ fn decide_command<F: Shelf>(
         (OpensInTurn (WasRead (F.text shelf.old)) (texts_of words.now))
         (OfEach (ReadLast (F.text shelf.old) (texts_of words.now)))
         shelf.old shelf.new result }
-    ensures numbered { IfOk result IsOfNumbered }
+    ensures playable { IfOk result IsPlayable }
 {
     let text = read_text(alloc, shelf, words[1].as_str())?;
     decide_text(alloc, shelf, words, command, text.as_slice())
@@ -318,7 +322,7 @@ pub fn decide_words<F: Shelf>(
     ensures unread { (n : ℕ) → IsGen (texts_of words.now) n → shelf.new ≡ shelf.old }
     ensures plays { (n : ℕ) → IsGen (texts_of words.now) n
         → IfOk result (λ d. IsSummary (decision_of d)) }
-    ensures numbered { IfOk result IsOfNumbered }
+    ensures playable { IfOk result IsPlayable }
 {
     match read_words(words) {
         Ok(Command::Gen(number)) => Ok(decide_gen(alloc, FULL_EXAMPLE.as_bytes(), number)?),

@@ -1,4 +1,4 @@
-use Rattle.std.proofs.Common.{◌≡◌, refl, sym, ◌∙◌, ap, ℕ, zero, suc, ◌+◌, List, [], ◌∷◌, ◌++◌, drop, slice_get, Some, append_assoc, rules}
+use Rattle.std.proofs.Common.{◌≡◌, refl, sym, ◌∙◌, ap, ℕ, zero, suc, ◌+◌, List, [], ◌∷◌, ◌++◌, drop, slice_get, Some, append_assoc, rules, Result, Ok, Err, OnOk}
 use Rattle.play_picture.specs.Chart.{draw_each}
 
 -- a list from the place of an element on
@@ -15,3 +15,9 @@ drawn_more {T = T} {A = A} f xs k x old new whole at is so =
     let rest = draw_each f (k + 1) (drop (k + 1) xs) in
     ap (λ w. w ++ rest) is ∙ append_assoc old (f k x) rest
     ∙ sym (ap (λ (l : List T). old ++ draw_each f k l) (drop_at xs k x at)) ∙ so
+
+-- what three calls append, where the last may fail
+pub thrice : {T E A : Type 0} (r : Result T E) (old a b new x y z : List A) → a ≡ old ++ x → b ≡ a ++ y → OnOk r (new ≡ b ++ z) → OnOk r (new ≡ old ++ (x ++ (y ++ z)))
+thrice {A = A} (Ok t) old a b new x y z e f g =
+    g ∙ (ap (λ (l : List A). l ++ z) f ∙ (ap (λ (l : List A). (l ++ y) ++ z) e ∙ (append_assoc (old ++ x) y z ∙ append_assoc old x (y ++ z))))
+thrice (Err t) old a b new x y z e f g = tt

@@ -54,6 +54,6 @@ draw_each shapes k (x ∷ xs) = shapes k x ++ draw_each shapes (k + 1) xs
 -- the head of a lane: its actor's name in a box, and the lane below it
 abbrev pub head_shapes : Lanes → ℕ → List ℕ → List Shape
 head_shapes l a name =
-    noted In.Domain (As.Block (area (lane_x l a) 48 (lane_width l - 8) 24)) []
-    ∷ words In.Label (lane_x l a + 4) 64 name
-    ∷ plain_line In.Lane (spot (middle_x l a) 72) (spot (middle_x l a) (height l - 8)) ∷ []
+    noted In.Domain (As.Block (area (lane_x l a) 64 (lane_width l - 8) 24)) []
+    ∷ words In.Label (lane_x l a + 4) 80 name
+    ∷ plain_line In.Lane (spot (middle_x l a) 88) (spot (middle_x l a) (height l - 8)) ∷ []

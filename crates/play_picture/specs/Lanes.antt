@@ -17,7 +17,7 @@ middle_x l actor = lane_x l actor + 4 * l.letters + 4
 
 -- the row of a step
 abbrev pub step_y : Lanes → ℕ → ℕ
-step_y l step = 96 + 14 * (step - l.from)
+step_y l step = 112 + 14 * (step - l.from)
 
 -- how wide the chart is
 abbrev pub width : Lanes → ℕ

@@ -12,6 +12,7 @@ use Rattle.picture_kit.specs.Shapes.{words}
 use Rattle.play_picture.specs.declared.lanes.Lanes.{Lanes}
 use Rattle.play_picture.specs.Chart.{draw_each, head_shapes, step_shapes}
 use Rattle.play_picture.specs.Lanes.{width, height}
+use Rattle.play_picture.specs.Legend.{legend_shapes}
 
 -- how long the longest name of a queue is, and at least so long; names past 900 count as 900
 abbrev pub longest_queue : ℕ → List QueueRow → ℕ
@@ -39,11 +40,12 @@ about_text l steps =
     codes "steps " ++ (decimal l.from ++ (codes " up to " ++ (decimal l.to
     ++ (codes " of " ++ decimal steps))))
 
--- all shapes: what the chart shows in words, the heads of the lanes, and each step from a place on
+-- all shapes: what the chart shows in words, what its marks are, the heads of the lanes, and each
+-- step from a place on
 abbrev pub shapes_of : List QueueRow → List (List ℕ) → Lanes → List Entry → ℕ → List ℕ → List Shape
 shapes_of queues actors l journal from about =
-    words In.Heading 16 28 about ∷ draw_each (head_shapes l) 0 actors
-    ++ draw_each (step_shapes l queues journal) from (drop from journal)
+    words In.Heading 16 28 about ∷ (legend_shapes ++ (draw_each (head_shapes l) 0 actors
+    ++ draw_each (step_shapes l queues journal) from (drop from journal)))
 
 -- the chart of the first steps of a journal, from a place on
 abbrev pub picture_of : List QueueRow → List (List ℕ) → List Entry → ℕ → ℕ → Picture

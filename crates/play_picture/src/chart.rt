@@ -143,14 +143,14 @@ fn add_head(
     let width = lanes.lane_width() - 8;
     let area = Area {
         x,
-        y: 48,
+        y: 64,
         width,
         height: 24,
     };
     let end = Spot::new(middle, lanes.height() - 8);
     shapes.push(Shape::noted(alloc, Ink::Domain, Form::Block(area), "")?)?;
-    shapes.push(Shape::words(alloc, Ink::Label, x + 4, 64, name.as_str())?)?;
-    shapes.push(Shape::line(alloc, Ink::Lane, Spot::new(middle, 72), end)?)
+    shapes.push(Shape::words(alloc, Ink::Label, x + 4, 80, name.as_str())?)?;
+    shapes.push(Shape::line(alloc, Ink::Lane, Spot::new(middle, 88), end)?)
 }
 
 /// Appends the head of each lane.

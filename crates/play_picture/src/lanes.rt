@@ -52,7 +52,7 @@ impl Lanes {
         requires rows { step < 2 ^ 32 }
         ensures { result ≡ step_y self.now step }
     {
-        96 + 14 * step.saturating_sub(self.from)
+        112 + 14 * step.saturating_sub(self.from)
     }
 
     /// How wide the chart is.

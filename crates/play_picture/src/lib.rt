@@ -5,6 +5,7 @@
 mod arrows;
 mod chart;
 mod lanes;
+mod legend;
 mod law;
 mod pairs;
 mod picture;

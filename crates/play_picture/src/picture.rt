@@ -7,6 +7,7 @@ ghost use Rattle.play_picture.specs.Pictures.{IsDrawable, shapes_of, picture_of}
 
 use crate::chart::{add_heads, add_steps};
 use crate::lanes::Lanes;
+use crate::legend::add_legend;
 use cargo_core::{Memory, Series, Text};
 use picture_kit::{Ink, Picture, Shape};
 use std::alloc::Global;
@@ -85,6 +86,7 @@ fn shapes_of(
 {
     let mut shapes = Series::new(alloc);
     shapes.push(Shape::words(alloc, Ink::Heading, 16, 28, about)?)?;
+    add_legend(alloc, &mut shapes)?;
     add_heads(alloc, &mut shapes, lanes, cast.actors)?;
     add_steps(alloc, &mut shapes, lanes, cast.queues, journal, from)?;
     Ok(shapes)

@@ -9,7 +9,7 @@ use Rattle.decision_core.specs.Decided.{decision_of, OfEach}
 use Rattle.decision_core.specs.Decisions.{AsksAlone, AloneDecides, alone}
 use Rattle.decision_core.specs.Readings.{OpensInTurn, ReadLast, opens_alone, read_alone}
 use Rattle.decision_core.proofs.LastLemmas.{alone-status}
-use Rattle.decision_core.proofs.NumberedLemmas.{alone-numbered}
+use Rattle.decision_core.proofs.PlayableLemmas.{alone-playable}
 use Rattle.decision_core.proofs.WordLemmas.{named-alone, alone-two}
 use Rattle.decision_core.proofs.alone.decide_alone.Goals as goal
 
@@ -23,8 +23,8 @@ returns-clause-decides g c =
     alone c.as_str.result.now c.in_ok-bytes.bytes c.args.asked (decision_of c.in_ok-decide_bytes.field-0) asks c.in_ok-bytes.ensures.bytes
     (subst (λ x. AloneDecides c.args.asked x (decision_of c.in_ok-decide_bytes.field-0)) c.as_slice.ensures c.in_ok-decide_bytes.ensures)
 
-pub returns-clause-numbered : goal.returns-clause-numbered
-returns-clause-numbered g c = alone-numbered c.args.asked _ c.in_ok-decide_bytes.field-0 c.in_ok-decide_bytes.ensures
+pub returns-clause-playable : goal.returns-clause-playable
+returns-clause-playable g c = alone-playable c.args.asked _ c.in_ok-decide_bytes.field-0 c.in_ok-decide_bytes.ensures
 
 pub returns-in_err-bytes-clause-reads : goal.returns-in_err-bytes-clause-reads
 returns-in_err-bytes-clause-reads g c =

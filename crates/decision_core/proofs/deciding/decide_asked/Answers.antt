@@ -4,6 +4,7 @@ use Rattle.command_words.specs.Words.{texts_of}
 use Rattle.shelf_core.specs.Reading.{WasRead}
 use Rattle.decision_core.specs.declared.status.Status.TheVariants as Ended
 use Rattle.decision_core.specs.Decisions.{IsStatusOf, PlanDecides, hostile}
+use Rattle.decision_core.proofs.PlayableLemmas.{said-playable}
 use Rattle.decision_core.proofs.deciding.decide_asked.Goals as goal
 
 pub decide_named-requires-clause-friendly : goal.decide_named-requires-clause-friendly
@@ -51,3 +52,9 @@ returns-in-None-clause-decides g c = c.decide_named.ensures.decides
 
 pub returns-in-None-clause-reads : goal.returns-in-None-clause-reads
 returns-in-None-clause-reads g c = c.decide_named.ensures.reads
+
+pub returns-in_ok-say_refusal-in-Some-clause-playable : goal.returns-in_ok-say_refusal-in-Some-clause-playable
+returns-in_ok-say_refusal-in-Some-clause-playable g c = said-playable _ _ _ c.in_ok-say_refusal-in-Some.ensures
+
+pub returns-in-None-clause-playable : goal.returns-in-None-clause-playable
+returns-in-None-clause-playable g c = c.decide_named.ensures.playable

@@ -43,3 +43,6 @@ returns-clause-reads g c =
     (text-opens (g.F.Shelf.text c.args.shelf.now) (texts_of c.args.words.now) c.as_str.result.now c.as_slice.result.now _ _ _ named c.in_ok-text.ensures.reads.opened read c.decide_text.ensures.reads.opened)
     (λ d h status e. last-read (g.F.Shelf.text c.args.shelf.now) (g.F.Shelf.text c.read_text.new.shelf) c.in_ok-text.ensures.reads.texts (texts_of c.args.words.now) c.as_str.result.now _ _ _ _ _ _ _ status
     named c.in_ok-text.ensures.reads.last c.in_ok-text.ensures.reads.opened read (h status e))
+
+pub returns-clause-playable : goal.returns-clause-playable
+returns-clause-playable g c = c.decide_text.ensures.playable

@@ -5,6 +5,7 @@ use Rattle.command_words.specs.Words.{texts_of, Spells}
 use Rattle.shelf_core.specs.Reading.{WasRead}
 use Rattle.decision_core.specs.declared.status.Status.TheVariants as Ended
 use Rattle.decision_core.specs.Decisions.{IsStatusOf, PlanDecides, checked, laid_out, to_play, to_run}
+use Rattle.decision_core.proofs.PlayableLemmas.{said-playable}
 use Rattle.decision_core.proofs.deciding.decide_plan.Goals as goal
 
 pub returns-in_ok-say_accepted-in-Check-clause-decides : goal.returns-in_ok-say_accepted-in-Check-clause-decides
@@ -82,3 +83,15 @@ returns-in-Run-clause-decides g c = c.decide_asked-in-Run.ensures.decides
 
 pub returns-in-Run-clause-reads : goal.returns-in-Run-clause-reads
 returns-in-Run-clause-reads g c = c.decide_asked-in-Run.ensures.reads
+
+pub returns-in_ok-say_accepted-in-Check-clause-playable : goal.returns-in_ok-say_accepted-in-Check-clause-playable
+returns-in_ok-say_accepted-in-Check-clause-playable g c = said-playable _ _ _ c.in_ok-say_accepted-in-Check.ensures
+
+pub returns-in_ok-say_layout-in-Layout-clause-playable : goal.returns-in_ok-say_layout-in-Layout-clause-playable
+returns-in_ok-say_layout-in-Layout-clause-playable g c = said-playable _ _ _ c.in_ok-say_layout-in-Layout.ensures
+
+pub returns-in-Play-clause-playable : goal.returns-in-Play-clause-playable
+returns-in-Play-clause-playable g c = c.decide_asked.ensures.playable
+
+pub returns-in-Run-clause-playable : goal.returns-in-Run-clause-playable
+returns-in-Run-clause-playable g c = c.decide_asked-in-Run.ensures.playable

@@ -8,6 +8,7 @@ use Rattle.decision_core.specs.Decided.{decision_of, OfEach}
 use Rattle.decision_core.specs.Decisions.{IsStatusOf, PlanDecides, TextDecides, long_description, refused, accepted}
 use Rattle.decision_core.specs.Readings.{OpensTrace, OpensText, LeavesPlan, LeavesText}
 use Rattle.decision_core.proofs.DecisionLemmas.{map-ok}
+use Rattle.decision_core.proofs.PlayableLemmas.{said-playable}
 use Rattle.decision_core.proofs.deciding.decide_text.Goals as goal
 
 pub returns-then-text-gt-TEXT_MOST-clause-decides : goal.returns-then-text-gt-TEXT_MOST-clause-decides
@@ -70,3 +71,12 @@ returns-in_err-say_unaccepted-in-Err-clause-reads g c =
       calm = tt;
       stopped = refl;
     })
+
+pub returns-then-text-gt-TEXT_MOST-clause-playable : goal.returns-then-text-gt-TEXT_MOST-clause-playable
+returns-then-text-gt-TEXT_MOST-clause-playable g c = said-playable _ _ _ c.in_ok-say_too_long.ensures
+
+pub returns-in-Ok-clause-playable : goal.returns-in-Ok-clause-playable
+returns-in-Ok-clause-playable g c = c.decide_plan.ensures.playable
+
+pub returns-in_ok-say_unaccepted-in-Err-clause-playable : goal.returns-in_ok-say_unaccepted-in-Err-clause-playable
+returns-in_ok-say_unaccepted-in-Err-clause-playable g c = said-playable _ _ _ c.in_ok-say_unaccepted-in-Err.ensures.2

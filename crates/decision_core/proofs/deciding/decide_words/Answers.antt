@@ -9,6 +9,7 @@ use Rattle.decision_core.specs.Readings.{read_none, read_no_text, opens_nothing}
 use Rattle.decision_core.proofs.LastLemmas.{gen-unread}
 use Rattle.decision_core.proofs.DecisionLemmas.{gen-or-named, gen-or-alone, alone-spell, names-spell, bad-none}
 use Rattle.decision_core.proofs.GenLemmas.{gen-plays}
+use Rattle.decision_core.proofs.PlayableLemmas.{said-playable}
 use Rattle.decision_core.proofs.deciding.decide_words.Goals as goal
 
 pub returns-in_ok-decide_gen-in-Ok-Gen-clause-decides : goal.returns-in_ok-decide_gen-in-Ok-Gen-clause-decides
@@ -72,3 +73,9 @@ returns-in_ok-decide_gen-in-Ok-Gen-clause-plays g c n is =
 pub returns-in_ok-say_usage-in-Err-clause-plays : goal.returns-in_ok-say_usage-in-Err-clause-plays
 returns-in_ok-say_usage-in-Err-clause-plays g c n is =
     absurd (bad-none (texts_of c.args.words.now) c.in-Err.k (Do.Gen n) c.in-Err.ensures.bad is)
+
+pub returns-in_ok-decide_gen-in-Ok-Gen-clause-playable : goal.returns-in_ok-decide_gen-in-Ok-Gen-clause-playable
+returns-in_ok-decide_gen-in-Ok-Gen-clause-playable g c = c.in_ok-decide_gen-in-Ok-Gen.ensures.playable
+
+pub returns-in_ok-say_usage-in-Err-clause-playable : goal.returns-in_ok-say_usage-in-Err-clause-playable
+returns-in_ok-say_usage-in-Err-clause-playable g c = said-playable _ _ _ c.in_ok-say_usage-in-Err.ensures

@@ -1,0 +1,2 @@
+-- How full queues are over the steps of a journal (Fills).
+pub mod Fills

@@ -1,0 +1,2 @@
+-- What is drawn of a play (Drawn).
+pub mod Drawn

@@ -1,0 +1,7 @@
+//! What is drawn of a play: a chart of its steps, or how full the queues were, or a page with the
+//! layout, both, the buffers and the report.
+#![tactic(auto)]
+
+mod drawing;
+
+pub use drawing::draw_play;

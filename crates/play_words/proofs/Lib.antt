@@ -1,0 +1,4 @@
+mod NameLemmas
+mod OptionLemmas
+mod SoFar
+mod WordLemmas
