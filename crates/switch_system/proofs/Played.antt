@@ -36,7 +36,7 @@ use Rattle.switch_owners.specs.Lines.{table_after, queued, IsLine}
 use Rattle.switch_system.specs.Bounds.{ports_bound}
 use Rattle.switch_system.specs.Lines.{lines_from, counted}
 use Rattle.switch_system.specs.Reporting.{Tells}
-use Rattle.switch_system.specs.Playing.{runs_after, IsStill, IsPicked, IsOwned, ShowsFrames, ShowsAll, PortsPlayed}
+use Rattle.switch_system.specs.Playing.{runs_after, IsStill, IsOwned, ShowsFrames, ShowsAll, PortsPlayed}
 use Rattle.switch_system.proofs.Reports.{lines_alike}
 
 -- a line tells the counts
@@ -130,17 +130,6 @@ module _ (ports : Ports) (seed limit : ℕ) (rows : List QueueRow) (start : List
               let less = laws.bound in
               absurd (omega (arith, steps, count, less, le))
 
-      is_picked : IsPicked ports rows seed limit report
-      is_picked = record {
-        counted = tells.steps;
-        picked = subst (PickedFrom (runs_after ports rows) seed []) (sym journal_is) (laws.picks seed played.picked);
-        within = is_within;
-        quiet = λ h. subst (IsStill ports rows) (sym journal_is) (laws.still (none_runs h));
-        goes_on = λ h none. (is_spent (sym tells.ending ∙ h)).goes_on (subst (λ m. running_in member_means m ≡ []) (sym played.moment) (laws.runs ∙ (ap (runs_after ports rows) (sym journal_is) ∙ none)));
-        spent = all_steps;
-        enough = is_enough;
-      }
-
       is_owned : IsOwned ports rows report
       is_owned = record {
         lawful = subst (λ j. IsLawful rows j) (sym tells.journal) (subst (λ r. IsLawful r s.journal) played.rows lawful);
@@ -190,7 +179,20 @@ module _ (ports : Ports) (seed limit : ℕ) (rows : List QueueRow) (start : List
       }
 
       pub told : PortsPlayed ports seed limit report
-      told = record { rows = rows; queues = q; picked = is_picked; owned = is_owned; shows = shows_frames; whole = shows_all }
+      told = record {
+        rows = rows;
+        queues = q;
+        counted = tells.steps;
+        picked = subst (PickedFrom (runs_after ports rows) seed []) (sym journal_is) (laws.picks seed played.picked);
+        within = is_within;
+        quiet = λ h. subst (IsStill ports rows) (sym journal_is) (laws.still (none_runs h));
+        goes_on = λ h none. (is_spent (sym tells.ending ∙ h)).goes_on (subst (λ m. running_in member_means m ≡ []) (sym played.moment) (laws.runs ∙ (ap (runs_after ports rows) (sym journal_is) ∙ none)));
+        spent = all_steps;
+        enough = is_enough;
+        owned = is_owned;
+        shows = shows_frames;
+        whole = shows_all;
+      }
 
 -- where it was reported
 pub if_told : (P Q : PortReport → Type 0) (r : Result PortReport Memory) → ((report : PortReport) → P report → Q report) → IfOk r P → IfOk r Q

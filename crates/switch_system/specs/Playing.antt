@@ -35,19 +35,6 @@ abbrev pub IsStill : Ports → List QueueRow → List Entry → Type 0
 IsStill ports rows journal = IsQuiet calm (start_history rows) rows
     (wanted_by (port_wants ports) rows (count_of ports + 1) journal) journal
 
--- the steps are the calls of the journal, each by the actor that the seed picks among those that
--- are runnable then, until nobody is or so many were made
-pub record IsPicked (ports : Ports) (rows : List QueueRow) (seed limit : ℕ)
-    (report : PortReport) : Type 0 where
-  pub counted : report.steps ≡ length report.journal
-  pub picked : PickedFrom (runs_after ports rows) seed [] report.journal
-  pub within : report.steps ≤ limit
-  pub quiet : report.quiet ≡ true → IsStill ports rows report.journal
-  pub goes_on : report.quiet ≡ false → runs_after ports rows report.journal ≡ [] → ⊥
-  pub spent : report.quiet ≡ false → report.steps ≡ limit
-  -- it is quiet where it may make as many steps as are enough
-  pub enough : ports_bound ports ≤ limit → report.quiet ≡ true
-
 -- each queue hands over what was put, once and in order, each call is in discipline, bells hold,
 -- and between two marks no actor makes more than 8 calls on an end; each buffer has one owner at
 -- each moment; and the lines of the pools are those of the table of owners after the journal
@@ -87,7 +74,16 @@ pub record ShowsAll (ports : Ports) (report : PortReport) : Type 0 where
 pub record PortsPlayed (ports : Ports) (seed limit : ℕ) (report : PortReport) : Type 0 where
   pub rows : List QueueRow
   pub queues : AreQueues (count_of ports) rows
-  pub picked : IsPicked ports rows seed limit report
+  -- the steps are the calls of the journal, each by the actor that the seed picks among those that
+  -- are runnable then, until nobody is or so many were made
+  pub counted : report.steps ≡ length report.journal
+  pub picked : PickedFrom (runs_after ports rows) seed [] report.journal
+  pub within : report.steps ≤ limit
+  pub quiet : report.quiet ≡ true → IsStill ports rows report.journal
+  pub goes_on : report.quiet ≡ false → runs_after ports rows report.journal ≡ [] → ⊥
+  pub spent : report.quiet ≡ false → report.steps ≡ limit
+  -- it is quiet where it may make as many steps as are enough
+  pub enough : ports_bound ports ≤ limit → report.quiet ≡ true
   pub owned : IsOwned ports rows report
   pub shows : ShowsFrames ports report
   pub whole : report.quiet ≡ true → ShowsAll ports report
