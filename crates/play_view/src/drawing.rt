@@ -138,7 +138,11 @@ fn parts_of(
 {
     let layout_part = part(alloc, "Layout", picture(alloc, plan, layout)?)?;
     let steps_part = part(alloc, "Steps", steps_of(alloc, layout, journal, settings)?)?;
-    let pools_part = part(alloc, "Buffers", pool_picture(alloc, report.pools.as_slice())?)?;
+    let pools_part = part(
+        alloc,
+        "Buffers",
+        pool_picture(alloc, report.pools.as_slice())?,
+    )?;
     let mut parts = Vec::new(alloc);
     parts.push(layout_part)?;
     parts.push(steps_part)?;
