@@ -30,12 +30,7 @@ fn add_mark(
 
 // Appends an end that isn't in the chart.
 #[tactic(auto, unfolding(crate::specs::Legend::loose_shapes))]
-fn add_loose(
-    alloc: Global,
-    shapes: &mut Series<Shape>,
-    x: u64,
-    text: &str,
-) -> Result<(), Memory>
+fn add_loose(alloc: Global, shapes: &mut Series<Shape>, x: u64, text: &str) -> Result<(), Memory>
     requires { x ≤ 1000 }
     ensures { OnOk result (shapes.new ≡ shapes.old ++ loose_shapes x text.now) }
 {

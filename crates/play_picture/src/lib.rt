@@ -5,8 +5,8 @@
 mod arrows;
 mod chart;
 mod lanes;
-mod legend;
 mod law;
+mod legend;
 mod pairs;
 mod picture;
 mod words;

@@ -30,6 +30,7 @@ const STEPS: u64 = 2000;
 const MOST: usize = 4_294_967_295;
 
 // Up to which of so many steps is drawn.
+#[tactic(auto, unfolding(crate::specs::Drawn::last_of))]
 fn last_of(settings: &[Setting], steps: usize) -> usize
     ensures place { result ≡ last_of settings.now steps }
     ensures within { result ≤ steps }
@@ -41,6 +42,7 @@ fn last_of(settings: &[Setting], steps: usize) -> usize
 }
 
 // From which step on.
+#[tactic(auto, unfolding(crate::specs::Drawn::first_of))]
 fn first_of(settings: &[Setting], steps: usize) -> usize
     ensures place { result ≡ first_of settings.now steps }
     ensures within { result ≤ last_of settings.now steps }
@@ -136,7 +138,11 @@ fn parts_of(
 {
     let layout_part = part(alloc, "Layout", picture(alloc, plan, layout)?)?;
     let steps_part = part(alloc, "Steps", steps_of(alloc, layout, journal, settings)?)?;
-    let pools_part = part(alloc, "Buffers", pool_picture(alloc, report.pools.as_slice())?)?;
+    let pools_part = part(
+        alloc,
+        "Buffers",
+        pool_picture(alloc, report.pools.as_slice())?,
+    )?;
     let mut parts = Vec::new(alloc);
     parts.push(layout_part)?;
     parts.push(steps_part)?;
@@ -149,6 +155,7 @@ fn parts_of(
 }
 
 /// What is drawn of a play, as a text: a picture, or a page. The only error is want of memory.
+#[tactic(auto, unfolding(crate::specs::Drawn::drawn_text))]
 pub fn draw_play(
     alloc: Global,
     plan: &Plan,

@@ -112,6 +112,6 @@ pub fit-first : (done more : List Setting) → AreFit (done ++ more) → AreFit 
 fit-first [] more fit = tt
 fit-first (d ∷ done) more fit = (fit.0, absent-done d.name done more fit.1, fit-first done more fit.2)
   where
-  absent-done : (name : Name) (done more : List Setting) → number_of name (done ++ more) ≡ None → number_of name done ≡ None
-  absent-done name [] more e = refl
-  absent-done name (d ∷ done) more e = absent-joined name d done (absent-first name d (done ++ more) e) (absent-done name done more (absent-behind name d (done ++ more) e))
+    absent-done : (name : Name) (done more : List Setting) → number_of name (done ++ more) ≡ None → number_of name done ≡ None
+    absent-done name [] more e = refl
+    absent-done name (d ∷ done) more e = absent-joined name d done (absent-first name d (done ++ more) e) (absent-done name done more (absent-behind name d (done ++ more) e))

@@ -128,12 +128,12 @@ module _ (done : List Setting) (words : List (List ℕ)) (at : ℕ) (name : Name
   least-fits : least_of name ≤ most_of name
   least-fits = fits name
     where
-    fits : (name : Name) → least_of name ≤ most_of name
-    fits An.Seed = omega arith
-    fits An.Steps = omega arith
-    fits An.From = omega arith
-    fits An.To = omega arith
-    fits An.Counts = omega arith
+      fits : (name : Name) → least_of name ≤ most_of name
+      fits An.Seed = omega arith
+      fits An.Steps = omega arith
+      fits An.From = omega arith
+      fits An.To = omega arith
+      fits An.Counts = omega arith
 
   abbrev least : Setting
   least = record { name = name; number = least_of name }
@@ -209,9 +209,9 @@ flag-read done words at name fit first unset none =
       fit = fit-more done s fit (record { enough = zero-enough name none; few = omega arith }) unset;
     }
   where
-  zero-enough : (name : Name) → takes_number name ≡ false → least_of name ≤ 0
-  zero-enough An.Seed e = absurd (cc e)
-  zero-enough An.Steps e = absurd (cc e)
-  zero-enough An.From e = absurd (cc e)
-  zero-enough An.To e = absurd (cc e)
-  zero-enough An.Counts e = omega arith
+    zero-enough : (name : Name) → takes_number name ≡ false → least_of name ≤ 0
+    zero-enough An.Seed e = absurd (cc e)
+    zero-enough An.Steps e = absurd (cc e)
+    zero-enough An.From e = absurd (cc e)
+    zero-enough An.To e = absurd (cc e)
+    zero-enough An.Counts e = omega arith

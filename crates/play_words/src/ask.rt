@@ -39,10 +39,7 @@ fn read_kind(words: &[String]) -> Result<bool, usize>
 }
 
 // Reads the options, which stand behind three words.
-fn read_options(
-    alloc: Global,
-    words: &[String],
-) -> Result<Result<Series<Setting>, usize>, Memory>
+fn read_options(alloc: Global, words: &[String]) -> Result<Result<Series<Setting>, usize>, Memory>
     requires { 3 ≤ length words.now }
     ensures ok { IfOk result (λ read. IfOk read
         (OptionsAre (drop 3 (texts_of words.now)))) }
@@ -64,10 +61,7 @@ fn read_options(
 }
 
 // Reads what stands behind the first word: two names and options.
-fn read_behind(
-    alloc: Global,
-    words: &[String],
-) -> Result<Result<Series<Setting>, usize>, Memory>
+fn read_behind(alloc: Global, words: &[String]) -> Result<Result<Series<Setting>, usize>, Memory>
     ensures ok { IfOk result (λ read. IfOk read
         (Asks (drop 1 (texts_of words.now)))) }
     ensures err { IfOk result (λ read. IfErr read
@@ -82,10 +76,7 @@ fn read_behind(
 /// What the words ask for, or the place of the first bad word, counted from 0: the least place such
 /// that neither form begins with the words up to it, or the number of the words where a form begins
 /// with all of them and they are none.
-pub fn read_drawing(
-    alloc: Global,
-    words: &[String],
-) -> Result<Result<Drawing, usize>, Memory>
+pub fn read_drawing(alloc: Global, words: &[String]) -> Result<Result<Drawing, usize>, Memory>
     ensures ok { IfOk result (λ read. IfOk read (Spells (texts_of words.now))) }
     ensures err { IfOk result (λ read. IfErr read (IsBadWord (texts_of words.now))) }
 {
@@ -132,6 +123,11 @@ pub fn main_words(
     main.push(String::from_str(alloc, word_at(words, 1))?)?;
     main.push(String::from_str(alloc, word_at(words, 2))?)?;
     add_option(alloc, &mut main, "--seed", number_of(settings, Name::Seed))?;
-    add_option(alloc, &mut main, "--steps", number_of(settings, Name::Steps))?;
+    add_option(
+        alloc,
+        &mut main,
+        "--steps",
+        number_of(settings, Name::Steps),
+    )?;
     Ok(main)
 }

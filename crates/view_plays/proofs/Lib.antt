@@ -1,0 +1,4 @@
+mod PoolLemmas
+mod SliceLemmas
+mod ReplyLemmas
+mod CalmLemmas

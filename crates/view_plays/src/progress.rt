@@ -22,7 +22,7 @@ const SLICE: u64 = 262_144;
 
 // The line after so many slices.
 fn progress_line(alloc: Global, slices: u64) -> Result<String, Memory>
-    requires { slices < 2 ^ 40 }
+    requires { slices < 2 ^ 46 }
     ensures { IfOk result (λ line. string_bytes line ≡ progress_line slices) }
 {
     let steps = SLICE * slices;
@@ -32,7 +32,7 @@ fn progress_line(alloc: Global, slices: u64) -> Result<String, Memory>
 // Writes the line after one more slice, unless one before it couldn't be written; and whether none
 // failed yet.
 fn tell<E: Sink>(alloc: Global, err: &mut E, going: bool, slices: u64) -> Result<bool, Memory>
-    requires { slices < 2 ^ 40 }
+    requires { slices < 2 ^ 46 }
     ensures ok { IfOk result (HasTold E.written err.old err.new going slices) }
     ensures err { OnErr result (err.new ≡ err.old) }
 {
@@ -40,7 +40,10 @@ fn tell<E: Sink>(alloc: Global, err: &mut E, going: bool, slices: u64) -> Result
         return Ok(false);
     }
     let line = progress_line(alloc, slices)?;
-    Ok(write_text(err, line.as_bytes()).is_ok())
+    match write_text(err, line.as_bytes()) {
+        Ok(()) => Ok(true),
+        Err(_) => Ok(false),
+    }
 }
 
 // The number that was drawn last, after so many more steps.

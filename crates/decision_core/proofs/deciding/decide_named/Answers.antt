@@ -1,4 +1,4 @@
-use Rattle.std.proofs.Common.{sym, subst, inr}
+use Rattle.std.proofs.Common.{sym, subst, inr, arith}
 use Rattle.std.proofs.lemmas.Result.{err_from_is_err_and}
 use Rattle.command_words.specs.Words.{texts_of}
 use Rattle.shelf_core.specs.Outside.{IsRead}
@@ -8,7 +8,7 @@ use Rattle.decision_core.specs.Decided.{decision_of, OfEach}
 use Rattle.decision_core.specs.Decisions.{AsksFor, TraceDecides, traced}
 use Rattle.decision_core.specs.Readings.{OpensTrace, LeavesPlan}
 use Rattle.decision_core.proofs.LastLemmas.{trace-status}
-use Rattle.decision_core.proofs.WordLemmas.{third-named}
+use Rattle.decision_core.proofs.WordLemmas.{third-named, asks-three}
 use Rattle.decision_core.proofs.deciding.decide_named.Goals as goal
 
 pub returns-clause-decides : goal.returns-clause-decides
@@ -54,3 +54,11 @@ returns-clause-reads g c =
         c.in_ok-bytes.ensures.reads.opened,
       ),
     ))
+
+pub bounds-words-2 : goal.bounds-words-2
+bounds-words-2 g c =
+    let lt = asks-three c.args.words.now c.requires.asks.0 c.requires.asks.1 c.args.asked c.requires.asks.2 in
+    omega (arith, lt)
+
+pub returns-clause-playable : goal.returns-clause-playable
+returns-clause-playable g c = c.in_ok-decide_trace.ensures.playable
