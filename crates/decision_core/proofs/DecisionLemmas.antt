@@ -17,8 +17,14 @@ use Rattle.decision_core.specs.declared.showing.Asked.TheVariants as Ask
 use Rattle.decision_core.specs.declared.showing.Showing.TheVariants as Show
 use Rattle.workload.specs.Generated.{generated_text}
 use Rattle.workload.specs.declared.description.TheConstants.{FULL_EXAMPLE}
-use Rattle.decision_core.specs.Decisions.{Decision, Say, Play, Run, asked_on, AsksFor, to_play, to_run, TraceDecides, PlanDecides, TextDecides, GeneratedDecides, Decides, NamesDescription, refuses, refuses_rogue, long_trace, bad_trace, good_trace, checked, laid_out, hostile, traced, long_description, refused, accepted, no_command, described, generated}
+use Rattle.decision_core.specs.Decisions.{Decision, Say, Play, Run, asked_on, AsksFor, to_play, to_run, AsksAlone, AloneDecides, OneTextDecides, long_text_alone, bad_text, good_text, bus_played, ports_played, alone, TraceDecides, PlanDecides, TextDecides, GeneratedDecides, Decides, NamesDescription, refuses, refuses_rogue, long_trace, bad_trace, good_trace, checked, laid_out, hostile, traced, long_description, refused, accepted, no_command, described, generated}
 use Rattle.decision_core.specs.Rogues.{first_rogue}
+use Rattle.decision_core.specs.Naming.{HasDescription}
+use Rattle.decision_core.specs.declared.showing.Alone.{Alone}
+use Rattle.decision_core.specs.declared.showing.Alone.TheVariants as Only
+use Rattle.command_words.specs.declared.command.Schedule.{Schedule}
+use Rattle.i2c_text.specs.Buses.{HasNoBadLine as HasNoBadBusLine, IsLeastBadLine as IsLeastBadBusLine}
+use Rattle.ports_text.specs.Given.{HasNoBadLine as HasNoBadPortLine, IsLeastBadLine as IsLeastBadPortLine}
 use Rattle.shelf_core.specs.Reading.{WasRead}
 use Rattle.command_words.specs.declared.command.Options.{Options}
 use Rattle.command_words.specs.Words.{IsPlay, IsRun}
@@ -52,7 +58,7 @@ bad-none words k command h s = elim (cases_lt k (length words)) [
 ]
 
 -- words that ask for something of a trace are a command
-asks-spell : (words : List (List ℕ)) (desc trace : List ℕ) (asked : Asked) → AsksFor words desc trace asked → (command : Command) × Spells words command
+pub asks-spell : (words : List (List ℕ)) (desc trace : List ℕ) (asked : Asked) → AsksFor words desc trace asked → (command : Command) × Spells words command
 asks-spell words desc trace _ (to_play o p) = (Do.Play o, (desc, trace, p))
 asks-spell words desc trace _ (to_run n p) = (Do.Run n, (desc, trace, p))
 
@@ -96,18 +102,6 @@ layout-or-traced words desc desc' trace _ l (to_run n p) = let e = sym l.words_a
 check-or-layout : (words : List (List ℕ)) (desc desc' : List ℕ) → IsCheck words desc → IsLayout words desc' → ⊥
 check-or-layout words desc desc' c l = let e = sym c.words_are ∙ l.words_are in cc
 
--- two decisions agree where they say, play or run the same
-abbrev pub Agrees : Decision → Decision → Type 0
-Agrees (Say s x) (Say s' x') = (s ≡ s') × (x ≡ x')
-Agrees (Say s x) (Play p t o) = ⊥
-Agrees (Say s x) (Run p t n) = ⊥
-Agrees (Play p t o) (Say s' x') = ⊥
-Agrees (Play p t o) (Play p' t' o') = (p ≡ p') × (t ≡ t') × (o ≡ o')
-Agrees (Play p t o) (Run p' t' n) = ⊥
-Agrees (Run p t n) (Say s' x') = ⊥
-Agrees (Run p t n) (Play p' t' o) = ⊥
-Agrees (Run p t n) (Run p' t' n') = (p ≡ p') × (t ≡ t') × (n ≡ n')
-
 -- the same words have the same options
 same-options : (words : List (List ℕ)) (desc trace desc' trace' : List ℕ) (o o' : Options) → IsPlay words desc trace o → IsPlay words desc' trace' o' → o ≡ o'
 same-options words desc trace desc' trace' o o' p q = let e = same-command words (Do.Play o) (Do.Play o') (desc, trace, p) (desc', trace', q) in cc
@@ -119,14 +113,11 @@ same-limit words desc trace desc' trace' n n' p q = let e = same-command words (
 play-or-run : (words : List (List ℕ)) (more less : List (List ℕ)) → words ≡ codes "play" ∷ more → words ≡ codes "run" ∷ less → ⊥
 play-or-run words more less e f = let g = sym e ∙ f in cc
 
-agrees-asked : (words : List (List ℕ)) (desc trace desc' trace' : List ℕ) (a b : Asked) → AsksFor words desc trace a → AsksFor words desc' trace' b → (plan : Plan) (t : Trace) → Agrees (asked_on plan t a) (asked_on plan t b)
-agrees-asked words desc trace desc' trace' _ _ (to_play o p) (to_play o' q) plan t = (refl, refl, ap (λ (x : Options). Show.Report x) (same-options words desc trace desc' trace' o o' p q))
-agrees-asked words desc trace desc' trace' _ _ (to_play o p) (to_run n q) plan t = absurd (play-or-run words _ _ p.words_are q.words_are)
-agrees-asked words desc trace desc' trace' _ _ (to_run n p) (to_play o q) plan t = absurd (play-or-run words _ _ q.words_are p.words_are)
-agrees-asked words desc trace desc' trace' _ _ (to_run n p) (to_run n' q) plan t = (refl, refl, same-limit words desc trace desc' trace' n n' p q)
-
-agrees-refused : (r r' : Refusal) → r ≡ r' → Agrees (refuses r) (refuses r')
-agrees-refused r r' e = let f = ap refuses e in (cc, cc)
+same-asked : (words : List (List ℕ)) (desc trace desc' trace' : List ℕ) (a b : Asked) → AsksFor words desc trace a → AsksFor words desc' trace' b → (plan : Plan) (t : Trace) → asked_on plan t a ≡ asked_on plan t b
+same-asked words desc trace desc' trace' _ _ (to_play o p) (to_play o' q) plan t = ap (λ (x : Options). Play plan t (Show.Report x)) (same-options words desc trace desc' trace' o o' p q)
+same-asked words desc trace desc' trace' _ _ (to_play o p) (to_run n q) plan t = absurd (play-or-run words _ _ p.words_are q.words_are)
+same-asked words desc trace desc' trace' _ _ (to_run n p) (to_play o q) plan t = absurd (play-or-run words _ _ q.words_are p.words_are)
+same-asked words desc trace desc' trace' _ _ (to_run n p) (to_run n' q) plan t = ap (λ (x : Option ℕ). Run plan t x) (same-limit words desc trace desc' trace' n n' p q)
 
 -- there is one first hostile client
 same-rogue : (plan : Plan) (p q : Place) → first_rogue plan ≡ Some p → first_rogue plan ≡ Some q → p ≡ q
@@ -134,9 +125,6 @@ same-rogue plan p q h i = cc
 
 rogue-or-none : (plan : Plan) (p : Place) → first_rogue plan ≡ Some p → first_rogue plan ≡ None → ⊥
 rogue-or-none plan p h i = cc
-
-agrees-rogue : (p q : Place) → p ≡ q → Agrees (refuses_rogue p) (refuses_rogue q)
-agrees-rogue p q e = agrees-refused (record { rule = 0; place = p }) (record { rule = 0; place = q }) (ap (λ x. record { rule = 0; place = x }) e)
 
 long-or-short : (xs : List ℕ) → 16777216 < length xs → length xs ≤ 16777216 → ⊥
 long-or-short xs long short = omega arith
@@ -154,29 +142,30 @@ same-line plan bytes l m h i = elim (cases_lt h.at i.at) [
 good-or-bad : (plan : Plan) (bytes : List ℕ) (l : ℕ) → HasNoBadLine plan bytes → IsLeastBadLine plan bytes l → ⊥
 good-or-bad plan bytes l h i = let e = i.bad in let f = h i.at in cc
 
-agrees-bad : (l m : ℕ) → l ≡ m → Agrees (Say (Ended.BadTrace l) (bad_trace_text l)) (Say (Ended.BadTrace m) (bad_trace_text m))
-agrees-bad l m e = (ap (λ n. Ended.BadTrace n) e, ap bad_trace_text e)
+-- what is said of a bad line
+abbrev pub says_bad : ℕ → Decision
+says_bad line = Say (Ended.BadTrace line) (bad_trace_text line)
 
 -- what the bytes of a trace decide
-one-trace : (plan : Plan) (o o' : Asked) → ((t : Trace) → Agrees (asked_on plan t o) (asked_on plan t o')) → (bytes : List ℕ) (d d' : Decision) → TraceDecides plan o bytes d → TraceDecides plan o' bytes d' → Agrees d d'
-one-trace plan o o' same bytes _ _ (long_trace l) (long_trace m) = (refl, refl)
+one-trace : (plan : Plan) (o o' : Asked) → ((t : Trace) → asked_on plan t o ≡ asked_on plan t o') → (bytes : List ℕ) (d d' : Decision) → TraceDecides plan o bytes d → TraceDecides plan o' bytes d' → d ≡ d'
+one-trace plan o o' same bytes _ _ (long_trace l) (long_trace m) = refl
 one-trace plan o o' same bytes _ _ (long_trace l) (bad_trace k m b) = absurd (long-or-short bytes l m)
 one-trace plan o o' same bytes _ _ (long_trace l) (good_trace m g) = absurd (long-or-short bytes l m)
 one-trace plan o o' same bytes _ _ (bad_trace k l b) (long_trace m) = absurd (long-or-short bytes m l)
-one-trace plan o o' same bytes _ _ (bad_trace k l b) (bad_trace k' m b') = agrees-bad k k' (same-line plan bytes k k' b b')
+one-trace plan o o' same bytes _ _ (bad_trace k l b) (bad_trace k' m b') = ap says_bad (same-line plan bytes k k' b b')
 one-trace plan o o' same bytes _ _ (bad_trace k l b) (good_trace m g) = absurd (good-or-bad plan bytes k g b)
 one-trace plan o o' same bytes _ _ (good_trace l g) (long_trace m) = absurd (long-or-short bytes m l)
 one-trace plan o o' same bytes _ _ (good_trace l g) (bad_trace k m b) = absurd (good-or-bad plan bytes k g b)
 one-trace plan o o' same bytes _ _ (good_trace l g) (good_trace m g') = same _
 
--- what the bytes of a description decide, where what a plan decides agrees
-one-text : (P Q : Plan → Decision → Type 0) → ((plan : Plan) (d d' : Decision) → P plan d → Q plan d' → Agrees d d') → (bytes : List ℕ) (d d' : Decision)
-    → TextDecides P bytes d → TextDecides Q bytes d' → Agrees d d'
-one-text P Q one bytes _ _ (long_description l) (long_description m) = (refl, refl)
+-- what the bytes of a description decide, where what a plan decides is the same
+one-text : (P Q : Plan → Decision → Type 0) → ((plan : Plan) (d d' : Decision) → P plan d → Q plan d' → d ≡ d') → (bytes : List ℕ) (d d' : Decision)
+    → TextDecides P bytes d → TextDecides Q bytes d' → d ≡ d'
+one-text P Q one bytes _ _ (long_description l) (long_description m) = refl
 one-text P Q one bytes _ _ (long_description l) (refused r m i) = absurd (long-or-short bytes l m)
 one-text P Q one bytes _ _ (long_description l) (accepted p d m i q) = absurd (long-or-short bytes l m)
 one-text P Q one bytes _ _ (refused r l h) (long_description m) = absurd (long-or-short bytes m l)
-one-text P Q one bytes _ _ (refused r l h) (refused r' m i) = agrees-refused r r' (same-refused bytes r r' h i)
+one-text P Q one bytes _ _ (refused r l h) (refused r' m i) = ap refuses (same-refused bytes r r' h i)
 one-text P Q one bytes _ _ (refused r l h) (accepted p d m i q) = absurd (accepted-or-refused bytes p r i h)
 one-text P Q one bytes _ _ (accepted p d l h q) (long_description m) = absurd (long-or-short bytes m l)
 one-text P Q one bytes _ _ (accepted p d l h q) (refused r m i) = absurd (accepted-or-refused bytes p r h i)
@@ -198,32 +187,132 @@ gen-same words n m g h =
     let same : decimal n ≡ decimal m = cc in
     decimal_injective n m g.small h.small same
 
+-- words that ask for something of one text are a command that names no description
+abbrev pub command_alone : Alone → Command
+command_alone (Only.Bus schedule) = Do.I2c schedule
+command_alone (Only.Switch schedule) = Do.Switch schedule
+
+spells-alone : (words : List (List ℕ)) (trace : List ℕ) (a : Alone) → AsksAlone words trace a → Spells words (command_alone a)
+spells-alone words trace (Only.Bus schedule) w = (trace, w)
+spells-alone words trace (Only.Switch schedule) w = (trace, w)
+
+pub alone-spell : (words : List (List ℕ)) (trace : List ℕ) (a : Alone) → AsksAlone words trace a → (command : Command) × Spells words command
+alone-spell words trace a w = (command_alone a, spells-alone words trace a w)
+
+alone-words : (words : List (List ℕ)) (trace : List ℕ) (a : Alone) → AsksAlone words trace a → (w : List ℕ) × (ws : List (List ℕ)) × (words ≡ w ∷ trace ∷ ws)
+alone-words words trace (Only.Bus schedule) w = (_, _, w.words_are)
+alone-words words trace (Only.Switch schedule) w = (_, _, w.words_are)
+
+-- the text that is named alone
+pub same-alone : (words : List (List ℕ)) (trace trace' : List ℕ) (a a' : Alone) → AsksAlone words trace a → AsksAlone words trace' a' → trace ≡ trace'
+same-alone words trace trace' a a' w w' = let p = alone-words words trace a w in let q = alone-words words trace' a' w' in second-of words p.0 trace p.1 q.0 trace' q.1 p.2 q.2
+
+-- words spell one command
+one-command : (words : List (List ℕ)) (c d : Command) → Spells words c → Spells words d → c ≡ d
+one-command words c d s t = let e = same-command words c d s t in cc
+
+no-description : (a : Alone) → HasDescription (command_alone a) → ⊥
+no-description (Only.Bus schedule) h = h
+no-description (Only.Switch schedule) h = h
+
+described-command : (words : List (List ℕ)) (desc : List ℕ) → NamesDescription words desc → (command : Command) × HasDescription command × Spells words command
+described-command words desc (inl c) = (Do.Check, tt, (desc, c))
+described-command words desc (inr (inl l)) = (Do.Layout, tt, (desc, l))
+described-command words desc (inr (inr p)) = by p.1 p.2
+  where
+    by : (asked : Asked) → AsksFor words desc p.0 asked → (command : Command) × HasDescription command × Spells words command
+    by _ (to_play o q) = (Do.Play o, tt, (desc, p.0, q))
+    by _ (to_run n q) = (Do.Run n, tt, (desc, p.0, q))
+
+pub alone-or-named : (words : List (List ℕ)) (trace desc : List ℕ) (a : Alone) → AsksAlone words trace a → NamesDescription words desc → ⊥
+alone-or-named words trace desc a w n =
+    let d = described-command words desc n in
+    no-description a (subst (λ (c : Command). HasDescription c) (one-command words d.0 (command_alone a) d.2 (spells-alone words trace a w)) d.1)
+
+gen-not-alone : (n : ℕ) (a : Alone) → Do.Gen n ≡ command_alone a → ⊥
+gen-not-alone n (Only.Bus schedule) e = cc
+gen-not-alone n (Only.Switch schedule) e = cc
+
+pub gen-or-alone : (words : List (List ℕ)) (n : ℕ) (trace : List ℕ) (a : Alone) → IsGen words n → AsksAlone words trace a → ⊥
+gen-or-alone words n trace a g w = gen-not-alone n a (one-command words (Do.Gen n) (command_alone a) g (spells-alone words trace a w))
+
+alone-once : (a a' : Alone) → command_alone a ≡ command_alone a' → a ≡ a'
+alone-once (Only.Bus s) (Only.Bus s') e = let f : s ≡ s' = cc in ap (λ (x : Schedule). Only.Bus x) f
+alone-once (Only.Bus s) (Only.Switch s') e = cc
+alone-once (Only.Switch s) (Only.Bus s') e = cc
+alone-once (Only.Switch s) (Only.Switch s') e = let f : s ≡ s' = cc in ap (λ (x : Schedule). Only.Switch x) f
+
+asked-alone : (words : List (List ℕ)) (trace trace' : List ℕ) (a a' : Alone) → AsksAlone words trace a → AsksAlone words trace' a' → a ≡ a'
+asked-alone words trace trace' a a' w w' = alone-once a a' (one-command words (command_alone a) (command_alone a') (spells-alone words trace a w) (spells-alone words trace' a' w'))
+
+-- there is one least bad line of a bus, and of the ports of a switch
+bad-once-bus : (bytes : List ℕ) (l m : ℕ) (h : IsLeastBadBusLine bytes l) (i : IsLeastBadBusLine bytes m) → h.at < i.at → ⊥
+bad-once-bus bytes l m h i lt = let e = h.bad in let f = i.before h.at lt in cc
+
+same-bus-line : (bytes : List ℕ) (l m : ℕ) → IsLeastBadBusLine bytes l → IsLeastBadBusLine bytes m → l ≡ m
+same-bus-line bytes l m h i = elim (cases_lt h.at i.at) [
+  | inl lt ↦ absurd (bad-once-bus bytes l m h i lt)
+  | inr ge ↦ elim (cases_lt i.at h.at) [ inl lt ↦ absurd (bad-once-bus bytes m l i h lt) | inr le ↦ omega (arith, h.counted, i.counted) ]
+]
+
+good-or-bad-bus : (bytes : List ℕ) (l : ℕ) → HasNoBadBusLine bytes → IsLeastBadBusLine bytes l → ⊥
+good-or-bad-bus bytes l h i = let e = i.bad in let f = h i.at in cc
+
+bad-once-port : (bytes : List ℕ) (l m : ℕ) (h : IsLeastBadPortLine bytes l) (i : IsLeastBadPortLine bytes m) → h.at < i.at → ⊥
+bad-once-port bytes l m h i lt = let e = h.bad in let f = i.before h.at lt in cc
+
+same-port-line : (bytes : List ℕ) (l m : ℕ) → IsLeastBadPortLine bytes l → IsLeastBadPortLine bytes m → l ≡ m
+same-port-line bytes l m h i = elim (cases_lt h.at i.at) [
+  | inl lt ↦ absurd (bad-once-port bytes l m h i lt)
+  | inr ge ↦ elim (cases_lt i.at h.at) [ inl lt ↦ absurd (bad-once-port bytes m l i h lt) | inr le ↦ omega (arith, h.counted, i.counted) ]
+]
+
+good-or-bad-port : (bytes : List ℕ) (l : ℕ) → HasNoBadPortLine bytes → IsLeastBadPortLine bytes l → ⊥
+good-or-bad-port bytes l h i = let e = i.bad in let f = h i.at in cc
+
+-- what the bytes of a text that is named alone decide
+module _ (Good : List ℕ → Type 0) (Bad : List ℕ → ℕ → Type 0) (once : (bytes : List ℕ) (l m : ℕ) → Bad bytes l → Bad bytes m → l ≡ m) (apart : (bytes : List ℕ) (l : ℕ) → Good bytes → Bad bytes l → ⊥) (play : List ℕ → Decision) where
+  one-text-alone : (bytes : List ℕ) (d d' : Decision) → OneTextDecides Good Bad play bytes d → OneTextDecides Good Bad play bytes d' → d ≡ d'
+  one-text-alone bytes _ _ (long_text_alone l) (long_text_alone m) = refl
+  one-text-alone bytes _ _ (long_text_alone l) (bad_text k m b) = absurd (long-or-short bytes l m)
+  one-text-alone bytes _ _ (long_text_alone l) (good_text m g) = absurd (long-or-short bytes l m)
+  one-text-alone bytes _ _ (bad_text k l b) (long_text_alone m) = absurd (long-or-short bytes m l)
+  one-text-alone bytes _ _ (bad_text k l b) (bad_text k' m b') = ap says_bad (once bytes k k' b b')
+  one-text-alone bytes _ _ (bad_text k l b) (good_text m g) = absurd (apart bytes k g b)
+  one-text-alone bytes _ _ (good_text l g) (long_text_alone m) = absurd (long-or-short bytes m l)
+  one-text-alone bytes _ _ (good_text l g) (bad_text k m b) = absurd (apart bytes k g b)
+  one-text-alone bytes _ _ (good_text l g) (good_text m g') = refl
+
+one-alone : (a : Alone) (bytes : List ℕ) (d d' : Decision) → AloneDecides a bytes d → AloneDecides a bytes d' → d ≡ d'
+one-alone (Only.Bus schedule) bytes d d' h i = one-text-alone HasNoBadBusLine IsLeastBadBusLine same-bus-line good-or-bad-bus (bus_played schedule) bytes d d' h i
+one-alone (Only.Switch schedule) bytes d d' h i = one-text-alone HasNoBadPortLine IsLeastBadPortLine same-port-line good-or-bad-port (ports_played schedule) bytes d d' h i
+
 -- two tellings of what was read agree
 module _ (R S : List ℕ → List ℕ → Type 0) (same : (name a b : List ℕ) → R name a → S name b → a ≡ b) (words : List (List ℕ)) where
   -- what the words decide for a plan
-  one-plan : (plan : Plan) (d d' : Decision) → PlanDecides R words plan d → PlanDecides S words plan d' → Agrees d d'
-  one-plan plan _ _ (checked desc c) (checked desc' c') = (refl, refl)
+  one-plan : (plan : Plan) (d d' : Decision) → PlanDecides R words plan d → PlanDecides S words plan d' → d ≡ d'
+  one-plan plan _ _ (checked desc c) (checked desc' c') = refl
   one-plan plan _ _ (checked desc c) (hostile desc' trace' o' place' p' f') = absurd (check-or-traced words desc desc' trace' o' c p')
   one-plan plan _ _ (laid_out desc l) (hostile desc' trace' o' place' p' f') = absurd (layout-or-traced words desc desc' trace' o' l p')
   one-plan plan _ _ (hostile desc trace o place p f) (checked desc' c') = absurd (check-or-traced words desc' desc trace o c' p)
   one-plan plan _ _ (hostile desc trace o place p f) (laid_out desc' l') = absurd (layout-or-traced words desc' desc trace o l' p)
-  one-plan plan _ _ (hostile desc trace o place p f) (hostile desc' trace' o' place' p' f') = agrees-rogue place place' (same-rogue plan place place' f f')
+  one-plan plan _ _ (hostile desc trace o place p f) (hostile desc' trace' o' place' p' f') = ap refuses_rogue (same-rogue plan place place' f f')
   one-plan plan _ _ (hostile desc trace o place p f) (traced desc' trace' bytes' o' d' p' f' r' t') = absurd (rogue-or-none plan place f f')
   one-plan plan _ _ (traced desc trace bytes o d p f r t) (hostile desc' trace' o' place' p' f') = absurd (rogue-or-none plan place' f' f)
   one-plan plan _ _ (checked desc c) (laid_out desc' l') = absurd (check-or-layout words desc desc' c l')
   one-plan plan _ _ (checked desc c) (traced desc' trace' bytes' o' d' p' f' r' t') = absurd (check-or-traced words desc desc' trace' o' c p')
   one-plan plan _ _ (laid_out desc l) (checked desc' c') = absurd (check-or-layout words desc' desc c' l)
-  one-plan plan _ _ (laid_out desc l) (laid_out desc' l') = (refl, refl)
+  one-plan plan _ _ (laid_out desc l) (laid_out desc' l') = refl
   one-plan plan _ _ (laid_out desc l) (traced desc' trace' bytes' o' d' p' f' r' t') = absurd (layout-or-traced words desc desc' trace' o' l p')
   one-plan plan _ _ (traced desc trace bytes o d p f r t) (checked desc' c') = absurd (check-or-traced words desc' desc trace o c' p)
   one-plan plan _ _ (traced desc trace bytes o d p f r t) (laid_out desc' l') = absurd (layout-or-traced words desc' desc trace o l' p)
   one-plan plan _ _ (traced desc trace bytes o d p f r t) (traced desc' trace' bytes' o' d' p' f' r' t') =
       let b : bytes ≡ bytes' = same trace' bytes bytes' (subst (λ n. R n bytes) (same-trace words desc trace desc' trace' o o' p p') r) r' in
-      one-trace plan o o' (λ t. agrees-asked words desc trace desc' trace' o o' p p' plan t) bytes' d d' (subst (λ x. TraceDecides plan o x d) b t) t'
+      one-trace plan o o' (λ t. same-asked words desc trace desc' trace' o o' p p' plan t) bytes' d d' (subst (λ x. TraceDecides plan o x d) b t) t'
 
   -- what the words and the texts under their names decide
-  pub one-decision : (d d' : Decision) → Decides R words d → Decides S words d' → Agrees d d'
-  one-decision _ _ (no_command k h) (no_command l i) = let e = bad-same words k l h i in (cc, ap usage_text e)
+  pub one-decision : (d d' : Decision) → Decides R words d → Decides S words d' → d ≡ d'
+  one-decision _ _ (no_command k h) (no_command l i) = ap (λ (n : ℕ). Say (Ended.Usage n) (usage_text n)) (bad-same words k l h i)
   one-decision _ _ (no_command k h) (described desc bytes d n r t) = let s = names-spell words desc n in absurd (bad-none words k s.0 h s.1)
   one-decision _ _ (described desc bytes d n r t) (no_command k h) = let s = names-spell words desc n in absurd (bad-none words k s.0 h s.1)
   one-decision _ _ (described desc bytes d n r t) (described desc' bytes' d' n' r' t') =
@@ -234,8 +323,18 @@ module _ (R S : List ℕ → List ℕ → Type 0) (same : (name a b : List ℕ) 
   one-decision _ _ (described desc bytes d n r t) (generated m d' g t') = absurd (gen-or-named words m desc g n)
   one-decision _ _ (generated m d g t) (described desc bytes d' n r t') = absurd (gen-or-named words m desc g n)
   one-decision _ _ (generated n d g t) (generated m d' g' t') =
-      one-text (GeneratedDecides m) (GeneratedDecides m) (λ plan e e' a b. one-trace plan (Ask.Play Show.Summary) (Ask.Play Show.Summary) (λ t. (refl, refl, refl)) (generated_text m) e e' a b) FULL_EXAMPLE.now d d'
+      one-text (GeneratedDecides m) (GeneratedDecides m) (λ plan e e' a b. one-trace plan (Ask.Play Show.Summary) (Ask.Play Show.Summary) (λ t. refl) (generated_text m) e e' a b) FULL_EXAMPLE.now d d'
       (subst (λ k. TextDecides (GeneratedDecides k) FULL_EXAMPLE.now d) (gen-same words n m g g') t) t'
+  one-decision _ _ (alone trace bytes a d w r t) (no_command k h) = let s = alone-spell words trace a w in absurd (bad-none words k s.0 h s.1)
+  one-decision _ _ (no_command k h) (alone trace bytes a d w r t) = let s = alone-spell words trace a w in absurd (bad-none words k s.0 h s.1)
+  one-decision _ _ (alone trace bytes a d w r t) (described desc bytes' d' n r' t') = absurd (alone-or-named words trace desc a w n)
+  one-decision _ _ (described desc bytes' d' n r' t') (alone trace bytes a d w r t) = absurd (alone-or-named words trace desc a w n)
+  one-decision _ _ (alone trace bytes a d w r t) (generated m d' g t') = absurd (gen-or-alone words m trace a g w)
+  one-decision _ _ (generated m d' g t') (alone trace bytes a d w r t) = absurd (gen-or-alone words m trace a g w)
+  one-decision _ _ (alone trace bytes a d w r t) (alone trace' bytes' a' d' w' r' t') =
+      let b : bytes ≡ bytes' = same trace' bytes bytes' (subst (λ x. R x bytes) (same-alone words trace trace' a a' w w') r) r' in
+      let k : a ≡ a' = asked-alone words trace trace' a a' w w' in
+      one-alone a' bytes' d d' (subst (λ x. AloneDecides x bytes' d) k (subst (λ x. AloneDecides a x d) b t)) t'
 
 -- what is decided where a text was read as it was before
 pub plan-read : (R S : List ℕ → List ℕ → Type 0) → ((name bytes : List ℕ) → R name bytes → S name bytes) → (words : List (List ℕ)) (plan : Plan) (d : Decision)

@@ -9,7 +9,9 @@ use Rattle.decision_core.specs.declared.status.Status.{Status}
 use Rattle.decision_core.specs.declared.status.Status.TheVariants as Ended
 use Rattle.sdf_model.specs.Counts.{text_most}
 use Rattle.shelf_core.specs.Outside.{IsRead, read_most, also_opened}
-use Rattle.decision_core.specs.Decisions.{Decision, asked_on, AsksFor, TextDecides, TraceDecides, GeneratedDecides, long_description, refused, accepted, long_trace, bad_trace, good_trace, NamesDescription, IsStatusOf}
+use Rattle.decision_core.specs.declared.showing.Alone.{Alone}
+use Rattle.decision_core.specs.declared.showing.Alone.TheVariants as Only
+use Rattle.decision_core.specs.Decisions.{Decision, AloneDecides, OneTextDecides, long_text_alone, bad_text, good_text, bus_played, ports_played, asked_on, AsksFor, TextDecides, TraceDecides, GeneratedDecides, long_description, refused, accepted, long_trace, bad_trace, good_trace, NamesDescription, IsStatusOf}
 use Rattle.shelf_core.specs.Reading.{Behind, WasRead}
 use Rattle.decision_core.specs.Readings.{IsLong, IsWithinLimit, IsOfText, IsOfPlay, IsUnread, LeavesPlan, LeavesText, ReadLast, read_description, read_trace, OpensText, OpensInTurn, opens_description, opens_trace}
 use Rattle.decision_core.proofs.DecisionLemmas.{same-desc}
@@ -37,6 +39,17 @@ pub trace-status : (told : Option (List ℕ)) (plan : Plan) (a : Asked) (bytes :
 trace-status told plan a bytes _ s r (long_trace l) h = inl (long-read told bytes r l, h)
 trace-status told plan a bytes _ s r (bad_trace k l b) h = inr (within-read told bytes r l, rw h tt)
 trace-status told plan a bytes _ s r (good_trace l g) h = inr (within-read told bytes r l, asked-leads plan _ a s h)
+
+-- what a text that is named alone decides is an answer to a trace
+text-alone : (Good : List ℕ → Type 0) (Bad : List ℕ → ℕ → Type 0) (play : List ℕ → Decision) (told : Option (List ℕ)) (bytes : List ℕ) (d : Decision) (s : Status) → ((b : List ℕ) → IsStatusOf (play b) s → IsOfPlay s)
+    → IsRead told bytes → OneTextDecides Good Bad play bytes d → IsStatusOf d s → IsOfText told IsOfPlay s
+text-alone Good Bad play told bytes _ s ends r (long_text_alone l) h = inl (long-read told bytes r l, h)
+text-alone Good Bad play told bytes _ s ends r (bad_text k l b) h = inr (within-read told bytes r l, rw h tt)
+text-alone Good Bad play told bytes _ s ends r (good_text l g) h = inr (within-read told bytes r l, ends bytes h)
+
+pub alone-status : (a : Alone) (told : Option (List ℕ)) (bytes : List ℕ) (d : Decision) (s : Status) → IsRead told bytes → AloneDecides a bytes d → IsStatusOf d s → IsOfText told IsOfPlay s
+alone-status (Only.Bus schedule) told bytes d s r t h = text-alone _ _ (bus_played schedule) told bytes d s (λ b e. of-play s e) r t h
+alone-status (Only.Switch schedule) told bytes d s r t h = text-alone _ _ (ports_played schedule) told bytes d s (λ b e. of-play s e) r t h
 
 -- the description was opened, and then the trace
 opened-both : (words : List (List ℕ)) (desc desc' trace : List ℕ) (asked : Asked) (start before after : Option (List (List ℕ))) → NamesDescription words desc → AsksFor words desc' trace asked

@@ -4,12 +4,16 @@ use Rattle.std.specs.Global.{Global}
 use Rattle.std.specs.declared.string.String.{String}
 use Rattle.command_words.specs.declared.command.Command.{Command}
 use Rattle.command_words.specs.declared.command.Command.TheVariants as Do
-use Rattle.command_words.specs.Words.{texts_of, IsCheck, IsLayout, IsPlay, IsRun, IsGen, Spells}
+use Rattle.command_words.specs.Words.{texts_of, IsCheck, IsLayout, IsPlay, IsRun, IsGen, IsI2c, IsSwitch, Spells}
+use Rattle.command_words.specs.declared.command.Schedule.{Schedule}
 use Rattle.command_words.proofs.Letters.{run-or-gen}
 use Rattle.decision_core.specs.declared.showing.Showing.TheVariants as Show
 use Rattle.decision_core.specs.declared.showing.Asked.{Asked}
 use Rattle.decision_core.specs.declared.showing.Asked.TheVariants as Ask
-use Rattle.decision_core.specs.Decisions.{NamesDescription, AsksFor, to_play, to_run}
+use Rattle.decision_core.specs.declared.showing.Alone.{Alone}
+use Rattle.decision_core.specs.declared.showing.Alone.TheVariants as Only
+use Rattle.decision_core.specs.Naming.{HasDescription}
+use Rattle.decision_core.specs.Decisions.{NamesDescription, AsksFor, AsksAlone, to_play, to_run}
 
 -- the words of a command are two at least
 none-spelled : (c : Command) → Spells [] c → ⊥
@@ -18,6 +22,8 @@ none-spelled Do.Layout s = let e = s.1.words_are in cc
 none-spelled (Do.Play o) s = let e = s.2.words_are in cc
 none-spelled (Do.Run n) s = let e = s.2.words_are in cc
 none-spelled (Do.Gen n) s = let e = s.words_are in cc
+none-spelled (Do.I2c d) s = let e = s.1.words_are in cc
+none-spelled (Do.Switch d) s = let e = s.1.words_are in cc
 
 one-spelled : (w : List ℕ) (c : Command) → Spells (w ∷ []) c → ⊥
 one-spelled w Do.Check s = let e = s.1.words_are in cc
@@ -25,9 +31,11 @@ one-spelled w Do.Layout s = let e = s.1.words_are in cc
 one-spelled w (Do.Play o) s = let e = s.2.words_are in cc
 one-spelled w (Do.Run n) s = let e = s.2.words_are in cc
 one-spelled w (Do.Gen n) s = let e = s.words_are in cc
+one-spelled w (Do.I2c d) s = let e = s.1.words_are in cc
+one-spelled w (Do.Switch d) s = let e = s.1.words_are in cc
 
 -- the names in the words of a command
-pub second-named : (words : List (String Global)) (c : Command) (w : String Global) → Spells (texts_of words) c → ((n : ℕ) → c ≡ Do.Gen n → ⊥) → w ≡ get_or words 1 w → NamesDescription (texts_of words) (string_bytes w)
+pub second-named : (words : List (String Global)) (c : Command) (w : String Global) → Spells (texts_of words) c → HasDescription c → w ≡ get_or words 1 w → NamesDescription (texts_of words) (string_bytes w)
 second-named [] c w s named e = absurd (none-spelled c s)
 second-named (a ∷ []) c w s named e = absurd (one-spelled (string_bytes a) c s)
 second-named (a ∷ b ∷ ws) Do.Check w s named e =
@@ -36,7 +44,9 @@ second-named (a ∷ b ∷ ws) Do.Check w s named e =
 second-named (a ∷ b ∷ ws) Do.Layout w s named e =
     let f = s.1.words_are in let d : s.0 ≡ string_bytes b = cc in
     inr (inl (subst (λ x. IsLayout (texts_of (a ∷ b ∷ ws)) x) (d ∙ ap (λ (x : String Global). string_bytes x) (sym e)) s.1))
-second-named (a ∷ b ∷ ws) (Do.Gen n) w s named e = absurd (named n refl)
+second-named (a ∷ b ∷ ws) (Do.Gen n) w s named e = absurd named
+second-named (a ∷ b ∷ ws) (Do.I2c d) w s named e = absurd named
+second-named (a ∷ b ∷ ws) (Do.Switch d) w s named e = absurd named
 second-named (a ∷ b ∷ ws) (Do.Play o) w s named e =
     let f = s.2.words_are in let d : s.0 ≡ string_bytes b = cc in
     inr (inr (s.1, Ask.Play (Show.Report o), to_play o (subst (λ x. IsPlay (texts_of (a ∷ b ∷ ws)) x s.1 o) (d ∙ ap (λ (x : String Global). string_bytes x) (sym e)) s.2)))
@@ -68,10 +78,43 @@ pub asks-three : (words : List (String Global)) (desc trace : List ℕ) (asked :
 asks-three words desc trace _ (to_play o p) = three-words words _ desc trace _ p.words_are
 asks-three words desc trace _ (to_run n p) = three-words words _ desc trace _ p.words_are
 
+-- the text in words that name it alone
+second-word : (words : List (String Global)) (first trace : List ℕ) (more : List (List ℕ)) (w : String Global) → texts_of words ≡ first ∷ trace ∷ more → w ≡ get_or words 1 w → trace ≡ string_bytes w
+second-word [] first trace more w f e = cc
+second-word (a ∷ []) first trace more w f e = cc
+second-word (a ∷ b ∷ ws) first trace more w f e =
+    let t : trace ≡ string_bytes b = cc in
+    t ∙ ap (λ (x : String Global). string_bytes x) (sym e)
+
+pub named-alone : (words : List (String Global)) (trace : List ℕ) (asked : Alone) (w : String Global) → AsksAlone (texts_of words) trace asked → w ≡ get_or words 1 w → AsksAlone (texts_of words) (string_bytes w) asked
+named-alone words trace (Only.Bus d) w p e = subst (λ x. IsI2c (texts_of words) x d) (second-word words _ trace _ w p.words_are e) p
+named-alone words trace (Only.Switch d) w p e = subst (λ x. IsSwitch (texts_of words) x d) (second-word words _ trace _ w p.words_are e) p
+
+two-words : (words : List (String Global)) (first trace : List ℕ) (more : List (List ℕ)) → texts_of words ≡ first ∷ trace ∷ more → 1 < length words
+two-words [] first trace more f = cc
+two-words (a ∷ []) first trace more f = cc
+two-words (a ∷ b ∷ ws) first trace more f = omega arith
+
+pub alone-two : (words : List (String Global)) (trace : List ℕ) (asked : Alone) → AsksAlone (texts_of words) trace asked → 1 < length words
+alone-two words trace (Only.Bus d) p = two-words words _ trace _ p.words_are
+alone-two words trace (Only.Switch d) p = two-words words _ trace _ p.words_are
+
+-- a command that is none of these names a description
+pub has-description : (c : Command) → ((n : ℕ) → c ≡ Do.Gen n → ⊥) → ((d : Schedule) → c ≡ Do.I2c d → ⊥) → ((d : Schedule) → c ≡ Do.Switch d → ⊥) → HasDescription c
+has-description Do.Check g i s = tt
+has-description Do.Layout g i s = tt
+has-description (Do.Play o) g i s = tt
+has-description (Do.Run n) g i s = tt
+has-description (Do.Gen n) g i s = absurd (g n refl)
+has-description (Do.I2c d) g i s = absurd (i d refl)
+has-description (Do.Switch d) g i s = absurd (s d refl)
+
 -- the words of `gen` spell no other command
-pub gen-alone : (words : List (List ℕ)) (n : ℕ) (c : Command) → IsGen words n → Spells words c → ((m : ℕ) → c ≡ Do.Gen m → ⊥) → ⊥
+pub gen-alone : (words : List (List ℕ)) (n : ℕ) (c : Command) → IsGen words n → Spells words c → HasDescription c → ⊥
 gen-alone words n Do.Check g s named = let e = sym g.words_are ∙ s.1.words_are in cc
 gen-alone words n Do.Layout g s named = let e = sym g.words_are ∙ s.1.words_are in cc
 gen-alone words n (Do.Play o) g s named = let e = sym g.words_are ∙ s.2.words_are in cc
 gen-alone words n (Do.Run m) g s named = run-or-gen words _ _ s.2.words_are g.words_are
-gen-alone words n (Do.Gen m) g s named = named m refl
+gen-alone words n (Do.Gen m) g s named = named
+gen-alone words n (Do.I2c d) g s named = named
+gen-alone words n (Do.Switch d) g s named = named

@@ -9,14 +9,24 @@ use Rattle.region_layout.specs.Layouts.{layout_of}
 use Rattle.report_text.specs.Answers.{usage_text, refused_text, bad_trace_text, long_text}
 use Rattle.report_text.specs.Answers.{accepted_text}
 use Rattle.report_text.specs.Layouts.{layout_text}
+use Rattle.i2c_text.specs.declared.bus.Bus.{Bus}
+use Rattle.i2c_text.specs.Buses.{bus_of, HasNoBadLine as HasNoBadBusLine}
+use Rattle.i2c_text.specs.Buses.{IsLeastBadLine as IsLeastBadBusLine}
+use Rattle.ports_text.specs.declared.ports.Ports.{Ports}
+use Rattle.ports_text.specs.Given.{ports_of, HasNoBadLine as HasNoBadPortLine}
+use Rattle.ports_text.specs.Given.{IsLeastBadLine as IsLeastBadPortLine}
 use Rattle.command_words.specs.declared.command.Options.{Options}
+use Rattle.command_words.specs.declared.command.Schedule.{Schedule}
 use Rattle.command_words.specs.Words.{IsCheck, IsLayout, IsPlay, IsRun, IsGen, IsBadWord}
+use Rattle.command_words.specs.Words.{IsI2c, IsSwitch}
 use Rattle.workload.specs.declared.description.TheConstants.{FULL_EXAMPLE}
 use Rattle.workload.specs.Generated.{generated_text}
 use Rattle.decision_core.specs.declared.showing.Showing.{Showing}
 use Rattle.decision_core.specs.declared.showing.Showing.TheVariants as Show
 use Rattle.decision_core.specs.declared.showing.Asked.{Asked}
 use Rattle.decision_core.specs.declared.showing.Asked.TheVariants as Ask
+use Rattle.decision_core.specs.declared.showing.Alone.{Alone}
+use Rattle.decision_core.specs.declared.showing.Alone.TheVariants as Only
 use Rattle.decision_core.specs.declared.status.Status.{Status}
 use Rattle.decision_core.specs.declared.status.Status.TheVariants as Ended
 use Rattle.sdf_model.specs.Counts.{text_most}
@@ -24,11 +34,14 @@ use Rattle.decision_core.specs.Judged.{IsAccepted, IsRefusedText}
 use Rattle.decision_core.specs.Rogues.{first_rogue}
 
 -- what is decided before anything is played: the status and the text of the answer, that a trace is
--- played on a plan, or that it is run with a thread for each actor, with a limit of steps or none
+-- played on a plan, or that it is run with a thread for each actor, with a limit of steps or none,
+-- that a bus is played, or the ports of a switch
 pub data Decision : Type 0 where
   Say : Status → List ℕ → Decision
   Play : Plan → Trace → Showing → Decision
   Run : Plan → Trace → Option ℕ → Decision
+  PlayBus : Bus → Schedule → Decision
+  PlayPorts : Ports → Schedule → Decision
 
 -- what is asked of a trace on a plan
 abbrev pub asked_on : Plan → Trace → Asked → Decision
@@ -103,6 +116,37 @@ NamesDescription words desc =
     ⊎ (IsLayout words desc
     ⊎ ((trace : List ℕ) × (asked : Asked) × AsksFor words desc trace asked))
 
+-- what the bytes of a text that is played alone decide, by which texts are good and which line is
+-- the first bad one: it is too long, a line of it is bad, or it is played
+pub data OneTextDecides (Good : List ℕ → Type 0) (IsLeastBad : List ℕ → ℕ → Type 0)
+    (play : List ℕ → Decision) (bytes : List ℕ) : Decision → Type 0 where
+  long_text_alone : text_most < length bytes → OneTextDecides Good IsLeastBad play bytes too_long
+  bad_text : (line : ℕ) → length bytes ≤ text_most → IsLeastBad bytes line
+      → OneTextDecides Good IsLeastBad play bytes
+      (Say (Ended.BadTrace line) (bad_trace_text line))
+  good_text : length bytes ≤ text_most → Good bytes
+      → OneTextDecides Good IsLeastBad play bytes (play bytes)
+
+-- the bus of a text is played
+abbrev pub bus_played : Schedule → List ℕ → Decision
+bus_played schedule bytes = PlayBus (bus_of bytes) schedule
+
+-- the ports of a text are played
+abbrev pub ports_played : Schedule → List ℕ → Decision
+ports_played schedule bytes = PlayPorts (ports_of bytes) schedule
+
+-- what the bytes of the one text decide, by what is asked of it
+abbrev pub AloneDecides : Alone → List ℕ → Decision → Type 0
+AloneDecides (Only.Bus schedule) bytes decision =
+    OneTextDecides HasNoBadBusLine IsLeastBadBusLine (bus_played schedule) bytes decision
+AloneDecides (Only.Switch schedule) bytes decision =
+    OneTextDecides HasNoBadPortLine IsLeastBadPortLine (ports_played schedule) bytes decision
+
+-- the words ask for this, with the name of one text
+abbrev pub AsksAlone : List (List ℕ) → List ℕ → Alone → Type 0
+AsksAlone words trace (Only.Bus schedule) = IsI2c words trace schedule
+AsksAlone words trace (Only.Switch schedule) = IsSwitch words trace schedule
+
 -- what the words and the texts under their names decide
 pub data Decides (reads : List ℕ → List ℕ → Type 0) (words : List (List ℕ))
     : Decision → Type 0 where
@@ -113,11 +157,18 @@ pub data Decides (reads : List ℕ → List ℕ → Type 0) (words : List (List 
       → Decides reads words decision
   generated : (n : ℕ) (decision : Decision) → IsGen words n
       → TextDecides (GeneratedDecides n) FULL_EXAMPLE.now decision → Decides reads words decision
+  alone : (trace bytes : List ℕ) (asked : Alone) (decision : Decision)
+      → AsksAlone words trace asked → reads trace bytes → AloneDecides asked bytes decision
+      → Decides reads words decision
 
--- the status that a decision leads to: a play or a run gets quiet or spends its steps
+-- a play or a run gets quiet or spends its steps
+abbrev pub IsEnding : Status → Type 0
+IsEnding status = (status ≡ Ended.Ok) ⊎ ((steps : ℕ) × (status ≡ Ended.Spent steps))
+
+-- the status that a decision leads to
 abbrev pub IsStatusOf : Decision → Status → Type 0
 IsStatusOf (Say status' text') status = status ≡ status'
-IsStatusOf (Play plan trace showing) status =
-    (status ≡ Ended.Ok) ⊎ ((steps : ℕ) × (status ≡ Ended.Spent steps))
-IsStatusOf (Run plan trace limit) status =
-    (status ≡ Ended.Ok) ⊎ ((steps : ℕ) × (status ≡ Ended.Spent steps))
+IsStatusOf (Play plan trace showing) status = IsEnding status
+IsStatusOf (Run plan trace limit) status = IsEnding status
+IsStatusOf (PlayBus bus schedule) status = IsEnding status
+IsStatusOf (PlayPorts ports schedule) status = IsEnding status

@@ -4,5 +4,6 @@ pub mod Decided
 pub mod Decisions
 pub mod Generating
 pub mod Judged
+pub mod Naming
 pub mod Readings
 pub mod Rogues

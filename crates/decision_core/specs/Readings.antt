@@ -8,7 +8,8 @@ use Rattle.sdf_model.specs.Counts.{text_most}
 use Rattle.shelf_core.specs.Outside.{also_opened}
 use Rattle.shelf_core.specs.Reading.{Behind}
 use Rattle.decision_core.specs.declared.showing.Asked.{Asked}
-use Rattle.decision_core.specs.Decisions.{NamesDescription, AsksFor}
+use Rattle.decision_core.specs.declared.showing.Alone.{Alone}
+use Rattle.decision_core.specs.Decisions.{NamesDescription, AsksFor, AsksAlone}
 use Rattle.decision_core.specs.Judged.{IsAccepted}
 
 -- a text is too long, where it is told
@@ -100,12 +101,15 @@ OpensText words bytes before after =
     × OpensTrace words before after)
 
 -- which texts are opened for the words, and in which order, however the call ends: none where they
--- name no description; else the description; and next the trace, once the description was read and
--- is accepted
+-- name none; the one text that they name; or the description, and next the trace, once the
+-- description was read and is accepted
 pub data OpensInTurn (reads : List ℕ → List ℕ → Type 0) (words : List (List ℕ))
     (before after : Option (List (List ℕ))) : Type 0 where
-  opens_nothing : ((desc : List ℕ) → NamesDescription words desc → ⊥) → after ≡ before
+  opens_nothing : ((desc : List ℕ) → NamesDescription words desc → ⊥)
+      → ((trace : List ℕ) (asked : Alone) → AsksAlone words trace asked → ⊥) → after ≡ before
       → OpensInTurn reads words before after
+  opens_alone : (trace : List ℕ) (asked : Alone) → AsksAlone words trace asked
+      → after ≡ also_opened before trace → OpensInTurn reads words before after
   opens_description : (desc : List ℕ) → NamesDescription words desc
       → after ≡ also_opened before desc → OpensInTurn reads words before after
   opens_trace : (desc trace bytes : List ℕ) (asked : Asked) (plan : Plan)
@@ -114,10 +118,10 @@ pub data OpensInTurn (reads : List ℕ → List ℕ → Type 0) (words : List (L
       → OpensInTurn reads words before after
 
 -- which texts were opened, in which order, and how far the last was read, where this is the answer
--- to the words: none for bad words and for `gen`; the description alone where it is too long or
--- refused, or the words name no trace; else the description and then the trace. A text that is too
--- long is the one that was read last, and the trace is read where the description is within the
--- limit.
+-- to the words: none for bad words and for `gen`; the one text of `i2c` and `switch`; the
+-- description alone where it is too long or refused, or the words name no trace; else the
+-- description and then the trace. A text that is too long is the one that was read last, and the
+-- trace is read where the description is within the limit.
 pub data ReadLast (told : List ℕ → Option (List ℕ)) (words : List (List ℕ))
     (old new : Option (List ℕ)) (before after : Option (List (List ℕ))) (status : Status)
     : Type 0 where
@@ -125,6 +129,9 @@ pub data ReadLast (told : List ℕ → Option (List ℕ)) (words : List (List �
       → ReadLast told words old new before after status
   read_no_text : (n : ℕ) → IsGen words n → IsUnread status → new ≡ old → after ≡ before
       → ReadLast told words old new before after status
+  read_alone : (trace : List ℕ) (asked : Alone) → AsksAlone words trace asked
+      → Behind told trace new → after ≡ also_opened before trace
+      → IsOfText (told trace) IsOfPlay status → ReadLast told words old new before after status
   read_description : (desc : List ℕ) → NamesDescription words desc → Behind told desc new
       → after ≡ also_opened before desc → IsOfText (told desc) (IsOfPlan words) status
       → ReadLast told words old new before after status

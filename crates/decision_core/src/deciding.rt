@@ -14,16 +14,20 @@ ghost use Rattle.decision_core.specs.Decided.{decision_of, OfEach, IsOfNumbered}
 ghost use Rattle.decision_core.specs.Decisions.{Say, AsksFor, Decides, TextDecides, PlanDecides};
 ghost use Rattle.decision_core.specs.Decisions.{TraceDecides, GeneratedDecides, refuses, too_long};
 ghost use Rattle.decision_core.specs.Generating.{IsSummary};
+ghost use Rattle.decision_core.specs.Naming.{HasDescription};
 ghost use Rattle.shelf_core.specs.Reading.{WasRead};
 ghost use Rattle.decision_core.specs.Readings.{LeavesPlan, LeavesText, ReadLast};
 ghost use Rattle.decision_core.specs.Readings.{OpensTrace, OpensText, OpensInTurn};
 ghost use Rattle.decision_core.specs.Rogues.{first_rogue};
 
+use crate::alone::decide_alone;
 use crate::judging::judge;
 use crate::rogues::first_rogue;
-use crate::{Asked, Showing, Status};
+use crate::{Alone, Asked, Showing, Status};
 use cargo_core::Memory;
-use command_words::{Command, read_words};
+use command_words::{Command, Schedule, read_words};
+use i2c_text::Bus;
+use ports_text::Ports;
 use region_layout::lay_out;
 use report_text::{
     write_accepted, write_bad_trace, write_layout, write_refused, write_too_long, write_usage,
@@ -42,6 +46,10 @@ pub enum Decided {
     Say(Status, String),
     /// To do what is asked of a trace on a plan.
     Go(Plan, Trace, Asked),
+    /// To play a bus.
+    Bus(Bus, Schedule),
+    /// To play the ports of a switch.
+    Ports(Ports, Schedule),
 }
 
 /// A description is refused.
@@ -64,7 +72,7 @@ fn say_unaccepted(alloc: Global, fault: SdfFault) -> Result<Decided, Memory>
 }
 
 /// A trace has a bad line.
-fn say_bad_trace(alloc: Global, line: u64) -> Result<Decided, Memory>
+pub fn say_bad_trace(alloc: Global, line: u64) -> Result<Decided, Memory>
     ensures { IfOk result (λ d. decision_of d
         ≡ Say (Status.BadTrace line) (bad_trace_text line)) }
 {
@@ -84,7 +92,7 @@ fn say_unread(alloc: Global, fault: TraceFault) -> Result<Decided, Memory>
 }
 
 /// A text is too long.
-fn say_too_long(alloc: Global) -> Result<Decided, Memory>
+pub fn say_too_long(alloc: Global) -> Result<Decided, Memory>
     ensures { IfOk result (λ d. decision_of d ≡ too_long) }
 {
     let text = write_too_long(alloc)?;
@@ -217,7 +225,7 @@ fn decide_plan<F: Shelf>(
     requires accepted { IsAcceptedPlan plan }
     requires numbered { IsNumbered plan }
     requires spells { Spells (texts_of words.now) command }
-    requires named { (n : ℕ) → command ≡ Command.Gen n → ⊥ }
+    requires named { HasDescription command }
     ensures decides { IfOk result (λ d. PlanDecides (WasRead (F.text shelf.old))
         (texts_of words.now) plan (decision_of d)) }
     ensures reads { ReadsFrom F.text F.left F.opens F.faults F.failed
@@ -239,6 +247,8 @@ fn decide_plan<F: Shelf>(
         }
         Command::Run(steps) => decide_asked(alloc, shelf, words, plan, Asked::Run(steps)),
         Command::Gen(_) => unreachable!(),
+        Command::I2c(_) => unreachable!(),
+        Command::Switch(_) => unreachable!(),
     }
 }
 
@@ -251,7 +261,7 @@ fn decide_text<F: Shelf>(
     text: &[u8],
 ) -> Result<Decided, ReadStop>
     requires spells { Spells (texts_of words.now) command }
-    requires named { (n : ℕ) → command ≡ Command.Gen n → ⊥ }
+    requires named { HasDescription command }
     ensures decides { IfOk result (λ d. TextDecides
         (PlanDecides (WasRead (F.text shelf.old)) (texts_of words.now)) text.now
         (decision_of d)) }
@@ -278,7 +288,7 @@ fn decide_command<F: Shelf>(
     command: Command,
 ) -> Result<Decided, ReadStop>
     requires spells { Spells (texts_of words.now) command }
-    requires named { (n : ℕ) → command ≡ Command.Gen n → ⊥ }
+    requires named { HasDescription command }
     ensures decides { IfOk result (λ d. Decides (WasRead (F.text shelf.old))
         (texts_of words.now) (decision_of d)) }
     ensures reads { ReadsFrom F.text F.left F.opens F.faults F.failed
@@ -312,6 +322,8 @@ pub fn decide_words<F: Shelf>(
 {
     match read_words(words) {
         Ok(Command::Gen(number)) => Ok(decide_gen(alloc, FULL_EXAMPLE.as_bytes(), number)?),
+        Ok(Command::I2c(schedule)) => decide_alone(alloc, shelf, words, Alone::Bus(schedule)),
+        Ok(Command::Switch(schedule)) => decide_alone(alloc, shelf, words, Alone::Switch(schedule)),
         Ok(command) => decide_command(alloc, shelf, words, command),
         Err(k) => Ok(say_usage(alloc, k)?),
     }

@@ -1,6 +1,7 @@
 //! What the words of a call and the texts under their names decide, before anything is played.
 #![tactic(auto)]
 
+mod alone;
 mod deciding;
 mod judging;
 mod rogues;
@@ -9,5 +10,5 @@ mod status;
 
 pub use deciding::{Decided, decide_words};
 pub use judging::judge;
-pub use showing::{Asked, Showing};
+pub use showing::{Alone, Asked, Showing};
 pub use status::Status;

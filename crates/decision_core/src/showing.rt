@@ -1,5 +1,6 @@
-//! What is asked of a trace on a description: how steps are picked and limited, and what is shown.
-use command_words::Options;
+//! What is asked of a trace on a description, or of one text alone: how steps are picked and
+//! limited, and what is shown.
+use command_words::{Options, Schedule};
 
 /// What is asked of a play.
 #[derive(Clone, Copy, Debug, PartialEq, Eq)]
@@ -18,4 +19,13 @@ pub enum Asked {
     /// To run it with a thread for each actor, with a limit of steps or as many as are enough, and
     /// to show the report.
     Run(Option<u64>),
+}
+
+/// What is asked of one text alone.
+#[derive(Clone, Copy, Debug, PartialEq, Eq)]
+pub enum Alone {
+    /// To play the bus that it tells.
+    Bus(Schedule),
+    /// To play the switch whose ports it tells.
+    Switch(Schedule),
 }

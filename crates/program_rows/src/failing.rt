@@ -5,6 +5,7 @@
 //! - `sink`: a call of the sink, which takes 4 bytes in a call
 //! - `room`: the sink has room for so many bytes
 //! - `description`, `trace`: that text ends behind so many bytes; in pieces of 1 and of 4,096
+//! - `text`: the same of the one text of a bus or a switch
 use crate::row::{ROOM, Row, ample};
 use sddf_top::MemSink;
 use std::alloc::Global;
@@ -100,6 +101,7 @@ fn case(
         "description" if place <= row.desc_len() => {
             Ok(Some(is_cut(alloc, row, place, row.trace_len(), REFUSED)?))
         }
+        "text" if place <= row.desc_len() => Ok(Some(is_cut(alloc, row, place, 0, BAD_TRACE)?)),
         "trace" if place <= row.trace_len() => {
             Ok(Some(is_cut(alloc, row, row.desc_len(), place, BAD_TRACE)?))
         }

@@ -23,6 +23,11 @@ fn play_of(alloc: Global, trace: Vec<u8>) -> io::Result<Row> {
     Row::with_texts(alloc, "play S T", DESC.as_bytes().to_vec(alloc)?, trace)
 }
 
+// The play of a bus with such a text.
+fn bus_of(alloc: Global, text: Vec<u8>) -> io::Result<Row> {
+    Row::with_texts(alloc, "i2c T", text, Vec::new(alloc))
+}
+
 // Prints a status, and what was written.
 fn print_answer<R: Print>(rt: &R, status: u8, sink: &MemSink) -> io::Result<()> {
     let written = std::str::from_utf8(sink.written()).unwrap_or("no text");
@@ -52,14 +57,25 @@ fn a_failing_write_leaves_the_beginning<R: Print + AllocGlobal>(rt: &R) -> io::R
     print_answer(rt, status, &sink)
 }
 
-// Prints the answer to the play with a trace of so many bytes `#`.
-fn print_comment<R: Print + AllocGlobal>(rt: &R, bytes: usize) -> io::Result<()> {
+// Prints the answer to a row whose texts are read in large pieces.
+fn print_row<R: Print + AllocGlobal>(rt: &R, row: &Row) -> io::Result<()> {
     let alloc = rt.alloc();
-    let row = play_of(alloc, vec![in alloc; b'#'; bytes]?)?;
-    let mut shelf = row.shelf(alloc, row.desc_len(), bytes, 65_536)?;
+    let mut shelf = row.shelf(alloc, row.desc_len(), row.trace_len(), 65_536)?;
     let mut sink = ample(MemSink::new(alloc, ROOM))?;
     let status = row.status(alloc, &mut shelf, &mut sink);
     print_answer(rt, status, &sink)
+}
+
+// Prints the answer to the play with a trace of so many bytes `#`.
+fn print_comment<R: Print + AllocGlobal>(rt: &R, bytes: usize) -> io::Result<()> {
+    let alloc = rt.alloc();
+    print_row(rt, &play_of(alloc, vec![in alloc; b'#'; bytes]?)?)
+}
+
+// Prints the answer to the play of a bus whose text is so many bytes `#`.
+fn print_bus<R: Print + AllocGlobal>(rt: &R, bytes: usize) -> io::Result<()> {
+    let alloc = rt.alloc();
+    print_row(rt, &bus_of(alloc, vec![in alloc; b'#'; bytes]?)?)
 }
 
 fn a_text_of_16777216_bytes_is_read<R: Print + AllocGlobal>(rt: &R) -> io::Result<()> {
@@ -70,6 +86,12 @@ fn a_text_of_16777216_bytes_is_read<R: Print + AllocGlobal>(rt: &R) -> io::Resul
 fn a_text_of_16777217_bytes_is_too_long<R: Print + AllocGlobal>(rt: &R) -> io::Result<()> {
     println!(rt; "# a text of 16777217 bytes is too long")?;
     print_comment(rt, 16_777_217)
+}
+
+fn the_text_of_a_bus_has_the_same_limit<R: Print + AllocGlobal>(rt: &R) -> io::Result<()> {
+    println!(rt; "# the text of a bus has the same limit")?;
+    print_bus(rt, 16_777_216)?;
+    print_bus(rt, 16_777_217)
 }
 
 // A shelf that never fails, with the description and an empty trace.
@@ -122,6 +144,7 @@ pub fn print_outsides<R: Files + Print + AllocGlobal>(rt: &R) -> io::Result<()> 
     a_sure_outside_has_no_faults(rt)?;
     a_text_of_16777216_bytes_is_read(rt)?;
     a_text_of_16777217_bytes_is_too_long(rt)?;
+    the_text_of_a_bus_has_the_same_limit(rt)?;
     files_are_read_by_their_paths(rt)?;
     standard_output_takes_a_text(rt)
 }

@@ -17,7 +17,8 @@ pub fn ample<T>(made: Result<T, Memory>) -> io::Result<T> {
     }
 }
 
-/// The words of a call, and the texts of its description and its trace.
+/// The words of a call, and the texts of its description and its trace. Of two words the second
+/// names the one text, unless the first is `gen`.
 #[derive(Drop)]
 pub struct Row {
     words: Vec<String>,
@@ -25,9 +26,14 @@ pub struct Row {
     trace: Vec<u8>,
 }
 
+// Whether words name a text.
+fn has_text(words: &[String]) -> bool {
+    words.len() > 2 || (words.len() > 1 && words[0].as_str() != "gen")
+}
+
 // The text of the file that a word names; none where there is no such word.
 fn text_at<R: Files + AllocGlobal>(rt: &R, words: &[String], place: usize) -> io::Result<Vec<u8>> {
-    if place < words.len() && words.len() > 2 {
+    if place < words.len() && has_text(words) {
         return std::fs::read(rt, words[place].as_str());
     }
     Ok(Vec::new(rt.alloc()))
@@ -68,9 +74,11 @@ impl Row {
     ) -> io::Result<MemShelf> {
         let mut shelf = MemShelf::new(alloc);
         if self.words.len() > 2 {
-            let desc = &self.desc[..desc.min(self.desc.len())];
             let trace = &self.trace[..trace.min(self.trace.len())];
             ample(shelf.add(self.words[2].as_str(), trace))?;
+        }
+        if self.words.len() > 1 && has_text(&self.words) {
+            let desc = &self.desc[..desc.min(self.desc.len())];
             ample(shelf.add(self.words[1].as_str(), desc))?;
         }
         shelf.piece(piece.max(1));

@@ -9,13 +9,14 @@ use Rattle.decision_core.specs.declared.showing.Showing.TheVariants as Show
 use Rattle.decision_core.specs.declared.status.Status.{Status}
 use Rattle.decision_core.specs.declared.status.Status.TheVariants as Ended
 use Rattle.sddf_top.specs.declared.played.Played.{Played}
-use Rattle.decision_core.specs.Decisions.{Decision, Say, Play, Run, asked_on, Decides, TextDecides, PlanDecides, TraceDecides, GeneratedDecides, long_trace, bad_trace, good_trace, checked, laid_out, hostile, traced, long_description, refused, accepted, no_command, described, generated, IsStatusOf}
-use Rattle.expect_core.specs.Budgets.{budget_of}
-use Rattle.sddf_top.specs.Shown.{ending_of, limit_of, limit_or_budget}
+use Rattle.decision_core.specs.declared.showing.Alone.{Alone}
+use Rattle.decision_core.specs.declared.showing.Alone.TheVariants as Only
+use Rattle.decision_core.specs.Decisions.{Decision, Say, Play, Run, PlayBus, PlayPorts, AloneDecides, long_text_alone, bad_text, good_text, alone, asked_on, Decides, TextDecides, PlanDecides, TraceDecides, GeneratedDecides, long_trace, bad_trace, good_trace, checked, laid_out, hostile, traced, long_description, refused, accepted, no_command, described, generated, IsStatusOf}
+use Rattle.sddf_top.specs.Shown.{ending_of}
 use Rattle.sddf_top.specs.Answers.{Answers, Comes, Shows, ShowsRun, Serves, IsEnough, IsFault, no_reading, no_writing, no_memory}
 use Rattle.shelf_core.specs.Reading.{WasRead, IsTold}
 use Rattle.shelf_core.specs.Outside.{appended}
-use Rattle.decision_core.proofs.DecisionLemmas.{Agrees, one-decision, plan-read, text-read}
+use Rattle.decision_core.proofs.DecisionLemmas.{one-decision, plan-read, text-read}
 
 -- what was read of a told text is its bytes
 pub told-same : (told : List ℕ → Option (List ℕ)) (name a b : List ℕ) → IsTold told name a → WasRead told name b → a ≡ b
@@ -37,32 +38,16 @@ pub come-status : (d : Decision) (s : Status) (x : List ℕ) (p : Played) → Co
 come-status (Say t y) s x p c = c.0
 come-status (Play q u o) s x p c = play-status q u o s x p c
 come-status (Run q u n) s x p c = run-status q u n s x p c
+come-status (PlayBus bus schedule) s x p c = ending-status c.report.quiet c.report.steps s c.status_is
+come-status (PlayPorts ports schedule) s x p c = ending-status c.report.quiet c.report.steps s c.status_is
 
--- the status of an answer is the one that a decision which agrees leads to
-agreed-status : (d d' : Decision) (s : Status) (x : List ℕ) (p : Played) → Agrees d d' → Comes d' s x p → IsStatusOf d s
-agreed-status (Say t y) (Say t' y') s x p a c = c.0 ∙ sym a.0
-agreed-status (Say t y) (Play q u o) s x p a c = absurd a
-agreed-status (Play q u o) (Say t' y') s x p a c = absurd a
-agreed-status (Play q u o) (Play q' u' o') s x p a c = play-status q' u' o' s x p c
-agreed-status (Say t y) (Run q u n) s x p a c = absurd a
-agreed-status (Play q u o) (Run q' u' n) s x p a c = absurd a
-agreed-status (Run q u n) (Say t' y') s x p a c = absurd a
-agreed-status (Run q u n) (Play q' u' o) s x p a c = absurd a
-agreed-status (Run q u n) (Run q' u' n') s x p a c = run-status q' u' n' s x p c
-
--- an answer by a decision that agrees with one that is enough is `Ok`
-enough-status : (d d' : Decision) (s : Status) (x : List ℕ) (p : Played) → Agrees d d' → IsEnough d → Comes d' s x p → s ≡ Ended.Ok
-enough-status (Say t y) (Say t' y') s x p a e c = c.0 ∙ sym a.0 ∙ e
-enough-status (Say t y) (Play q u o) s x p a e c = absurd a
-enough-status (Play q u o) (Say t' y') s x p a e c = absurd a
-enough-status (Play q u o) (Play q' u' o') s x p a e c =
-    c.bounded (subst (λ z. budget_of z u' ≤ limit_of z u' o') a.0 (subst (λ z. budget_of q z ≤ limit_of q z o') a.1 (subst (λ z. budget_of q u ≤ limit_of q u z) a.2 e)))
-enough-status (Say t y) (Run q u n) s x p a e c = absurd a
-enough-status (Play q u o) (Run q' u' n) s x p a e c = absurd a
-enough-status (Run q u n) (Say t' y') s x p a e c = absurd a
-enough-status (Run q u n) (Play q' u' o) s x p a e c = absurd a
-enough-status (Run q u n) (Run q' u' n') s x p a e c =
-    c.bounded (subst (λ z. budget_of z u' ≤ limit_or_budget z u' n') a.0 (subst (λ z. budget_of q z ≤ limit_or_budget q z n') a.1 (subst (λ z. budget_of q u ≤ limit_or_budget q u z) a.2 e)))
+-- an answer by a decision that is enough is `Ok`
+enough-status : (d : Decision) (s : Status) (x : List ℕ) (p : Played) → IsEnough d → Comes d s x p → s ≡ Ended.Ok
+enough-status (Say t y) s x p e c = c.0 ∙ e
+enough-status (Play q u o) s x p e c = c.bounded e
+enough-status (Run q u n) s x p e c = c.bounded e
+enough-status (PlayBus bus schedule) s x p e c = c.bounded e
+enough-status (PlayPorts ports schedule) s x p e c = c.bounded e
 
 -- these aren't faults
 abbrev pub MayBeFault : Status → Type 0
@@ -84,7 +69,8 @@ may-be _ (no_memory memory) = tt
 module _ (told : List ℕ → Option (List ℕ)) (words : List (List ℕ)) where
   -- an answer has the status that the told texts decide
   pub told-status : (d : Decision) (s : Status) (x : List ℕ) (p : Played) → Decides (IsTold told) words d → Answers (WasRead told) words s x p → IsStatusOf d s
-  told-status d s x p h a = agreed-status d a.0 s x p (one-decision (IsTold told) (WasRead told) (told-same told) words d a.0 h a.1) a.2
+  told-status d s x p h a =
+      come-status d s x p (subst (λ z. Comes z s x p) (sym (one-decision (IsTold told) (WasRead told) (told-same told) words d a.0 h a.1)) a.2)
 
   -- an answer that was written whole or in part is the one that the told texts decide, or a fault
   pub served-status : (old new : Option (List ℕ)) (result : Status) (played : Played) (d : Decision) → Decides (IsTold told) words d
@@ -101,7 +87,8 @@ module _ (told : List ℕ → Option (List ℕ)) (words : List (List ℕ)) where
 
   -- an answer that was written whole or in part is `Ok` where the told texts decide what is enough, or a fault
   told-enough : (d : Decision) (s : Status) (x : List ℕ) (p : Played) → Decides (IsTold told) words d → IsEnough d → Answers (WasRead told) words s x p → s ≡ Ended.Ok
-  told-enough d s x p h e a = enough-status d a.0 s x p (one-decision (IsTold told) (WasRead told) (told-same told) words d a.0 h a.1) e a.2
+  told-enough d s x p h e a =
+      enough-status d s x p e (subst (λ z. Comes z s x p) (sym (one-decision (IsTold told) (WasRead told) (told-same told) words d a.0 h a.1)) a.2)
 
   pub served-enough : (old new : Option (List ℕ)) (result : Status) (played : Played) (d : Decision) → Decides (IsTold told) words d → IsEnough d
       → Serves (WasRead told) words old new result played → (result ≡ Ended.Ok) ⊎ IsFault result
@@ -120,6 +107,8 @@ abbrev pub IsCalm : Decision → Type 0
 IsCalm (Say s x) = IsFault s → ⊥
 IsCalm (Play q t o) = Unit {0}
 IsCalm (Run q t n) = Unit {0}
+IsCalm (PlayBus bus schedule) = Unit {0}
+IsCalm (PlayPorts ports schedule) = Unit {0}
 
 asked-calm : (plan : Plan) (t : Trace) (a : Asked) → IsCalm (asked_on plan t a)
 asked-calm plan t (Ask.Play o) = tt
@@ -135,6 +124,14 @@ text-calm P calm bytes _ (long_description l) = may-be Ended.TooLong
 text-calm P calm bytes _ (refused r l h) = may-be (Ended.Refused r.rule)
 text-calm P calm bytes _ (accepted p d l h q) = calm p d q
 
+alone-calm : (a : Alone) (bytes : List ℕ) (d : Decision) → AloneDecides a bytes d → IsCalm d
+alone-calm (Only.Bus schedule) bytes _ (long_text_alone l) = may-be Ended.TooLong
+alone-calm (Only.Bus schedule) bytes _ (bad_text k l b) = may-be (Ended.BadTrace k)
+alone-calm (Only.Bus schedule) bytes _ (good_text l g) = tt
+alone-calm (Only.Switch schedule) bytes _ (long_text_alone l) = may-be Ended.TooLong
+alone-calm (Only.Switch schedule) bytes _ (bad_text k l b) = may-be (Ended.BadTrace k)
+alone-calm (Only.Switch schedule) bytes _ (good_text l g) = tt
+
 generated-calm : (n : ℕ) (plan : Plan) (d : Decision) → GeneratedDecides n plan d → IsCalm d
 generated-calm n plan d t = trace-calm plan (Ask.Play Show.Summary) _ d t
 
@@ -148,6 +145,7 @@ module _ (R : List ℕ → List ℕ → Type 0) (words : List (List ℕ)) where
   is-calm : (d : Decision) → Decides R words d → IsCalm d
   is-calm _ (no_command k h) = may-be (Ended.Usage k)
   is-calm _ (described desc bytes d n r t) = text-calm (PlanDecides R words) plan-calm bytes d t
+  is-calm _ (alone trace bytes a d w r t) = alone-calm a bytes d t
   is-calm _ (generated n d g t) = text-calm (GeneratedDecides n) (generated-calm n) _ d t
 
 calm-ending : (s : Status) → (s ≡ Ended.Ok) ⊎ ((n : ℕ) × (s ≡ Ended.Spent n)) → IsFault s → ⊥
@@ -158,6 +156,8 @@ calm-status : (d : Decision) (s : Status) (x : List ℕ) (p : Played) → IsCalm
 calm-status (Say t y) s x p n c f = n (subst (λ s. IsFault s) c.0 f)
 calm-status (Play q t o) s x p n c f = calm-ending s (play-status q t o s x p c) f
 calm-status (Run q t m) s x p n c f = calm-ending s (run-status q t m s x p c) f
+calm-status (PlayBus bus schedule) s x p n c f = calm-ending s (ending-status c.report.quiet c.report.steps s c.status_is) f
+calm-status (PlayPorts ports schedule) s x p n c f = calm-ending s (ending-status c.report.quiet c.report.steps s c.status_is) f
 
 -- no answer is a fault
 pub answer-calm : (R : List ℕ → List ℕ → Type 0) (words : List (List ℕ)) (s : Status) (x : List ℕ) (p : Played) → Answers R words s x p → IsFault s → ⊥

@@ -11,13 +11,25 @@ use Rattle.system_core.specs.PlanPlays.{IsPlayed}
 use Rattle.system_core.specs.Reports.{report_of}
 use Rattle.sddf_top.specs.SystemRun.Ran.{IsRan}
 use Rattle.report_text.specs.Reports.{report_text}
+use Rattle.command_words.specs.declared.command.Schedule.{Schedule}
+use Rattle.i2c_text.specs.declared.bus.Bus.{Bus}
+use Rattle.i2c_text.specs.declared.report.BusReport.{BusReport}
+use Rattle.i2c_play.specs.Bounds.{bus_bound}
+use Rattle.i2c_play.specs.Playing.{BusPlayed}
+use Rattle.i2c_play.specs.Texts.{bus_text}
+use Rattle.ports_text.specs.declared.ports.Ports.{Ports}
+use Rattle.ports_text.specs.declared.report.PortReport.{PortReport}
+use Rattle.switch_play.specs.Bounds.{ports_bound}
+use Rattle.switch_play.specs.Playing.{PortsPlayed}
+use Rattle.switch_play.specs.Texts.{ports_text}
 use Rattle.decision_core.specs.declared.showing.Showing.{Showing}
 use Rattle.decision_core.specs.declared.status.Status.{Status}
 use Rattle.decision_core.specs.declared.status.Status.TheVariants as Ended
 use Rattle.sddf_top.specs.declared.played.Played.{Played}
 use Rattle.sddf_top.specs.declared.played.Played.TheVariants as Was
-use Rattle.decision_core.specs.Decisions.{Decision, Say, Play, Run, Decides}
+use Rattle.decision_core.specs.Decisions.{Decision, Say, Play, Run, PlayBus, PlayPorts, Decides}
 use Rattle.sddf_top.specs.Shown.{seed_of, limit_of, limit_or_budget, ending_of, shown_text}
+use Rattle.sddf_top.specs.Shown.{bus_limit, ports_limit}
 use Rattle.shelf_core.specs.Outside.{appended}
 
 -- a trace was played on a plan: the system that was built and played, the status by whether it is
@@ -47,20 +59,46 @@ pub record ShowsRun (plan : Plan) (trace : Trace) (steps : Option ℕ) (status :
   pub bounded : budget_of plan trace ≤ limit_or_budget plan trace steps → status ≡ Ended.Ok
   pub text_is : text ≡ report_text (report_of system)
 
+-- a bus was played: what is reported of its play, the status by whether it is quiet, and the text of
+-- the report
+pub record ShowsBus (bus : Bus) (schedule : Schedule) (status : Status) (text : List ℕ)
+    (played : Played) : Type 0 where
+  pub report : BusReport
+  pub played_is : played ≡ Was.Bus report
+  pub plays : BusPlayed bus schedule.seed (bus_limit bus schedule) report
+  pub status_is : status ≡ ending_of report.quiet report.steps
+  pub bounded : bus_bound bus ≤ bus_limit bus schedule → status ≡ Ended.Ok
+  pub text_is : text ≡ bus_text report
+
+-- a switch was played: what is reported of its play, the status by whether it is quiet, and the text
+-- of the report
+pub record ShowsPorts (ports : Ports) (schedule : Schedule) (status : Status) (text : List ℕ)
+    (played : Played) : Type 0 where
+  pub report : PortReport
+  pub played_is : played ≡ Was.Ports report
+  pub plays : PortsPlayed ports schedule.seed (ports_limit ports schedule) report
+  pub status_is : status ≡ ending_of report.quiet report.steps
+  pub bounded : ports_bound ports ≤ ports_limit ports schedule → status ≡ Ended.Ok
+  pub text_is : text ≡ ports_text report
+
 -- a decision that leads to `Ok`: it says so, or a play or a run may make as many steps as its
--- budget
+-- budget, or as are enough for a bus or a switch
 abbrev pub IsEnough : Decision → Type 0
 IsEnough (Say status text) = status ≡ Ended.Ok
 IsEnough (Play plan trace showing) = budget_of plan trace ≤ limit_of plan trace showing
 IsEnough (Run plan trace steps) = budget_of plan trace ≤ limit_or_budget plan trace steps
+IsEnough (PlayBus bus schedule) = bus_bound bus ≤ bus_limit bus schedule
+IsEnough (PlayPorts ports schedule) = ports_bound ports ≤ ports_limit ports schedule
 
 -- the answer that a decision leads to: its status, the whole text that is written, and the system
--- that was played
+-- that was played, or what a bus or a switch reports
 abbrev pub Comes : Decision → Status → List ℕ → Played → Type 0
 Comes (Say status' text') status text played =
     (status ≡ status') × (text ≡ text') × (played ≡ Was.Nothing)
 Comes (Play plan trace showing) status text played = Shows plan trace showing status text played
 Comes (Run plan trace steps) status text played = ShowsRun plan trace steps status text played
+Comes (PlayBus bus schedule) status text played = ShowsBus bus schedule status text played
+Comes (PlayPorts ports schedule) status text played = ShowsPorts ports schedule status text played
 
 -- an answer that comes by such a decision
 abbrev pub ComesBy : (Decision → Type 0) → Status → List ℕ → Played → Type 0

@@ -29,7 +29,7 @@ pub record IsServed {F K : Type 0} (text : F → List ℕ → Option (List ℕ))
   pub complete : (decision : Decision) → Decides (IsTold (text shelf)) words decision
       → IsEnough decision → (status ≡ Ended.Ok) ⊎ IsFault status
   -- which texts are opened, and in which order, however the call ends: the description before the
-  -- trace, and the trace only where the description is accepted
+  -- trace, and the trace only where the description is accepted; of a bus or a switch its one text
   pub opened : OpensInTurn (WasRead (text shelf)) words (opens shelf) (opens shelf')
   -- where the answer is no fault: just these texts are opened, and this is left of the last
   pub last : ReadLast (text shelf) words (left shelf) (left shelf') (opens shelf) (opens shelf')

@@ -8,6 +8,11 @@ use Rattle.expect_core.specs.declared.report.Report.{Report}
 use Rattle.expect_core.specs.Budgets.{budget_of}
 use Rattle.report_text.specs.Reports.{report_text, summary_text}
 use Rattle.report_text.specs.Journals.{journal_text}
+use Rattle.command_words.specs.declared.command.Schedule.{Schedule}
+use Rattle.i2c_text.specs.declared.bus.Bus.{Bus}
+use Rattle.i2c_play.specs.Bounds.{bus_bound}
+use Rattle.ports_text.specs.declared.ports.Ports.{Ports}
+use Rattle.switch_play.specs.Bounds.{ports_bound}
 use Rattle.decision_core.specs.declared.showing.Showing.{Showing}
 use Rattle.decision_core.specs.declared.showing.Showing.TheVariants as Show
 use Rattle.decision_core.specs.declared.status.Status.{Status}
@@ -26,6 +31,14 @@ limit_or_budget plan trace steps = unwrap_or steps (budget_of plan trace)
 abbrev pub limit_of : Plan → Trace → Showing → ℕ
 limit_of plan trace (Show.Report options) = limit_or_budget plan trace options.steps
 limit_of plan trace Show.Summary = budget_of plan trace
+
+-- how many steps the play of a bus may make: those that the words say, or those that are enough
+abbrev pub bus_limit : Bus → Schedule → ℕ
+bus_limit bus schedule = unwrap_or schedule.steps (bus_bound bus)
+
+-- how many steps the play of a switch may make: those that the words say, or those that are enough
+abbrev pub ports_limit : Ports → Schedule → ℕ
+ports_limit ports schedule = unwrap_or schedule.steps (ports_bound ports)
 
 -- how a play or a run ended: quiet, or with so many steps
 abbrev pub ending_of : Bool → ℕ → Status

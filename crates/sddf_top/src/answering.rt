@@ -10,6 +10,7 @@ ghost use Rattle.shelf_core.specs.Reading.{WasRead};
 ghost use Rattle.decision_core.specs.Readings.{ReadLast, OpensInTurn};
 
 use crate::Played;
+use crate::alone::{play_one_bus, play_one_switch};
 use crate::playing::{play, run};
 use cargo_core::Memory;
 use decision_core::{Asked, Decided, Status, decide_words};
@@ -54,6 +55,8 @@ fn answer_alone(alloc: Global, decided: Decided) -> Result<Outcome, Memory>
             Asked::Play(showing) => play(alloc, &plan, &trace, showing),
             Asked::Run(_) => unreachable!(),
         },
+        Decided::Bus(bus, schedule) => play_one_bus(alloc, &bus, schedule),
+        Decided::Ports(ports, schedule) => play_one_switch(alloc, &ports, schedule),
     }
 }
 
@@ -73,6 +76,8 @@ fn answer<R: Threads + Wait + Sync, G: Gate + Sync>(
             Asked::Play(showing) => play(alloc, &plan, &trace, showing),
             Asked::Run(steps) => run(rt, alloc, &plan, &trace, steps, gate),
         },
+        Decided::Bus(bus, schedule) => play_one_bus(alloc, &bus, schedule),
+        Decided::Ports(ports, schedule) => play_one_switch(alloc, &ports, schedule),
     }
 }
 

@@ -4,6 +4,7 @@
 //! An example of its calls: `crates/program_rows/src/example.rt`.
 #![tactic(auto)]
 
+mod alone;
 mod answering;
 mod hosting;
 mod isolation;
@@ -16,9 +17,11 @@ pub mod system_run;
 pub use command_words::begins_run;
 pub use decision_core::{Asked, Showing, Status, judge};
 pub use hosting::serve_host;
+pub use i2c_text::{BusReply, BusReport, BusStatus};
 pub use isolation::isolation_law;
 pub use pd_runner::{Gate, OpenGate};
 pub use played::Played;
+pub use ports_text::PortReport;
 pub use sdf_model::TEXT_MOST;
 pub use serving::{serve, serve_alone};
 pub use shelf_core::{

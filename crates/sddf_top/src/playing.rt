@@ -59,13 +59,13 @@ fn seed_of(showing: Showing) -> u64
 }
 
 /// How a play or a run ended, by its report.
-fn ending_of(report: &Report) -> Status
-    ensures { result ≡ ending_of report.now.quiet report.now.steps }
+pub fn ending_of(quiet: bool, steps: u64) -> Status
+    ensures { result ≡ ending_of quiet steps }
 {
-    if report.quiet {
+    if quiet {
         Status::Ok
     } else {
-        Status::Spent(report.steps)
+        Status::Spent(steps)
     }
 }
 
@@ -117,7 +117,7 @@ pub fn play(alloc: Global, plan: &Plan, trace: &Trace, showing: Showing) -> Resu
     let report = system.report()?;
     let text = shown_text(alloc, &layout, showing, &report, system.journal())?;
     Ok(Outcome {
-        status: ending_of(&report),
+        status: ending_of(report.quiet, report.steps),
         text,
         played: Played::Classes(system),
     })
@@ -143,7 +143,7 @@ pub fn run<R: Threads + Wait + Sync, G: Gate + Sync>(
     let report = system.report()?;
     let text = write_report(alloc, &report)?;
     Ok(Outcome {
-        status: ending_of(&report),
+        status: ending_of(report.quiet, report.steps),
         text,
         played: Played::Classes(system),
     })

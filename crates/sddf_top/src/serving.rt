@@ -56,8 +56,9 @@ fn tell<K: Sink>(sink: &mut K, answer: Result<Outcome, ReadStop>, played: &mut P
 /// the answer, and tells the system that was played. It takes no runtime and waits for no thread.
 ///
 /// The words are judged first, then the description is read and judged, then the trace, and then
-/// the system is played; the first thing that goes wrong is the answer. `Memory` may come at any
-/// point after the words were judged. The whole text is made before the first of it is written.
+/// the system is played; of a bus or a switch the one text is read, and then it is played. The
+/// first thing that goes wrong is the answer. `Memory` may come at any point after the words were
+/// judged. The whole text is made before the first of it is written.
 pub fn serve_alone<F: Shelf, K: Sink>(
     alloc: Global,
     words: &[String],

@@ -10,12 +10,7 @@ use std::alloc::Global;
 
 /// Plays a switch whose ports were read, with the picks that a seed gives, to its quiet end or to a
 /// limit of steps, and reports it.
-pub fn play_ports(
-    alloc: Global,
-    ports: &Ports,
-    seed: u64,
-    limit: u64,
-) -> Result<PortReport, Memory>
+pub fn play_ports(alloc: Global, ports: &Ports, seed: u64, limit: u64) -> Result<PortReport, Memory>
     requires { ArePorts ports.now }
     ensures { IfOk result (PortsPlayed ports.now seed limit) }
 {
