@@ -1,7 +1,8 @@
 -- The proofs on a bus at play: lists (Lists), the actors at a moment (Staging), what they were given
 -- (Serving) and recorded (Replying), how many entries are put (Hopping) and ends there are (Ending),
--- that nothing comes out of turn (InTurn), what actors want of their ends (Wanting), and what holds
--- where nobody is runnable (Quieting) and after all turns (Bounding).
+-- that nothing comes out of turn (InTurn), what actors want of their ends by their states (Wanting)
+-- and by what passed (Needing, Resting), what holds where nobody is runnable (Quieting) and after
+-- all turns (Bounding), and where two buses agree (Agreeing).
 pub mod Lists
 pub mod Staging
 pub mod Serving
@@ -14,3 +15,4 @@ pub mod Quieting
 pub mod Bounding
 pub mod Needing
 pub mod Resting
+pub mod Agreeing

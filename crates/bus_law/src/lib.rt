@@ -2,8 +2,9 @@
 //! of a play, which the call that plays a bus has from the player and the actors.
 #![tactic(auto)]
 
-ghost use Rattle.std.specs.Prelude.{◌≡◌, ◌+◌, ◌<◌, ◌≤◌, ℕ, Some, List, [], length, slice_get};
+ghost use Rattle.std.specs.Prelude.{◌≡◌, ◌↔◌, ◌+◌, ◌<◌, ◌≤◌, ℕ, Some, List, [], length, slice_get};
 ghost use Rattle.cargo_core.specs.Lists.{IsPrefix};
+ghost use Rattle.wire_core.specs.declared.names.Entry.{Entry};
 ghost use Rattle.wire_core.specs.declared.names.QueueRow.{QueueRow};
 ghost use Rattle.wire_core.specs.Journal.{start_history};
 ghost use Rattle.wire_core.specs.Marks.{all_sent};
@@ -13,11 +14,12 @@ ghost use Rattle.small_system.specs.Tales.{Turn, start_of, after_tale, journal_o
 ghost use Rattle.small_system.specs.Tales.{PickedBy, Along};
 ghost use Rattle.small_system.specs.Wants.{RestsBy, runs_by, wanted_by, calm};
 ghost use Rattle.i2c_text.specs.declared.bus.Bus.{Bus};
+ghost use Rattle.i2c_kit.specs.Grants.{IsGranted};
 ghost use Rattle.i2c_client.specs.declared.client.BusClient.{BusClient};
 ghost use Rattle.i2c_actors.specs.declared.member.Member.{Member};
 ghost use Rattle.i2c_actors.specs.declared.member.Member.TheVariants as Members;
 ghost use Rattle.i2c_actors.specs.Members.{member_means};
-ghost use Rattle.bus_law.specs.Takes.{granted_replies};
+ghost use Rattle.bus_law.specs.Takes.{script_of, requests_taken, granted_replies};
 ghost use Rattle.bus_law.specs.Plays.{IsBusTale};
 ghost use Rattle.bus_law.specs.Bounds.{hops_of, bus_bound};
 ghost use Rattle.bus_law.specs.Wants.{bus_wants};
@@ -47,6 +49,17 @@ pub fn replies_law()
     tale_law::<Member>();
     moment_law();
 }
+
+/// Two buses on which a client asks the same, with the same devices, and after which the same
+/// addresses were granted to it, determine the same replies, whatever the other clients ask and
+/// whoever is picked when: so what it is answered in the two are beginnings of one list.
+pub fn agree_law()
+    ensures { (bus other : Bus) (journal others : List Entry) (client : ℕ)
+        → script_of bus client ≡ script_of other client → bus.devices ≡ other.devices
+        → ((address : ℕ) → IsGranted client (requests_taken bus journal) address
+        ↔ IsGranted client (requests_taken other others) address)
+        → granted_replies bus journal client ≡ granted_replies other others client }
+{}
 
 /// Each request and its answer are put to three queues each at most, so a play has fewer steps than
 /// a number that what is asked determines.
