@@ -1,6 +1,6 @@
 //! Three clients that claim two devices, played by many seeds: whichever order their claims come in
 //! at the virtualiser, the first claim of each device is good, and the others aren't.
-ghost use Rattle.std.specs.Prelude.{◌≡◌, ◌<◌, ◌≤◌, ℕ, Some, length};
+ghost use Rattle.std.specs.Prelude.{◌≡◌, ◌<◌, ◌≤◌, ℕ, Some};
 
 use cargo_core::Memory;
 use i2c_play::{bus_bound, play_bus};
@@ -16,11 +16,12 @@ const SEEDS: u64 = 64;
 fn first_device(choice: u32, client: usize) -> u8
     ensures { result ≤ 81 }
 {
-    let bits = [choice % 2 == 1, choice / 2 % 2 == 1, choice / 4 % 2 == 1];
-    match bits.get(client) {
-        Some(true) => 81,
-        _ => 80,
-    }
+    let late = match client {
+        0 => choice % 2 == 1,
+        1 => choice / 2 % 2 == 1,
+        _ => choice / 4 % 2 == 1,
+    };
+    if late { 81 } else { 80 }
 }
 
 // The device of a client's claim of a number.
@@ -72,38 +73,51 @@ fn order_of(
     Ok(order)
 }
 
-// The place of an order among the six of three clients.
+// The place of an order among the six of three clients, by its first two.
+fn rank(first: usize, second: usize) -> usize
+    ensures { result < 6 }
+{
+    match (first, second) {
+        (0, 1) => 0,
+        (0, _) => 1,
+        (1, 0) => 2,
+        (1, _) => 3,
+        (_, 0) => 4,
+        _ => 5,
+    }
+}
+
+// The place of an order of all three.
 fn place_of(order: &[usize]) -> usize
     ensures { result < 6 }
 {
     match order {
-        [0, 1, 2] => 0,
-        [0, 2, 1] => 1,
-        [1, 0, 2] => 2,
-        [1, 2, 0] => 3,
-        [2, 0, 1] => 4,
-        _ => 5,
+        [first, second, _] => rank(*first, *second),
+        _ => 0,
     }
 }
 
 // Whether a reply to a claim is good exactly where it is the first client's.
 fn is_right(reply: &BusReply, client: usize, order: &[usize]) -> bool {
-    let first = order.first() == Some(&client);
-    reply.status == BusStatus::Ok && first || reply.status == BusStatus::Taken && !first
+    let first = match order.first() {
+        Some(first) => *first == client,
+        None => false,
+    };
+    match reply.status {
+        BusStatus::Ok => first,
+        BusStatus::Taken => !first,
+        BusStatus::Unclaimed | BusStatus::NoAck => false,
+    }
 }
 
-// Whether a client got both of its replies as the orders say.
-fn are_right(report: &BusReport, choice: u32, client: usize, orders: [&[usize]; 2]) -> bool {
+// Whether a client got its two replies as the orders of the claims of its first and of its second
+// device say.
+fn are_right(report: &BusReport, client: usize, first: &[usize], second: &[usize]) -> bool {
     let Some(replies) = report.replies.as_slice().get(client) else {
         return false;
     };
-    let order = if first_device(choice, client) == 80 {
-        orders
-    } else {
-        [orders[1], orders[0]]
-    };
     match replies.as_slice() {
-        [one, other] => is_right(one, client, order[0]) && is_right(other, client, order[1]),
+        [one, other] => is_right(one, client, first) && is_right(other, client, second),
         _ => false,
     }
 }
@@ -126,7 +140,11 @@ fn the_first_claim_of_each_device_is_good_in_every_order_of_a_play(
             let other = order_of(rt.alloc(), report.journal.as_slice(), choice, 81)?;
             assert!(rt; report.quiet);
             for client in 0..3usize {
-                assert!(rt; are_right(&report, choice, client, [&one, &other]));
+                if first_device(choice, client) == 80 {
+                    assert!(rt; are_right(&report, client, &one, &other));
+                } else {
+                    assert!(rt; are_right(&report, client, &other, &one));
+                }
             }
             seen[6 * place_of(&one) + place_of(&other)] = true;
         }
