@@ -1,6 +1,6 @@
 //! Where the buffers of a bus are after a journal: a replay of it, buffer by buffer.
-ghost use Rattle.std.specs.Prelude.{◌≡◌, ◌+◌, ◌*◌, ◌<◌, ◌^◌, [], ◌∷◌, ℕ, List, IfOk, length, replicate};
-ghost use Rattle.std.specs.Prelude.{false, Bool, Some, slice_get};
+ghost use Rattle.std.specs.Prelude.{◌≡◌, ◌+◌, ◌*◌, ◌<◌, ◌^◌, ℕ, Bool, false, Some, [], ◌∷◌, List};
+ghost use Rattle.std.specs.Prelude.{IfOk, length, replicate, slice_get};
 ghost use Rattle.std.specs.Option.{option_and_then, option_map, ForSome};
 ghost use Rattle.wire_core.specs.declared.names.QueueRow.{QueueRow};
 ghost use Rattle.owner_law.specs.Things.{address_of, buffer_at};

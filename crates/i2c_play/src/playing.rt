@@ -105,12 +105,7 @@ fn set_up(alloc: Global, bus: &Bus) -> Result<Small<Member>, Memory>
 }
 
 // The report of a player.
-fn report(
-    alloc: Global,
-    bus: &Bus,
-    small: &Small<Member>,
-    quiet: bool,
-) -> Result<BusReport, Memory>
+fn report(alloc: Global, bus: &Bus, small: &Small<Member>, quiet: bool) -> Result<BusReport, Memory>
     requires few { bus.now.clients < 1024 }
     requires there { bus.now.clients ≤ length small.now.moment.actors }
     ensures quiet { IfOk result (λ report. report.quiet ≡ quiet) }

@@ -7,6 +7,8 @@ mod claim_tests;
 #[cfg(test)]
 mod device_tests;
 #[cfg(test)]
+mod order_tests;
+#[cfg(test)]
 mod page_tests;
 #[cfg(test)]
 mod queue_tests;
