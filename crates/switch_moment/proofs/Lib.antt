@@ -11,4 +11,5 @@ pub mod Facts
 pub mod Still
 pub mod Meeting
 pub mod Owed
+pub mod Leaving
 pub mod Wanting

@@ -2,7 +2,8 @@
 //! its ports: laws on what passed at their queues, which know no player.
 #![tactic(auto)]
 
-ghost use Rattle.std.specs.Prelude.{◌≡◌, ◌≤◌, ℕ, Some, List, length, map, slice_get, count_by};
+ghost use Rattle.std.specs.Prelude.{◌≡◌, ◌≤◌, ℕ, true, false, Some, List, [], ◌∷◌, length, map};
+ghost use Rattle.std.specs.Prelude.{slice_get, count_by};
 ghost use Rattle.std.specs.Prelude.{sum_by};
 ghost use Rattle.cargo_core.specs.Lists.{IsPrefix, Merge, PrefixMerge};
 ghost use Rattle.frame_core.specs.declared.mac.Mac.{Mac};
@@ -17,10 +18,10 @@ ghost use Rattle.client_programs.specs.declared.net.NetClient.{NetClient};
 ghost use Rattle.client_programs.specs.Net.Clients.{FitsClient, ClientStandsFor, client_round};
 ghost use Rattle.net_switch.specs.declared.switch.NetSwitch.{NetSwitch};
 ghost use Rattle.net_switch.specs.Switching.{all_sent, switch_round};
-ghost use Rattle.switch_law.specs.Ports.{all_to};
+ghost use Rattle.switch_law.specs.Ports.{all_to, to_from};
 ghost use Rattle.switch_moment.specs.Scene.{IsSwitched, IsClientOf};
-ghost use Rattle.switch_moment.specs.Takes.{told, frames_taken, reaches_none, reaching, frames_in};
-ghost use Rattle.switch_moment.specs.Takes.{sent_by};
+ghost use Rattle.switch_moment.specs.Takes.{FromPort, told, frames_taken, reaches_none};
+ghost use Rattle.switch_moment.specs.Takes.{reaching, frames_in, sent_by};
 ghost use Rattle.switch_moment.specs.Puts.{all_put, puts_most};
 ghost use Rattle.switch_moment.specs.Quiet.{AllRest};
 ghost use Rattle.switch_moment.specs.Wants.{client_wants, switch_wants};
@@ -45,6 +46,16 @@ pub fn take_law()
         → IsSwitched ports ends v passed
         → v.desk.lost
         ≡ count_by (reaches_none ports.macs) (frames_taken ports.sends passed.calls) }
+{}
+
+/// A frame reaches no port where each port's share of what its sender sends leaves it out.
+pub fn lost_law()
+    ensures left_out { (macs : List Mac) (x : FromPort) → reaches_none macs x ≡ true
+        → (port : ℕ) (mac : Mac) → slice_get macs port ≡ Some mac
+        → to_from x.0 port mac (x.1 ∷ []) ≡ [] }
+    ensures kept { (macs : List Mac) (x : FromPort) → reaches_none macs x ≡ false
+        → (port : ℕ) × (mac : Mac) × (slice_get macs port ≡ Some mac)
+        × (to_from x.0 port mac (x.1 ∷ []) ≡ x.1 ∷ []) }
 {}
 
 /// What a port's client recorded are the first of those frames that go there, in the order in which
