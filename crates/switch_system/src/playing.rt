@@ -16,12 +16,7 @@ use text_limits::{ports_frames_law, ports_limits_law};
 
 /// Plays a switch whose ports were read, with the picks that a seed gives, to its quiet end or to a
 /// limit of steps, and reports it.
-pub fn play_ports(
-    alloc: Global,
-    ports: &Ports,
-    seed: u64,
-    limit: u64,
-) -> Result<PortReport, Memory>
+pub fn play_ports(alloc: Global, ports: &Ports, seed: u64, limit: u64) -> Result<PortReport, Memory>
     requires { ArePorts ports.now }
     ensures { IfOk result (PortsPlayed ports.now seed limit) }
 {
