@@ -7,7 +7,7 @@ use Rattle.buffer_kit.specs.Entries.{frame_of}
 use Rattle.net_expect.specs.Expecting.{is_for_client, frames_for}
 use Rattle.play_core.proofs.Lists.{there_below}
 use Rattle.switch_desk.specs.Frames.{Sent, goes_to, frames_to, entries_from}
-use Rattle.switch_law.specs.Ports.{to_from, all_to, AreFirst}
+use Rattle.switch_law.specs.Ports.{to_from, all_to, AreFirst, AreAll}
 use Rattle.switch_law.proofs.Going.{goes_own, goes_other}
 
 -- What goes to one port, by the ports from which it came.
@@ -190,3 +190,26 @@ module _ (macs : List Mac) (r : ℕ) where
           subst (λ l. IsPrefix l whole) (sym (is ∙ ap (λ i. part i sent) z)) (subst (IsPrefix (part k sent)) (sym (w.2 ∙ ap (λ i. to_from i r mac w.0) z)) (part_begins k sent w.0 (first.firsts k w.0 w.1)));
       merged = merges (length sends) sent first.ports;
     }
+
+    -- where all was taken that a port sends, what goes there from it is all that it sends there
+    part_whole : (s : ℕ) (sent : List Sent) (frames : List (List ℕ)) → map (λ (c : Cargo). frame_of c) (entries_from s sent) ≡ frames → part s sent ≡ to_from s r mac frames
+    part_whole s sent frames all = by (s == r) refl
+      where
+        by : (t : Bool) → (s == r) ≡ t → part s sent ≡ to_from s r mac frames
+        by true e = own_none s sent (eqb-true s r e) ∙ sym (ap (λ (t : Bool). cond t [] (frames_for mac frames)) e)
+        by false e =
+            let off : s ≡ r → ⊥ = (λ h. let bad : true ≡ false = sym (eq-eqb s r h) ∙ e in cc) in
+            same_filter s sent off ∙ (ap (filter fits) all ∙ sym (ap (λ (t : Bool). cond t [] (frames_for mac frames)) e))
+
+    parts_whole : (s : ℕ) (sends : List (List (List ℕ))) (sent : List Sent) → ((k : ℕ) (frames : List (List ℕ)) → slice_get sends k ≡ Some frames → map (λ (c : Cargo). frame_of c) (entries_from (s + k) sent) ≡ frames)
+        → parts s (length sends) sent ≡ all_to s r mac sends
+    parts_whole s [] sent all = refl
+    parts_whole s (frames ∷ sends) sent all =
+        let z : s + 0 ≡ s = omega arith in
+        front (part_whole s sent frames (subst (λ i. map (λ (c : Cargo). frame_of c) (entries_from i sent) ≡ frames) z (all 0 frames refl)))
+        (parts_whole (s + 1) sends sent (λ k fs at. let next : s + suc k ≡ (s + 1) + k = omega arith in subst (λ i. map (λ (c : Cargo). frame_of c) (entries_from i sent) ≡ fs) next (all (suc k) fs at)))
+
+    pub merged_whole : (sends : List (List (List ℕ))) (sent : List Sent) → AreAll sends sent → Merge (all_to 0 r mac sends) (frames_to macs r sent)
+    merged_whole sends sent all =
+        subst (λ ls. Merge ls (frames_to macs r sent)) (parts_whole 0 sends sent (λ k frames at. let z : k ≡ 0 + k = omega arith in subst (λ i. map (λ (c : Cargo). frame_of c) (entries_from i sent) ≡ frames) z (all.all k frames at)))
+        (merges (length sends) sent all.first.ports)

@@ -1,6 +1,6 @@
 -- What each port of a switch must get of what each port sends.
-use Rattle.std.specs.Prelude.{◌≡◌, ◌+◌, ◌<◌, ◌==◌, ℕ, if◌then◌else◌, Some, List, [], ◌∷◌, length, map}
-use Rattle.std.specs.Prelude.{slice_get}
+use Rattle.std.specs.Prelude.{◌≡◌, ◌+◌, ◌<◌, ◌==◌, ℕ, if◌then◌else◌, Some, List, [], ◌∷◌, length}
+use Rattle.std.specs.Prelude.{map, slice_get}
 use Rattle.cargo_core.specs.Lists.{IsPrefix}
 use Rattle.frame_core.specs.declared.mac.Mac.{Mac}
 use Rattle.wire_core.specs.Deeds.{Cargo}
@@ -24,3 +24,9 @@ pub record AreFirst (sends : List (List (List ℕ))) (sent : List Sent) : Type 0
   pub ports : (k : ℕ) (x : Sent) → slice_get sent k ≡ Some x → x.0 < length sends
   pub firsts : (port : ℕ) (frames : List (List ℕ)) → slice_get sends port ≡ Some frames
       → IsPrefix (map (λ (c : Cargo). frame_of c) (entries_from port sent)) frames
+
+-- and of each port all that it sends
+pub record AreAll (sends : List (List (List ℕ))) (sent : List Sent) : Type 0 where
+  pub first : AreFirst sends sent
+  pub all : (port : ℕ) (frames : List (List ℕ)) → slice_get sends port ≡ Some frames
+      → map (λ (c : Cargo). frame_of c) (entries_from port sent) ≡ frames

@@ -3,9 +3,8 @@
 #![tactic(auto)]
 
 mod bounding;
-mod playing;
 mod writing;
 
 pub use bounding::ports_bound;
-pub use playing::play_ports;
+pub use switch_system::play_ports;
 pub use writing::write_ports;

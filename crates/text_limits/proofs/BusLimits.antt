@@ -1,7 +1,6 @@
-use Rattle.std.proofs.Common.{◌≡◌, ℕ, zero, suc, ◌+◌, ◌≤◌, Bool, true, false, cond, leb, ltb, eqb, ◌&&◌, ◌||◌, inl, inr, List, [], ◌∷◌, ◌++◌, length, sum_by, count_by, get_or, codes, Option, Some, None, refl, ap, sym, ◌∙◌, arith, add-one}
+use Rattle.std.proofs.Common.{◌≡◌, ℕ, zero, suc, ◌+◌, ◌≤◌, Bool, true, false, cond, leb, eqb, ◌&&◌, ◌||◌, inl, inr, List, [], ◌∷◌, ◌++◌, length, sum_by, count_by, get_or, codes, Option, Some, None, refl, sym, ◌∙◌, arith, add-one}
 use Rattle.std.specs.Option.{option_map, option_and_then, option_to_list}
 use Rattle.std.proofs.lemmas.Bool.{cases_Bool, leb-true, leb-false, ltb-false, eqb-false, eq-eqb}
-use Rattle.std.proofs.lemmas.List.Sums.{sum_by-cons}
 use Rattle.std.proofs.lemmas.Option.{slice_get-get_or}
 use Rattle.i2c_text.specs.declared.bus.Bus.{Bus}
 use Rattle.i2c_text.specs.declared.bus.BusAsk.TheVariants as Asks

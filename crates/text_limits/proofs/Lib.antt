@@ -1,3 +1,4 @@
 pub mod Totals
 pub mod BusLimits
 pub mod PortLimits
+pub mod FrameLimits

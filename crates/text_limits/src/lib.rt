@@ -4,4 +4,4 @@
 
 mod limits;
 
-pub use limits::{bus_limits_law, ports_limits_law};
+pub use limits::{bus_limits_law, ports_frames_law, ports_limits_law};

@@ -1,4 +1,5 @@
 //! What holds of whatever was read.
+ghost use Rattle.std.specs.Prelude.{◌≡◌, ◌≤◌, ℕ, Some, List, All, length, slice_get};
 ghost use Rattle.i2c_text.specs.declared.bus.Bus.{Bus};
 ghost use Rattle.i2c_text.specs.Buses.{IsReadBus};
 ghost use Rattle.ports_text.specs.declared.ports.Ports.{Ports};
@@ -15,4 +16,11 @@ pub fn bus_limits_law()
 /// frames.
 pub fn ports_limits_law()
     ensures { (ports : Ports) → ArePorts ports → KeepsPortLimits ports }
+{}
+
+/// Each frame of a switch that was read has at most 1,514 bytes.
+pub fn ports_frames_law()
+    ensures { (ports : Ports) → ArePorts ports → (port : ℕ) (frames : List (List ℕ))
+        → slice_get ports.sends port ≡ Some frames
+        → All (λ frame. length frame ≤ 1514) frames }
 {}

@@ -1,0 +1,37 @@
+//! The actors, of both kinds.
+ghost use Rattle.switch_class.specs.Members.{member_means};
+ghost use Rattle.switch_class.specs.MemberLaws.{member_lawful};
+
+use cargo_core::Memory;
+use client_programs::NetClient;
+use net_switch::NetSwitch;
+use plain_wires::World;
+use small_system::SmallActor;
+use wire_core::Event;
+
+/// An actor of a switch's system.
+#[derive(Drop)]
+pub enum Member {
+    Client(NetClient),
+    Switch(NetSwitch),
+}
+
+impl SmallActor for Member {
+    ghost means = { member_means };
+
+    fn step(&mut self, world: &mut World) -> Result<Event, Memory> {
+        match self {
+            Member::Client(client) => client.step(world),
+            Member::Switch(switch) => Ok(switch.step(world)),
+        }
+    }
+
+    fn at_rest(&self) -> bool {
+        match self {
+            Member::Client(client) => client.at_rest(),
+            Member::Switch(switch) => switch.at_rest(),
+        }
+    }
+
+    ghost lawful = { member_lawful };
+}

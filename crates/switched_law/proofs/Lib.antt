@@ -1,0 +1,6 @@
+-- The proofs on a play of a switch.
+pub mod Making
+pub mod Standing
+pub mod Bounding
+pub mod Wanting
+pub mod Resting

@@ -1,0 +1,4 @@
+-- A play of a switch between clients (Playing), and what each of its actors wants by its own state
+-- (Wants).
+pub mod Playing
+pub mod Wants
