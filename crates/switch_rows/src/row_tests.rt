@@ -1,6 +1,6 @@
 //! What must come of two small texts, whatever the seed.
 
-use cargo_core::{Census, FrameLog};
+use cargo_core::{Census, FrameLog, Memory};
 use ports_text::{PortFault, PortReport, read_ports};
 use std::alloc::Global;
 use std::test::Fail;
@@ -39,9 +39,9 @@ fn is_row(report: &PortReport) -> bool {
         return false;
     }
     records[0].len() == 1
-        && records[0].get(0) == [255, 255, 255, 255, 255, 255, 2, 0, 0, 0, 0, 2, 8, 0]
+        && records[0].get(0) == [255, 255, 255, 255, 255, 255, 2, 0, 0, 0, 0, 2, 8, 0].as_slice()
         && records[1].len() == 1
-        && records[1].get(0) == [2, 0, 0, 0, 0, 2, 2, 0, 0, 0, 0, 1, 8, 0]
+        && records[1].get(0) == [2, 0, 0, 0, 0, 2, 2, 0, 0, 0, 0, 1, 8, 0].as_slice()
         && is_line(&pools[0], "switch.0.rx", 4)
         && is_line(&pools[1], "switch.0.tx", 2)
         && is_line(&pools[2], "switch.1.rx", 4)
@@ -69,7 +69,7 @@ fn one_step_fewer_is_too_few(rt: HostRuntime) -> Result<(), Fail> {
 }
 
 // Three ports, of which the first two send 100 frames each to the third.
-fn two_to_one(alloc: Global) -> Result<String, PortFault> {
+fn two_to_one(alloc: Global) -> Result<String, Memory> {
     let mut text = String::from_str(
         alloc,
         "port 02:00:00:00:00:01\nport 02:00:00:00:00:02\nport 02:00:00:00:00:03\n",
