@@ -1,6 +1,6 @@
 //! What the words of a play that is drawn decide. The description and the trace are read and judged
 //! by the main program's own call, and what is played is what it plays.
-ghost use Rattle.std.specs.Prelude.{◌≡◌, ◌<◌, ◌^◌, IfOk};
+ghost use Rattle.std.specs.Prelude.{◌≡◌, IfOk};
 ghost use Rattle.sdf_plan.specs.Elements.{IsNumbered};
 ghost use Rattle.trace_text.specs.Traces.{IsReadFor};
 ghost use Rattle.command_words.specs.Words.{texts_of};
@@ -92,12 +92,10 @@ fn play<E: Sink>(
 }
 
 // The words ask for nothing.
-fn refuse_words(alloc: Global, place: usize) -> Result<Reply, Memory>
-    requires { place < 2 ^ 32 }
+fn refuse_words(alloc: Global, place: u32) -> Result<Reply, Memory>
     ensures { IfOk result (λ reply. decided_of reply
         ≡ Refused (Status.Usage place) (usage_text place)) }
 {
-    let place = place as u32;
     let line = write_usage(alloc, place)?;
     Ok(Reply::Refuse(Status::Usage(place), line))
 }
