@@ -68,6 +68,7 @@ fn limit_of(plan: &Plan, trace: &Trace, settings: &[Setting]) -> u64
 }
 
 // Plays a trace on a plan, and draws the play.
+#[tactic(auto, using(crate::proofs::SliceLemmas::no_progress))]
 fn play<E: Sink>(
     alloc: Global,
     plan: &Plan,
@@ -101,6 +102,7 @@ fn refuse_words(alloc: Global, place: u32) -> Result<Reply, Memory>
 }
 
 // What was decided, and is played where it is a play.
+#[tactic(auto, using(crate::proofs::SliceLemmas::no_progress))]
 fn reply_to<E: Sink>(
     alloc: Global,
     decided: Decided,
@@ -118,6 +120,7 @@ fn reply_to<E: Sink>(
 }
 
 // What the main program decides for a drawing, played where it is a play.
+#[tactic(auto, using(crate::proofs::SliceLemmas::no_progress))]
 fn decide_drawing<F: Shelf, E: Sink>(
     alloc: Global,
     words: &[String],
@@ -141,6 +144,7 @@ fn decide_drawing<F: Shelf, E: Sink>(
 /// What words decide that ask for a drawing of a play. The words are judged first, and then the
 /// description and the trace are read and judged, as the main program does. While a long play is
 /// made, lines of progress are written.
+#[tactic(auto, using(crate::proofs::SliceLemmas::no_progress))]
 pub fn decide_play<F: Shelf, E: Sink>(
     alloc: Global,
     words: &[String],
