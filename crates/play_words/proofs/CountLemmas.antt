@@ -1,10 +1,10 @@
 -- Words that ask for a drawing are thirteen at most: three, and two for each of five options.
-use Rattle.std.proofs.Common.{◌≡◌, ◌+◌, ◌*◌, ◌≤◌, ℕ, Bool, true, false, Option, Some, None, List, [], ◌∷◌, ◌++◌, length, length-append, length-take, take, refl, sym, ap, ◌∙◌, arith, inl, inr}
+use Rattle.std.proofs.Common.{◌≡◌, ◌+◌, ◌*◌, ◌≤◌, ℕ, Option, Some, None, List, [], ◌∷◌, length, length-append, length-take, take, refl, ap, arith, inl, inr}
 use Rattle.std.proofs.lemmas.Bool.{cases_Bool}
 use Rattle.play_words.specs.declared.options.Name.{Name}
 use Rattle.play_words.specs.declared.options.Name.TheVariants as An
 use Rattle.play_words.specs.declared.options.Setting.{Setting}
-use Rattle.play_words.specs.Words.{takes_number, number_words_of, option_words, number_of, AreFit, IsBadWord, Spells}
+use Rattle.play_words.specs.Words.{takes_number, number_words_of, option_words, number_of, AreFit, IsBadWord}
 
 -- one where there is a number
 abbrev one : Option ℕ → ℕ

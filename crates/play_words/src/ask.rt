@@ -91,10 +91,7 @@ fn read_all(alloc: Global, words: &[String]) -> Result<Result<Drawing, usize>, M
 /// What the words ask for, or the place of the first bad word, counted from 0: the least place such
 /// that neither form begins with the words up to it, or the number of the words where a form begins
 /// with all of them and they are none.
-pub fn read_drawing(
-    alloc: Global,
-    words: &[String],
-) -> Result<Result<Drawing, u32>, Memory>
+pub fn read_drawing(alloc: Global, words: &[String]) -> Result<Result<Drawing, u32>, Memory>
     ensures ok { IfOk result (λ read. IfOk read (Spells (texts_of words.now))) }
     ensures err { IfOk result (λ read. IfErr read (IsBadWord (texts_of words.now))) }
 {

@@ -1,4 +1,4 @@
-use Rattle.play_words.proofs.WordLemmas.{bad-asked, spells-asked}
+use Rattle.play_words.proofs.WordLemmas.{bad-asked}
 use Rattle.play_words.proofs.ask.read_all.Goals as goal
 
 pub returns-in-Err-2-clause-err : goal.returns-in-Err-2-clause-err
