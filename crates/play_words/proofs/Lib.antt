@@ -1,3 +1,4 @@
+mod CountLemmas
 mod NameLemmas
 mod OptionLemmas
 mod SoFar

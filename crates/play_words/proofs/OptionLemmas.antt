@@ -1,5 +1,5 @@
 -- The words of options tell which options they are.
-use Rattle.std.proofs.Common.{◌≡◌, ◌↔◌, refl, sym, ap, ◌∙◌, subst, ℕ, ◌+◌, ◌≤◌, ◌<◌, ◌^◌, Bool, true, false, Option, Some, None, List, [], ◌∷◌, ◌++◌, append_assoc, length, drop, take, decimal, arith, inl, inr}
+use Rattle.std.proofs.Common.{◌≡◌, refl, sym, ap, ◌∙◌, subst, ℕ, ◌+◌, ◌≤◌, ◌<◌, ◌^◌, true, false, Some, None, List, [], ◌∷◌, ◌++◌, append_assoc, length, drop, decimal, arith, inl, inr}
 use Rattle.std.specs.Prelude.{slice_get}
 use Rattle.std.proofs.lemmas.List.{append-nil}
 use Rattle.std.proofs.lemmas.Bool.{cases_Bool}
@@ -7,13 +7,13 @@ use Rattle.std.proofs.lemmas.Option.{slice_get_cases}
 use Rattle.std.proofs.lemmas.Fmt.{decimal_injective}
 use Rattle.std.proofs.Math.ListN.{drop_of_length-le}
 use Rattle.command_words.specs.Reading.{IsFirstBad, IsBadFrom, IsNumberAt}
-use Rattle.command_words.proofs.FirstBad.{drop-at, bad-first, bad-none, bad-behind, bad-also}
+use Rattle.command_words.proofs.FirstBad.{drop-at, bad-first, bad-none, bad-behind}
 use Rattle.play_words.specs.declared.options.Name.{Name}
 use Rattle.play_words.specs.declared.options.Name.TheVariants as An
 use Rattle.play_words.specs.declared.options.Setting.{Setting}
 use Rattle.play_words.specs.Words.{text_of, takes_number, least_of, most_of, number_words_of, option_words, number_of, AreFit, IsWithin}
-use Rattle.play_words.specs.Reading.{OptionsAre, MayBeOptions, MayFollow, HasRead}
-use Rattle.play_words.proofs.NameLemmas.{text-once, fit-at, fit-more, fit-first}
+use Rattle.play_words.specs.Reading.{MayFollow, HasRead}
+use Rattle.play_words.proofs.NameLemmas.{text-once, fit-at, fit-more}
 
 -- words that begin with a word and are options: the first is named by it
 pub record IsBegun (settings : List Setting) (w : List ℕ) (more : List (List ℕ)) : Type 0 where

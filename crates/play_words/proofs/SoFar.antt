@@ -7,7 +7,6 @@ use Rattle.command_words.proofs.FirstBad.{bad-behind, bad-also}
 use Rattle.play_words.specs.declared.options.Setting.{Setting}
 use Rattle.play_words.specs.Words.{text_of, number_words_of, option_words, AreFit}
 use Rattle.play_words.specs.Reading.{OptionsAre, MayBeOptions, MayFollow, HasRead}
-use Rattle.play_words.proofs.NameLemmas.{fit-first}
 use Rattle.play_words.proofs.OptionLemmas.{split, words-append}
 
 -- the options up to a place were read

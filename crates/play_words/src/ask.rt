@@ -73,10 +73,8 @@ fn read_behind(alloc: Global, words: &[String]) -> Result<Result<Series<Setting>
     read_options(alloc, words)
 }
 
-/// What the words ask for, or the place of the first bad word, counted from 0: the least place such
-/// that neither form begins with the words up to it, or the number of the words where a form begins
-/// with all of them and they are none.
-pub fn read_drawing(alloc: Global, words: &[String]) -> Result<Result<Drawing, usize>, Memory>
+// What the words ask for, or the place of the first bad word.
+fn read_all(alloc: Global, words: &[String]) -> Result<Result<Drawing, usize>, Memory>
     ensures ok { IfOk result (λ read. IfOk read (Spells (texts_of words.now))) }
     ensures err { IfOk result (λ read. IfErr read (IsBadWord (texts_of words.now))) }
 {
@@ -87,6 +85,19 @@ pub fn read_drawing(alloc: Global, words: &[String]) -> Result<Result<Drawing, u
     match read_behind(alloc, words)? {
         Ok(settings) => Ok(Ok(Drawing { page, settings })),
         Err(place) => Ok(Err(place)),
+    }
+}
+
+/// What the words ask for, or the place of the first bad word, counted from 0: the least place such
+/// that neither form begins with the words up to it, or the number of the words where a form begins
+/// with all of them and they are none.
+pub fn read_drawing(alloc: Global, words: &[String]) -> Result<Result<Drawing, u32>, Memory>
+    ensures ok { IfOk result (λ read. IfOk read (Spells (texts_of words.now))) }
+    ensures err { IfOk result (λ read. IfErr read (IsBadWord (texts_of words.now))) }
+{
+    match read_all(alloc, words)? {
+        Ok(drawing) => Ok(Ok(drawing)),
+        Err(place) => Ok(Err(place as u32)),
     }
 }
 

@@ -2,3 +2,4 @@ mod PoolLemmas
 mod SliceLemmas
 mod ReplyLemmas
 mod CalmLemmas
+mod PlayLemmas

@@ -116,5 +116,5 @@ told-more written old mid new before after slices t h = record {
 pub told-progress : {E : Type 0} (written : E → Option (List ℕ)) (old new : E) (going : Bool) (slices : ℕ) → IsToldSoFar written old new going slices → IsProgress written old new
 told-progress written old new going slices t = record { slices = slices; part = t.part; begins = t.begins; written_is = t.written_is }
 
-pub no-progress : {E : Type 0} (written : E → Option (List ℕ)) (old : E) → IsProgress written old old
-no-progress written old = record { slices = 0; part = []; begins = ([], refl); written_is = appended-none (written old) }
+pub no_progress : {E : Type 0} (written : E → Option (List ℕ)) (old : E) → IsProgress written old old
+no_progress written old = record { slices = 0; part = []; begins = ([], refl); written_is = appended-none (written old) }

@@ -1,6 +1,6 @@
 //! What the words of a play that is drawn decide. The description and the trace are read and judged
 //! by the main program's own call, and what is played is what it plays.
-ghost use Rattle.std.specs.Prelude.{◌≡◌, ◌<◌, ◌^◌, IfOk};
+ghost use Rattle.std.specs.Prelude.{◌≡◌, IfOk};
 ghost use Rattle.sdf_plan.specs.Elements.{IsNumbered};
 ghost use Rattle.trace_text.specs.Traces.{IsReadFor};
 ghost use Rattle.command_words.specs.Words.{texts_of};
@@ -68,6 +68,7 @@ fn limit_of(plan: &Plan, trace: &Trace, settings: &[Setting]) -> u64
 }
 
 // Plays a trace on a plan, and draws the play.
+#[tactic(auto, using(crate::proofs::SliceLemmas::no_progress))]
 fn play<E: Sink>(
     alloc: Global,
     plan: &Plan,
@@ -92,17 +93,16 @@ fn play<E: Sink>(
 }
 
 // The words ask for nothing.
-fn refuse_words(alloc: Global, place: usize) -> Result<Reply, Memory>
-    requires { place < 2 ^ 32 }
+fn refuse_words(alloc: Global, place: u32) -> Result<Reply, Memory>
     ensures { IfOk result (λ reply. decided_of reply
         ≡ Refused (Status.Usage place) (usage_text place)) }
 {
-    let place = place as u32;
     let line = write_usage(alloc, place)?;
     Ok(Reply::Refuse(Status::Usage(place), line))
 }
 
 // What was decided, and is played where it is a play.
+#[tactic(auto, using(crate::proofs::SliceLemmas::no_progress))]
 fn reply_to<E: Sink>(
     alloc: Global,
     decided: Decided,
@@ -120,6 +120,7 @@ fn reply_to<E: Sink>(
 }
 
 // What the main program decides for a drawing, played where it is a play.
+#[tactic(auto, using(crate::proofs::SliceLemmas::no_progress))]
 fn decide_drawing<F: Shelf, E: Sink>(
     alloc: Global,
     words: &[String],
@@ -143,6 +144,7 @@ fn decide_drawing<F: Shelf, E: Sink>(
 /// What words decide that ask for a drawing of a play. The words are judged first, and then the
 /// description and the trace are read and judged, as the main program does. While a long play is
 /// made, lines of progress are written.
+#[tactic(auto, using(crate::proofs::SliceLemmas::no_progress))]
 pub fn decide_play<F: Shelf, E: Sink>(
     alloc: Global,
     words: &[String],

@@ -1,5 +1,11 @@
-use Rattle.play_words.proofs.WordLemmas.{bad-asked, spells-asked}
+use Rattle.std.proofs.Common.{arith}
+use Rattle.command_words.specs.Words.{texts_of}
+use Rattle.play_words.specs.Words.{IsBadWord}
+use Rattle.play_words.proofs.CountLemmas.{bad-early}
 use Rattle.play_words.proofs.ask.read_drawing.Goals as goal
 
-pub returns-in-Err-2-clause-err : goal.returns-in-Err-2-clause-err
-returns-in-Err-2-clause-err c = bad-asked _ c.in-Ok.page c.in-Ok.ensures.ok _ (rw c.in-Err-2.is at c.in_ok-settings.ensures.err)
+pub overflow_cast-result : goal.overflow_cast-result
+overflow_cast-result c =
+    let bad : IsBadWord (texts_of c.args.words.now) c.in-Err.place = rw c.in-Err.is at c.in_ok-drawing.ensures.err in
+    let early = bad-early _ _ bad in
+    omega arith

@@ -1,4 +1,4 @@
-use Rattle.std.proofs.Common.{refl, arith}
+use Rattle.std.proofs.Common.{arith}
 use Rattle.std.proofs.lemmas.List.{length-map}
 use Rattle.play_words.proofs.WordLemmas.{bad-empty, bad-kind}
 use Rattle.play_words.proofs.ask.read_kind.Goals as goal
