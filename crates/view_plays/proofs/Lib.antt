@@ -1,5 +1,0 @@
-mod PoolLemmas
-mod SliceLemmas
-mod ReplyLemmas
-mod CalmLemmas
-mod PlayLemmas
