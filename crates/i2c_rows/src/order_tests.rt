@@ -1,5 +1,6 @@
-//! Three clients that claim two devices, played by many seeds: whichever order their claims come in
-//! at the virtualiser, the first claim of each device is good, and the others aren't.
+//! Three clients that claim two devices, played: each of the 36 pairs of orders in which their
+//! claims come to the virtualiser occurs, and in each the first claim of each device is good, and
+//! the others aren't.
 ghost use Rattle.std.specs.Prelude.{◌≡◌, ◌<◌, ◌≤◌, ℕ, Some};
 
 use cargo_core::Memory;
@@ -10,33 +11,46 @@ use std::test::Fail;
 use wire_core::{Entry, Op};
 
 // How many seeds are played for each text.
-const SEEDS: u64 = 64;
+const SEEDS: u64 = 4;
 
-// The device that a client claims first, by the bits of a choice; the other one it claims then.
-fn first_device(choice: u32, client: usize) -> u8
-    ensures { result ≤ 81 }
+// How many requests each client makes.
+const REQUESTS: usize = 36;
+
+// The place of a client in an order, of the six of three clients.
+fn position(order: usize, client: usize) -> usize
+    ensures { result ≤ 2 }
 {
-    let late = match client {
-        0 => choice % 2 == 1,
-        1 => choice / 2 % 2 == 1,
-        _ => choice / 4 % 2 == 1,
-    };
-    if late { 81 } else { 80 }
+    match (order, client) {
+        (0, 0) | (1, 0) | (2, 1) | (3, 1) | (4, 2) | (5, 2) => 0,
+        (0, 1) | (1, 2) | (2, 0) | (3, 2) | (4, 0) | (5, 1) => 1,
+        _ => 2,
+    }
 }
 
-// The device of a client's claim of a number.
-fn device(choice: u32, client: usize, number: usize) -> u8 {
-    let first = first_device(choice, client);
-    if number == 0 { first } else { 161 - first }
+// The device that a client's request of a number claims, where it is a claim. Those of one device
+// are fourteen requests apart, so that they hardly come to the virtualiser in another order than
+// the one that is asked for.
+fn claimed_at(one: usize, other: usize, client: usize, number: usize) -> Option<u8> {
+    if number == 14 * position(one, client) {
+        Some(80)
+    } else if number == 14 * position(other, client) + 7 {
+        Some(81)
+    } else {
+        None
+    }
 }
 
-// Three clients, each of which claims both devices.
-fn text(alloc: Global, choice: u32) -> Result<String, Memory> {
+// Three clients that claim both devices in these orders, and between these claims read where
+// nobody has a claim.
+fn text(alloc: Global, one: usize, other: usize) -> Result<String, Memory> {
     let mut text = String::from_str(alloc, "clients 3\ndevice 80\ndevice 81\n")?;
     for client in 0..3usize {
-        let first = device(choice, client, 0);
-        let second = device(choice, client, 1);
-        write!(text, "claim {client} {first}\nclaim {client} {second}\n")?;
+        for number in 0..REQUESTS {
+            match claimed_at(one, other, client, number) {
+                Some(device) => write!(text, "claim {client} {device}\n")?,
+                None => write!(text, "read {client} 100 1\n")?,
+            }
+        }
     }
     Ok(text)
 }
@@ -57,15 +71,18 @@ fn client_of(entry: &Entry) -> Option<usize>
 fn order_of(
     alloc: Global,
     journal: &[Entry],
-    choice: u32,
-    claimed: u8,
+    one: usize,
+    other: usize,
+    device: u8,
 ) -> Result<Vec<usize>, Memory> {
     let mut order = Vec::new(alloc);
     let mut taken = [0usize; 3];
     for entry in journal {
         if let Some(client) = client_of(entry) {
-            if device(choice, client, taken[client]) == claimed {
-                order.push(client)?;
+            if let Some(claimed) = claimed_at(one, other, client, taken[client]) {
+                if claimed == device {
+                    order.push(client)?;
+                }
             }
             taken[client] = taken[client].saturating_add(1);
         }
@@ -73,27 +90,15 @@ fn order_of(
     Ok(order)
 }
 
-// The place of an order among the six of three clients, by its first two.
-fn rank(first: usize, second: usize) -> usize
-    ensures { result < 6 }
-{
-    match (first, second) {
-        (0, 1) => 0,
-        (0, _) => 1,
-        (1, 0) => 2,
-        (1, _) => 3,
-        (_, 0) => 4,
-        _ => 5,
-    }
-}
-
-// The place of an order of all three.
-fn place_of(order: &[usize]) -> usize
-    ensures { result < 6 }
-{
+// Whether all three clients stand in this order, of the six.
+fn is_order(order: &[usize], number: usize) -> bool {
     match order {
-        [first, second, _] => rank(*first, *second),
-        _ => 0,
+        [first, second, third] => {
+            position(number, *first) == 0
+                && position(number, *second) == 1
+                && position(number, *third) == 2
+        }
+        _ => false,
     }
 }
 
@@ -110,51 +115,69 @@ fn is_right(reply: &BusReply, client: usize, order: &[usize]) -> bool {
     }
 }
 
-// Whether a client got its two replies as the orders of the claims of its first and of its second
-// device say.
-fn are_right(report: &BusReport, client: usize, first: &[usize], second: &[usize]) -> bool {
+// Whether a client got the replies to its claims that these orders say, and `unclaimed` to each
+// read.
+fn are_right(
+    report: &BusReport,
+    one: usize,
+    other: usize,
+    client: usize,
+    first: &[usize],
+    second: &[usize],
+) -> bool {
     let Some(replies) = report.replies.as_slice().get(client) else {
         return false;
     };
-    match replies.as_slice() {
-        [one, other] => is_right(one, client, first) && is_right(other, client, second),
-        _ => false,
+    let mut number = 0usize;
+    for reply in replies.as_slice() {
+        let right = match claimed_at(one, other, client, number) {
+            Some(80) => is_right(reply, client, first),
+            Some(_) => is_right(reply, client, second),
+            None => reply.status == BusStatus::Unclaimed,
+        };
+        if !right {
+            return false;
+        }
+        number = number.saturating_add(1);
     }
+    number == REQUESTS
+}
+
+// Whether the claims came in these orders, where a play gets quiet with each reply as it must be.
+fn came_so(alloc: Global, one: usize, other: usize, seed: u64) -> Result<Option<bool>, Memory> {
+    let lines = text(alloc, one, other)?;
+    let Ok(bus) = read_bus(alloc, lines.as_bytes()) else {
+        return Ok(None);
+    };
+    let report = play_bus(alloc, &bus, seed, bus_bound(&bus))?;
+    let journal = report.journal.as_slice();
+    let first = order_of(alloc, journal, one, other, 80)?;
+    let second = order_of(alloc, journal, one, other, 81)?;
+    let mut right = report.quiet;
+    for client in 0..3usize {
+        right = right && are_right(&report, one, other, client, &first, &second);
+    }
+    if !right {
+        return Ok(None);
+    }
+    Ok(Some(is_order(&first, one) && is_order(&second, other)))
 }
 
 #[test]
 fn the_first_claim_of_each_device_is_good_in_every_order_of_a_play(
     rt: HostRuntime,
 ) -> Result<(), Fail> {
-    let mut seen = [false; 36];
-    for choice in 0..8u32 {
-        let lines = text(rt.alloc(), choice)?;
-        let Ok(bus) = read_bus(rt.alloc(), lines.as_bytes()) else {
-            assert!(rt; false);
-            return Ok(());
-        };
-        let limit = bus_bound(&bus);
-        for seed in 0..SEEDS {
-            let report = play_bus(rt.alloc(), &bus, seed, limit)?;
-            let one = order_of(rt.alloc(), report.journal.as_slice(), choice, 80)?;
-            let other = order_of(rt.alloc(), report.journal.as_slice(), choice, 81)?;
-            assert!(rt; report.quiet);
-            for client in 0..3usize {
-                if first_device(choice, client) == 80 {
-                    assert!(rt; are_right(&report, client, &one, &other));
-                } else {
-                    assert!(rt; are_right(&report, client, &other, &one));
+    for one in 0..6usize {
+        for other in 0..6usize {
+            let mut came = false;
+            for seed in 0..SEEDS {
+                match came_so(rt.alloc(), one, other, seed)? {
+                    Some(so) => came = came || so,
+                    None => assert!(rt; false),
                 }
             }
-            seen[6 * place_of(&one) + place_of(&other)] = true;
+            assert!(rt; came);
         }
     }
-    let mut orders = 0u32;
-    for pair in seen {
-        if pair {
-            orders = orders.saturating_add(1);
-        }
-    }
-    assert_eq!(rt; orders, 36);
     Ok(())
 }
