@@ -10,7 +10,7 @@ ghost use Rattle.actor_set.specs.Actors.{actor_rests, part_of};
 ghost use Rattle.trace_text.specs.Traces.{IsReadFor};
 ghost use Rattle.region_layout.specs.Layouts.{layout_of};
 ghost use Rattle.sdf_check.specs.Valid.{Valid};
-ghost use Rattle.actor_set.specs.Laws.Kinds.{manner_of, idles};
+ghost use Rattle.actor_set.specs.Laws.Kinds.{AllCalm, manner_of, idles};
 ghost use Rattle.cast_law.specs.Pools.Places.{ArePooled};
 ghost use Rattle.system_core.specs.Shows.{runs};
 ghost use Rattle.system_core.specs.States.{history_of, begun, nobody, started};
@@ -305,7 +305,8 @@ impl System {
     }
 
     fn runnable_count(&self) -> usize
-        ensures { result ≡ length (runnable_now self.now) }
+        ensures count { result ≡ length (runnable_now self.now) }
+        ensures calm { AllCalm self.now.setting.cast }
     {
         self.running.len()
     }
