@@ -8,6 +8,8 @@ ghost use Rattle.actor_set.specs.Actors.{FitsActor, ActorStandsFor, ActorRow, Ac
 ghost use Rattle.actor_set.specs.Actors.{ActorTurned, IsActorCall, IsWhole, MayStep, Forgot};
 ghost use Rattle.actor_set.specs.Actors.{actor_rests, actor_hand, part_of, part_anew};
 ghost use Rattle.actor_set.specs.Actors.{record_length, bad_of, actor_lent};
+ghost use Rattle.actor_set.specs.Laws.Kinds.{manner_of};
+ghost use Rattle.play_core.specs.Manners.{is_hostile};
 
 use crate::Disk;
 use blk_driver::BlkDriver;
@@ -69,6 +71,14 @@ impl Actor {
             Actor::BlkClient(client) => client.at_rest(),
             Actor::Rogue(client) => client.at_rest(),
         }
+    }
+
+    /// Whether it is a hostile client.
+    #[inline(always)]
+    pub fn is_hostile(&self) -> bool
+        ensures { result ≡ is_hostile (manner_of (part_of self.now)) }
+    {
+        matches!(self, Actor::Rogue(_))
     }
 
     /// The length of a client's record, in bytes, in frames or in replies, and 0 for an actor of

@@ -1,9 +1,8 @@
 -- A hostile client among the actors: its ends are its sheet's, and where nothing changes at them it
 -- fits them as before and stands for the same lists; and its start state.
-use Rattle.std.proofs.Common.{◌≡◌, ◌==◌, ◌<◌, ◌≤◌, ◌+◌, ◌++◌, ℕ, zero, suc, Bool, true, false, cond, if◌then◌else◌, Some, List, [], ◌∷◌, length, map, drop, All, get_or, slice_get, inl, inr, refl, sym, ap, ◌∙◌, subst, arith}
-use Rattle.std.proofs.lemmas.List.Sums.{sum_by-cons}
+use Rattle.std.proofs.Common.{◌≡◌, ◌==◌, ◌<◌, ◌≤◌, ◌+◌, ◌++◌, ℕ, zero, suc, Bool, true, false, cond, Some, List, [], ◌∷◌, length, map, drop, All, get_or, slice_get, inl, inr, refl, sym, ap, ◌∙◌, subst, arith}
 use Rattle.std.proofs.lemmas.Option.{slice_get-get_or}
-use Rattle.cargo_core.specs.Bodies.{buffers_in, buffers_of}
+use Rattle.cargo_core.specs.Bodies.{buffers_of}
 use Rattle.cargo_core.specs.Pages.{Paged}
 use Rattle.cargo_core.specs.declared.act.Act.{Act}
 use Rattle.cargo_core.specs.declared.act.Act.TheVariants as Acts
@@ -15,6 +14,7 @@ use Rattle.wire_core.specs.Deeds.{Cargo}
 use Rattle.wire_core.specs.Ends.{Role, Consumer, Producer, End}
 use Rattle.wire_core.specs.Lists.{Lists, Passed}
 use Rattle.turn_kit.specs.Hands.{bodies_of, bodies_at}
+use Rattle.turn_kit.proofs.Holding.{buffers-cons}
 use Rattle.buffer_kit.specs.Conserving.{Count, counted}
 use Rattle.buffer_kit.specs.Pools.{page_bodies}
 use Rattle.play_core.specs.Moved.{Seat}
@@ -114,9 +114,11 @@ module _ (ends : Role → ℕ → End) where
 -- and has the pages that its part tells
 pages_told : (pool : PoolId) (pages : List Paged) → buffers_of pool (page_bodies pages) ≡ length (pages_in (tags_of pages) pool.0)
 pages_told pool [] = refl
-pages_told pool (p ∷ ps) = sum_by-cons (buffers_in pool) (Carried.Page p) (page_bodies ps) ∙ one (p.pool.0 == pool.0) (pages_told pool ps)
+pages_told pool (p ∷ ps) =
+    let parts : buffers_of pool (page_bodies (p ∷ ps)) ≡ cond {A = ℕ} (p.pool.0 == pool.0) 1 0 + buffers_of pool (page_bodies ps) = buffers-cons pool (Carried.Page p) (page_bodies ps) in
+    parts ∙ one (p.pool.0 == pool.0) (pages_told pool ps)
   where
-    one : (b : Bool) → buffers_of pool (page_bodies ps) ≡ length (pages_in (tags_of ps) pool.0) → (if b then 1 else 0) + buffers_of pool (page_bodies ps) ≡ length (cond b (p.no ∷ pages_in (tags_of ps) pool.0) (pages_in (tags_of ps) pool.0))
+    one : (b : Bool) → buffers_of pool (page_bodies ps) ≡ length (pages_in (tags_of ps) pool.0) → cond {A = ℕ} b 1 0 + buffers_of pool (page_bodies ps) ≡ length (cond b (p.no ∷ pages_in (tags_of ps) pool.0) (pages_in (tags_of ps) pool.0))
     one true h = omega (arith, h)
     one false h = omega (arith, h)
 
