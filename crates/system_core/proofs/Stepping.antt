@@ -1,4 +1,4 @@
-use Rattle.std.proofs.Common.{◌≡◌, ◌≢◌, ◌⊎◌, ◌<◌, ◌≤◌, ◌+◌, ◌==◌, ℕ, Bool, true, false, not, ◌||◌, Option, Some, None, List, [], ◌∷◌, ◌++◌, length, length-set, slice_get, slice_set, slice_index_or, map, subst, refl, sym, ap, ◌∙◌, arith, inl, inr, zero, suc}
+use Rattle.std.proofs.Common.{◌≡◌, ◌≢◌, ◌⊎◌, ◌<◌, ◌≤◌, ◌+◌, ◌==◌, ℕ, Bool, true, false, not, ◌&&◌, ◌||◌, Option, Some, None, List, [], ◌∷◌, ◌++◌, length, length-set, slice_get, slice_set, slice_index_or, map, subst, refl, sym, ap, ◌∙◌, arith, inl, inr, zero, suc}
 use Rattle.std.proofs.lemmas.List.{length-map}
 use Rattle.std.proofs.lemmas.Option.{slice_get_past, slice_get_read}
 use Rattle.wire_core.specs.declared.names.PoolRow.{PoolRow}
@@ -26,7 +26,7 @@ use Rattle.play_core.proofs.Tables.{others_run}
 use Rattle.actor_set.specs.Parts.{Part}
 use Rattle.actor_set.specs.Actors.{IsActorCall, FitsActor, ActorStandsFor, ActorEnd, ActorTurned, actor_round, actor_rests, part_of}
 use Rattle.actor_set.specs.declared.actor.Actor.{Actor}
-use Rattle.play_core.specs.Manners.{Manner, Manners, Calm}
+use Rattle.play_core.specs.Manners.{Manner, Manners, Calm, Hostile, is_hostile}
 use Rattle.actor_set.specs.Laws.Kinds.{scene_of, sheet, manner_of, manners, hostiles, idles}
 use Rattle.system_core.specs.Shows.{Crew, Setting, hostile_in, runs, RowsStand}
 use Rattle.system_core.specs.Lawful.{IsFitted}
@@ -170,6 +170,12 @@ caller_owns history rows w actors journal old k x e row below within x_is row_is
     let here : slice_get actors k ≡ Some x = slice_get_read actors _ k x refl below x_is in
     let there : slice_get rows e.queue.0 ≡ Some row = slice_get_read rows _ e.queue.0 row refl (subst (λ n. e.queue.0 < n) old.size within) row_is in
     old.owners k x here (role_of e.op) e.queue.0 (own_is x e (old.calm k (part_of x) (map_get part_of actors k x here)) own) row there
+
+-- an actor isn't runnable where it rests and is hostile or isn't called
+pub idles_so : (m : Manner) (rests called : Bool) → (rests && (is_hostile m || not called)) ≡ idles m rests called
+idles_so Calm rests called = refl
+idles_so (Hostile done) true called = refl
+idles_so (Hostile done) false called = refl
 
 -- at an end of the caller's own, only a call that reaches the other owner changes anything for it
 pub own_reach : (op : Op) (row : QueueRow) (k : ℕ) → owner_of row (role_of op) ≡ k → reaches op ≡ false → reach_of op row k ≡ None

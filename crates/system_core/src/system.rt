@@ -86,13 +86,14 @@ impl Model for System {
     ghost invariant = { IsSystem };
 }
 
-// Whether the actor at a place isn't runnable.
+// Whether the actor at a place isn't runnable. No notification makes a hostile client so.
 #[inline(always)]
+#[tactic(auto, using(crate::proofs::Stepping::idles_so))]
 fn is_idle(actor: &Actor, world: &World, place: ActorId) -> bool
     ensures { result ≡ idles (manner_of (part_of actor.now)) (actor_rests actor.now)
         (is_pending place.0 world.now) }
 {
-    actor.at_rest() && !world.is_pending(place)
+    actor.at_rest() && (actor.is_hostile() || !world.is_pending(place))
 }
 
 // The other owner of a queue.

@@ -147,4 +147,4 @@ module _ (rows : List QueueRow) (n : Option NetPlace) (cast : List Part) (calm :
       by (Some blk) is_there q r ws is =
           let x = answers_behind (first_naming scene_ n) blk q r ws (no_answer scene_ n) is in
           let row = is_there.0.requests in
-          requests_at rows blk cast is_there.0 m holds over (λ j i at. kinds (blk.first + 2) row.0 row.1 j i at ∙ row.2) x.0 r x.2
+          requests_at rows blk cast calm is_there.0 m holds over (λ j i at. kinds (blk.first + 2) row.0 row.1 j i at ∙ row.2) x.0 r x.2

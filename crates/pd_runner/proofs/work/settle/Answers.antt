@@ -1,4 +1,5 @@
 use Rattle.std.proofs.Common.{arith, rules, refl, ap, ◌+◌, ◌∙◌}
+use Rattle.seat_wires.specs.Places.{IsWildSeat}
 use Rattle.actor_set.specs.Laws.Kinds.{manner_of}
 use Rattle.actor_set.proofs.LawsLemmas.Rounds.{may_is}
 use Rattle.pd_runner.proofs.Stepping.{worked_none, worked_on, worked_of}
@@ -15,7 +16,7 @@ loop-worker-init g c = record {
 }
 
 pub step-requires-clause-may : goal.step-requires-clause-may
-step-requires-clause-may g c = may_is _ c.loop-worker.worker.actor (ap manner_of c.loop-worker.invariant.worked.comes.same ∙ c.requires.ready.calm)
+step-requires-clause-may g c = may_is (IsWildSeat c.loop-worker.seats) c.loop-worker.worker.actor (ap manner_of c.loop-worker.invariant.worked.comes.same ∙ c.requires.ready.calm)
 
 pub loop-worker-preserved : goal.loop-worker-preserved
 loop-worker-preserved g c = let was = c.loop-worker.invariant in record {

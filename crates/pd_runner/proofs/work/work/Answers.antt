@@ -1,5 +1,6 @@
 use Rattle.std.proofs.Common.{arith, ap, ◌∙◌}
 use Rattle.order_law.specs.declared.actor_parts.worker.Worker.{Worker}
+use Rattle.seat_wires.specs.Places.{IsWildSeat}
 use Rattle.actor_set.specs.Laws.Kinds.{manner_of}
 use Rattle.actor_set.proofs.LawsLemmas.Rounds.{may_is}
 use Rattle.pd_runner.specs.Running.{Comes, part_seats}
@@ -8,7 +9,7 @@ use Rattle.pd_runner.proofs.work.work.Goals.{in-None, in-Some+then-is_unmanned, 
 use Rattle.pd_runner.proofs.work.work.Goals as goal
 
 pub step-requires-clause-may : goal.step-requires-clause-may
-step-requires-clause-may g c = may_is _ c.loop.worker.actor (ap manner_of c.loop.invariant.comes.same ∙ c.requires.calm)
+step-requires-clause-may g c = may_is (IsWildSeat c.loop.seats) c.loop.worker.actor (ap manner_of c.loop.invariant.comes.same ∙ c.requires.calm)
 
 pub loop-preserved : goal.loop-preserved
 loop-preserved g c = let was = c.loop.invariant in record {

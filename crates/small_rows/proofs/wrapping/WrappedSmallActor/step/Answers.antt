@@ -1,4 +1,4 @@
-use Rattle.std.proofs.Common.{ap, ◌∙◌}
+use Rattle.std.proofs.Common.{◌<◌, ap, ◌∙◌, length}
 use Rattle.actor_set.specs.Laws.Kinds.{manner_of}
 use Rattle.actor_set.proofs.LawsLemmas.Rounds.{may_is}
 use Rattle.small_rows.proofs.Acting.{wrapped_acts}
@@ -8,7 +8,7 @@ pub step-requires-clause-fits : goal.step-requires-clause-fits
 step-requires-clause-fits c = c.requires.0
 
 pub step-requires-clause-may : goal.step-requires-clause-may
-step-requires-clause-may c = may_is _ c.args.self.now.actor c.requires.1
+step-requires-clause-may c = may_is (λ n. n < length c.args.world.now) c.args.self.now.actor c.requires.1
 
 pub returns-clause-fits : goal.returns-clause-fits
 returns-clause-fits c = (c.step.ensures.fits, ap manner_of c.step.ensures.part ∙ c.requires.1)

@@ -51,7 +51,7 @@ pub step-requires-clause-may : goal.step-requires-clause-may
 step-requires-clause-may c =
     let lt : c.at-number.result < length c.self.inside.actors.items = runner_there c.self.inside c.self.invariant c.args.place c.at-number.result c.at-number.ensures in
     let here : slice_get c.self.inside.actors.items c.at-number.result ≡ Some c.index_mut-actor.result.now = slice_get_read c.self.inside.actors.items _ c.at-number.result c.index_mut-actor.result.now refl lt c.index_mut-actor.ensures.value in
-    may_is _ c.index_mut-actor.result.now (c.self.invariant.holds.calm c.at-number.result (part_of c.index_mut-actor.result.now) (map_get part_of c.self.inside.actors.items c.at-number.result c.index_mut-actor.result.now here))
+    may_is (λ n. n < length c.self.inside.world) c.index_mut-actor.result.now (c.self.invariant.holds.calm c.at-number.result (part_of c.index_mut-actor.result.now) (map_get part_of c.self.inside.actors.items c.at-number.result c.index_mut-actor.result.now here))
 
 pub index-actor-requires : goal.index-actor-requires
 index-actor-requires c =
