@@ -10,7 +10,7 @@ use Rattle.play_core.specs.Moved.{moved}
 use Rattle.play_core.specs.Wants.{all_settled}
 use Rattle.play_core.specs.Runs.{called_from, is_runnable}
 use Rattle.play_core.specs.Sheets.{Scene, RowsHold}
-use Rattle.play_core.proofs.Lists.{map_from}
+use Rattle.play_core.proofs.Lists.{map_get, map_from}
 use Rattle.actor_set.specs.Actors.{part_of, actor_rests}
 use Rattle.actor_set.specs.declared.actor.Actor.{Actor}
 use Rattle.actor_set.specs.Laws.Kinds.{sheet, scene_of, manner_of, idles}
