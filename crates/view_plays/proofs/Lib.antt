@@ -1,5 +1,4 @@
 mod PoolLemmas
-mod SliceLemmas
 mod ReplyLemmas
 mod CalmLemmas
 mod PlayLemmas

@@ -24,6 +24,8 @@ pub draws : (reads : List ℕ → List ℕ → Type 0) (words : List (List ℕ))
     → Decides reads (main_words words drawing.settings) (decision_of d) → RepliesTo d drawing a → DrawsPlay reads words a
 draws reads words drawing (Kept.Say status line) a s h r = subst (λ x. DrawsPlay reads words x) (sym r) (refused drawing status (string_bytes line) s h)
 draws reads words drawing (Kept.Go plan trace asked) a s h r = drawn drawing plan trace asked a s h r
+draws reads words drawing (Kept.Bus bus schedule) a s h r = absurd r
+draws reads words drawing (Kept.Ports ports schedule) a s h r = absurd r
 
 pub drawn-play : (plan : Plan) (trace : Trace) (drawing : Drawing) (s : Shown) (seed limit : ℕ) (status : Status) (text : List ℕ)
     → seed ≡ seed_of drawing.settings → limit ≡ limit_of plan trace drawing.settings → IsPlayed plan trace seed limit s

@@ -5,7 +5,7 @@ use Rattle.decision_core.specs.declared.status.Status.{Status}
 use Rattle.decision_core.specs.declared.status.Status.TheVariants as Ended
 use Rattle.decision_core.specs.Decisions.{Decides}
 use Rattle.view_plays.specs.Deciding.{Answered, Drawn, Refused, DrawsPlay, no_drawing, refused, drawn, IsDrawnOf, drawn_of, ending_of}
-use Rattle.view_plays.specs.Progress.{IsProgress}
+use Rattle.told_plays.specs.Progress.{IsProgress}
 use Rattle.view_plays.specs.Viewed.{IsTold, whole, begun, EndsFor, IsWritten, Draws, drew, refused as was_refused}
 
 pub told-ends : {K : Type 0} (written : K → Option (List ℕ)) (faults : K → ℕ) (failed : K → Bool) (old new : K) (text : List ℕ) (why status : Status)

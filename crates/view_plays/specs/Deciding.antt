@@ -1,13 +1,16 @@
 -- What the words of a play that is drawn decide, one constructor a cause.
 use Rattle.std.specs.Prelude.{◌≡◌, ◌⊎◌, ℕ, Bool, true, false, Option, unwrap_or, List, string_bytes}
 use Rattle.sdf_plan.specs.declared.plan.Plan.{Plan}
+use Rattle.sdf_plan.specs.Elements.{IsNumbered}
 use Rattle.trace_text.specs.declared.trace.Trace.{Trace}
+use Rattle.trace_text.specs.Traces.{IsReadFor}
 use Rattle.decision_core.specs.declared.deciding.Decided.{Decided}
 use Rattle.decision_core.specs.declared.deciding.Decided.TheVariants as Kept
 use Rattle.decision_core.specs.declared.showing.Asked.{Asked}
 use Rattle.decision_core.specs.declared.status.Status.{Status}
 use Rattle.decision_core.specs.declared.status.Status.TheVariants as Ended
 use Rattle.decision_core.specs.Decisions.{Say, asked_on, Decides}
+use Rattle.decision_core.specs.Judged.{IsAcceptedPlan}
 use Rattle.decision_core.specs.Readings.{OpensInTurn}
 use Rattle.expect_core.specs.Budgets.{budget_of}
 use Rattle.region_layout.specs.Layouts.{layout_of}
@@ -53,10 +56,19 @@ pub data IsDrawnOf (plan : Plan) (trace : Trace) (drawing : Drawing) : Answered 
       → IsDrawnOf plan trace drawing (Drawn (ending_of (report_of s).quiet (report_of s).steps)
       (drawn_text plan (layout_of plan) s.journal (report_of s) drawing))
 
+-- what was decided is of a plan, and can be played: it is no bus and no switch
+abbrev pub IsOnPlan : Decided → Type 0
+IsOnPlan (Kept.Say status line) = Unit {0}
+IsOnPlan (Kept.Go plan trace asked) = IsAcceptedPlan plan × IsNumbered plan × IsReadFor plan trace
+IsOnPlan (Kept.Bus bus schedule) = ⊥
+IsOnPlan (Kept.Ports ports schedule) = ⊥
+
 -- the answer to what the main program decided: its line, or the play of what is to be played
 abbrev pub RepliesTo : Decided → Drawing → Answered → Type 0
 RepliesTo (Kept.Say status line) drawing answered = answered ≡ Refused status (string_bytes line)
 RepliesTo (Kept.Go plan trace asked) drawing answered = IsDrawnOf plan trace drawing answered
+RepliesTo (Kept.Bus bus schedule) drawing answered = ⊥
+RepliesTo (Kept.Ports ports schedule) drawing answered = ⊥
 
 -- what the words decide, where reads tells the bytes that were read of a text
 pub data DrawsPlay (reads : List ℕ → List ℕ → Type 0) (words : List (List ℕ))

@@ -7,7 +7,7 @@ use Rattle.shelf_core.specs.Reading.{WasRead}
 use Rattle.decision_core.specs.declared.status.Status.{Status}
 use Rattle.decision_core.specs.declared.status.Status.TheVariants as Ended
 use Rattle.view_plays.specs.Deciding.{Answered, Drawn, Refused, DrawsPlay, OpensFor}
-use Rattle.view_plays.specs.Progress.{IsProgress}
+use Rattle.told_plays.specs.Progress.{IsProgress}
 use Rattle.play_words.specs.Words.{IsKind}
 
 -- a text was written to its end, or only its beginning, where the sink failed last

@@ -4,10 +4,8 @@
 
 mod hosting;
 mod playing;
-mod progress;
 mod viewing;
 
 pub use hosting::plays_host;
 pub use playing::{Reply, decide_play};
-pub use progress::played_told;
 pub use viewing::{view_any, view_play};

@@ -8,13 +8,11 @@ ghost use Rattle.shelf_core.specs.Reading.{WasRead};
 ghost use Rattle.shelf_core.specs.Shelves.{ReadsFrom};
 ghost use Rattle.report_text.specs.Answers.{usage_text};
 ghost use Rattle.decision_core.specs.Judged.{IsAcceptedPlan};
-ghost use Rattle.decision_core.specs.Decided.{IsPlayable};
 ghost use Rattle.view_plays.specs.Deciding.{Refused, ending_of, seed_of, limit_of, decided_of};
-ghost use Rattle.view_plays.specs.Deciding.{DrawsPlay, IsDrawnOf, RepliesTo, OpensFor, LeavesAny};
+ghost use Rattle.view_plays.specs.Deciding.{IsOnPlan, DrawsPlay, IsDrawnOf, RepliesTo, OpensFor, LeavesAny};
 ghost use Rattle.play_words.specs.Words.{Spells};
-ghost use Rattle.view_plays.specs.Progress.{IsProgress};
+ghost use Rattle.told_plays.specs.Progress.{IsProgress};
 
-use crate::progress::played_told;
 use cargo_core::{Bytes, Memory};
 use decision_core::{Decided, Status, decide_words};
 use expect_core::{Report, budget};
@@ -25,6 +23,7 @@ use report_text::write_usage;
 use sdf_plan::Plan;
 use shelf_core::{ReadStop, Shelf, Sink};
 use std::alloc::Global;
+use told_plays::played_told;
 use trace_text::Trace;
 
 /// An answer as a whole, before any of it is written.
@@ -68,7 +67,7 @@ fn limit_of(plan: &Plan, trace: &Trace, settings: &[Setting]) -> u64
 }
 
 // Plays a trace on a plan, and draws the play.
-#[tactic(auto, using(crate::proofs::SliceLemmas::no_progress))]
+#[tactic(auto, using(told_plays::proofs::SliceLemmas::no_progress))]
 fn play<E: Sink>(
     alloc: Global,
     plan: &Plan,
@@ -102,25 +101,26 @@ fn refuse_words(alloc: Global, place: u32) -> Result<Reply, Memory>
 }
 
 // What was decided, and is played where it is a play.
-#[tactic(auto, using(crate::proofs::SliceLemmas::no_progress))]
+#[tactic(auto, using(told_plays::proofs::SliceLemmas::no_progress))]
 fn reply_to<E: Sink>(
     alloc: Global,
     decided: Decided,
     drawing: &Drawing,
     err: &mut E,
 ) -> Result<Reply, Memory>
-    requires { IsPlayable decided }
+    requires { IsOnPlan decided }
     ensures replies { IfOk result (λ reply. RepliesTo decided drawing.now (decided_of reply)) }
     ensures told { IsProgress E.written err.old err.new }
 {
     match decided {
         Decided::Say(status, line) => Ok(Reply::Refuse(status, line)),
         Decided::Go(plan, trace, _) => play(alloc, &plan, &trace, drawing, err),
+        Decided::Bus(_, _) | Decided::Ports(_, _) => unreachable!(),
     }
 }
 
 // What the main program decides for a drawing, played where it is a play.
-#[tactic(auto, using(crate::proofs::SliceLemmas::no_progress))]
+#[tactic(auto, using(told_plays::proofs::SliceLemmas::no_progress))]
 fn decide_drawing<F: Shelf, E: Sink>(
     alloc: Global,
     words: &[String],
@@ -144,7 +144,7 @@ fn decide_drawing<F: Shelf, E: Sink>(
 /// What words decide that ask for a drawing of a play. The words are judged first, and then the
 /// description and the trace are read and judged, as the main program does. While a long play is
 /// made, lines of progress are written.
-#[tactic(auto, using(crate::proofs::SliceLemmas::no_progress))]
+#[tactic(auto, using(told_plays::proofs::SliceLemmas::no_progress))]
 pub fn decide_play<F: Shelf, E: Sink>(
     alloc: Global,
     words: &[String],

@@ -1,12 +1,14 @@
 //! A play that tells how far it is: it is made in slices, and between two of them a line is
 //! written.
-ghost use Rattle.std.specs.Prelude.{◌≡◌, ◌<◌, ◌^◌, IfOk, OnErr, string_bytes};
+ghost use Rattle.std.specs.Prelude.{◌≡◌, ◌<◌, ◌^◌, IfOk, OnErr, string_bytes, false};
+ghost use Rattle.std.specs.Prelude.{length};
 ghost use Rattle.wire_core.specs.Picks.{drawn};
 ghost use Rattle.sdf_check.specs.Valid.{Valid};
 ghost use Rattle.trace_text.specs.Traces.{IsReadFor};
 ghost use Rattle.region_layout.specs.Layouts.{layout_of};
 ghost use Rattle.system_core.specs.PlanPlays.{IsPlayed};
-ghost use Rattle.view_plays.specs.Progress.{progress_line, IsProgress, HasTold};
+ghost use Rattle.system_core.specs.Reports.{report_of};
+ghost use Rattle.told_plays.specs.Progress.{progress_line, IsProgress, HasTold};
 
 use cargo_core::Memory;
 use region_layout::Layout;
@@ -72,6 +74,8 @@ pub fn played_told<E: Sink>(
     requires layout { layout.now ≡ layout_of plan.now }
     requires trace { IsReadFor plan.now trace.now }
     ensures played { IfOk result (IsPlayed plan.now trace.now seed limit) }
+    ensures spent { IfOk result (λ s. (report_of s).quiet ≡ false
+        → length s.journal ≡ limit) }
     ensures told { IsProgress E.written err.old err.new }
 {
     let mut system = System::build(alloc, plan, layout, trace)?;
@@ -82,8 +86,9 @@ pub fn played_told<E: Sink>(
     while left > SLICE {
         let before = system.journal().len();
         let ending = system.play(x, SLICE)?;
-        if ending == Ending::Quiet {
-            return Ok(system);
+        match ending {
+            Ending::Quiet => return Ok(system),
+            Ending::Spent => {}
         }
         x = drawn(x, &system.journal()[before..]);
         left -= SLICE;

@@ -1,0 +1,7 @@
+//! Plays that tell how far they are: a play is made in slices, and a line of progress is written
+//! between two of them.
+#![tactic(auto)]
+
+mod progress;
+
+pub use progress::played_told;
