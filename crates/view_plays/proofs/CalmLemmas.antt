@@ -110,7 +110,7 @@ ending-calm false steps e = cc e
 decided-calm : (reads : List ℕ → List ℕ → Type 0) (words : List (List ℕ)) (a : Answered) → DrawsPlay reads words a → NoFault a
 decided-calm reads words _ (no_drawing k h) = λ e. cc e
 decided-calm reads words _ (refused drawing status line s d) = decision-says reads _ _ d
-decided-calm reads words _ (drawn drawing plan trace asked _ s d (drawn_of shown p)) = ending-calm _ _
+decided-calm reads words _ (drawn drawing plan trace asked _ s d (drawn_of shown p q)) = ending-calm _ _
 
 ends-calm : (a : Answered) (status : Status) → NoFault a → EndsFor a status → status ≡ Ended.ReadFault → ⊥
 ends-calm (Drawn why text) status n (inl e) f = n (cc (e, f))

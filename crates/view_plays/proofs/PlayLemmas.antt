@@ -1,5 +1,5 @@
 -- What was decided and played is what the words ask for.
-use Rattle.std.proofs.Common.{◌≡◌, ℕ, List, sym, subst, ap, ◌∙◌}
+use Rattle.std.proofs.Common.{◌≡◌, ℕ, false, length, List, sym, subst, ap, ◌∙◌}
 use Rattle.std.specs.Prelude.{string_bytes}
 use Rattle.sdf_plan.specs.declared.plan.Plan.{Plan}
 use Rattle.trace_text.specs.declared.trace.Trace.{Trace}
@@ -28,12 +28,12 @@ draws reads words drawing (Kept.Bus bus schedule) a s h r = absurd r
 draws reads words drawing (Kept.Ports ports schedule) a s h r = absurd r
 
 pub drawn-play : (plan : Plan) (trace : Trace) (drawing : Drawing) (s : Shown) (seed limit : ℕ) (status : Status) (text : List ℕ)
-    → seed ≡ seed_of drawing.settings → limit ≡ limit_of plan trace drawing.settings → IsPlayed plan trace seed limit s
+    → seed ≡ seed_of drawing.settings → limit ≡ limit_of plan trace drawing.settings → IsPlayed plan trace seed limit s → ((report_of s).quiet ≡ false → length s.journal ≡ limit)
     → status ≡ ending_of (report_of s).quiet (report_of s).steps → text ≡ drawn_text plan (layout_of plan) s.journal (report_of s) drawing
     → IsDrawnOf plan trace drawing (Drawn status text)
-drawn-play plan trace drawing s seed limit status text e f played g h =
+drawn-play plan trace drawing s seed limit status text e f played spent g h =
     let p = subst (λ n. IsPlayed plan trace (seed_of drawing.settings) n s) f (subst (λ n. IsPlayed plan trace n limit s) e played) in
-    subst (λ x. IsDrawnOf plan trace drawing (Drawn x text)) (sym g) (subst (λ x. IsDrawnOf plan trace drawing (Drawn (ending_of (report_of s).quiet (report_of s).steps) x)) (sym h) (drawn_of s p))
+    subst (λ x. IsDrawnOf plan trace drawing (Drawn x text)) (sym g) (subst (λ x. IsDrawnOf plan trace drawing (Drawn (ending_of (report_of s).quiet (report_of s).steps) x)) (sym h) (drawn_of s p (λ q. spent q ∙ f)))
 
 pub drawn-of : (plan : Plan) (drawing : Drawing) (s : Shown) (layout : Layout) (journal : List Entry) (report : Report) (text : List ℕ)
     → layout ≡ layout_of plan → journal ≡ s.journal → report ≡ report_of s → text ≡ drawn_text plan layout journal report drawing

@@ -1,5 +1,6 @@
 -- What the words of a play that is drawn decide, one constructor a cause.
-use Rattle.std.specs.Prelude.{◌≡◌, ◌⊎◌, ℕ, Bool, true, false, Option, unwrap_or, List, string_bytes}
+use Rattle.std.specs.Prelude.{◌≡◌, ◌⊎◌, ℕ, Bool, true, false, Option, unwrap_or, List, length}
+use Rattle.std.specs.Prelude.{string_bytes}
 use Rattle.sdf_plan.specs.declared.plan.Plan.{Plan}
 use Rattle.sdf_plan.specs.Elements.{IsNumbered}
 use Rattle.trace_text.specs.declared.trace.Trace.{Trace}
@@ -49,10 +50,12 @@ abbrev pub ending_of : Bool → ℕ → Status
 ending_of true steps = Ended.Ok
 ending_of false steps = Ended.Spent steps
 
--- a play of a trace on a plan was made, as the options say, and drawn
+-- a play of a trace on a plan was made, as the options say, and drawn; where it isn't quiet all
+-- steps were made
 pub data IsDrawnOf (plan : Plan) (trace : Trace) (drawing : Drawing) : Answered → Type 0 where
   drawn_of : (s : Shown)
       → IsPlayed plan trace (seed_of drawing.settings) (limit_of plan trace drawing.settings) s
+      → ((report_of s).quiet ≡ false → length s.journal ≡ limit_of plan trace drawing.settings)
       → IsDrawnOf plan trace drawing (Drawn (ending_of (report_of s).quiet (report_of s).steps)
       (drawn_text plan (layout_of plan) s.journal (report_of s) drawing))
 

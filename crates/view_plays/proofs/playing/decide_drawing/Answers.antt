@@ -7,6 +7,7 @@ use Rattle.decision_core.specs.Decided.{decision_of, OfEach}
 use Rattle.decision_core.specs.Decisions.{Decides}
 use Rattle.decision_core.specs.Readings.{OpensInTurn, ReadLast}
 use Rattle.view_plays.specs.Deciding.{decided_of, OpensFor, LeavesAny}
+use Rattle.view_plays.proofs.CalmLemmas.{of-plan, on-plan}
 use Rattle.view_plays.proofs.PlayLemmas.{draws}
 use Rattle.view_plays.proofs.playing.decide_drawing.Goals as goal
 
@@ -43,3 +44,8 @@ returns-clause-reads g c =
     (OpensInTurn (WasRead (g.F.Shelf.text c.args.shelf.now)) (texts_of c.in_ok-main.main.items)) (OpensFor (WasRead (g.F.Shelf.text c.args.shelf.now)) (texts_of c.args.words.now))
     (OfEach (ReadLast (g.F.Shelf.text c.args.shelf.now) (texts_of c.in_ok-main.main.items))) LeavesAny _ _ _ _ c.in_ok-decided.ensures.reads
     (λ o. inr (c.args.drawing.now, c.requires, subst (λ ws. OpensInTurn (WasRead (g.F.Shelf.text c.args.shelf.now)) ws _ _) c.in_ok-main.ensures o)) (λ l. tt)
+
+pub reply_to-requires : goal.reply_to-requires
+reply_to-requires g c =
+    on-plan c.in_ok-decided.decided (of-plan (WasRead (g.F.Shelf.text c.args.shelf.now)) _ (texts_of c.in_ok-main.main.items) _ c.in_ok-main.ensures c.in_ok-decided.ensures.decides)
+    c.in_ok-decided.ensures.playable

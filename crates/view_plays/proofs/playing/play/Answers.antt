@@ -12,6 +12,6 @@ draw_play-requires-clause-pools g c =
 
 pub returns-clause-drawn : goal.returns-clause-drawn
 returns-clause-drawn g c =
-    drawn-play _ _ c.args.drawing.now c.in_ok-system.system _ _ _ _ (c.seed_of.ensures) c.limit_of-limit.ensures c.in_ok-system.ensures.played
+    drawn-play _ _ c.args.drawing.now c.in_ok-system.system _ _ _ _ (c.seed_of.ensures) c.limit_of-limit.ensures c.in_ok-system.ensures.played c.in_ok-system.ensures.spent
     (c.ending_of.ensures ∙ ap (λ (r : Report). ending_of r.quiet r.steps) c.in_ok-report.ensures)
     (drawn-of _ c.args.drawing.now c.in_ok-system.system _ _ _ _ c.in_ok-layout.ensures.layout c.journal.ensures c.in_ok-report.ensures c.in_ok-text.ensures)
