@@ -9,7 +9,8 @@ ghost use Rattle.shelf_core.specs.Shelves.{ReadsFrom};
 ghost use Rattle.report_text.specs.Answers.{usage_text};
 ghost use Rattle.decision_core.specs.Judged.{IsAcceptedPlan};
 ghost use Rattle.view_plays.specs.Deciding.{Refused, ending_of, seed_of, limit_of, decided_of};
-ghost use Rattle.view_plays.specs.Deciding.{IsOnPlan, DrawsPlay, IsDrawnOf, RepliesTo, OpensFor, LeavesAny};
+ghost use Rattle.view_plays.specs.Deciding.{IsOnPlan, DrawsPlay, IsDrawnOf, RepliesTo};
+ghost use Rattle.view_plays.specs.Deciding.{OpensFor, LeavesAny};
 ghost use Rattle.play_words.specs.Words.{Spells};
 ghost use Rattle.told_plays.specs.Progress.{IsProgress};
 
