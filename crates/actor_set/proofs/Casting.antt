@@ -33,6 +33,8 @@ use Rattle.client_programs.specs.Blk.Asking.{IsAsking, and_one}
 use Rattle.client_programs.specs.declared.blk.asking.Asking.{Asking}
 use Rattle.client_programs.specs.Blk.Clients.{BlkClientStandsFor, BlkClientRow, BlkClientBalances}
 use Rattle.client_programs.specs.declared.blk.BlkClient.{BlkClient}
+use Rattle.client_programs.specs.Rogue.Clients.{RogueStandsFor, RogueBalances}
+use Rattle.client_programs.specs.declared.rogue.Rogue.{Rogue}
 use Rattle.actor_set.specs.Actors.{ActorStandsFor, ActorRow, ActorBalances, HasFewClients, HasFirst}
 use Rattle.actor_set.specs.declared.actor.Actor.{Actor}
 use Rattle.actor_set.specs.declared.actor.Actor.TheVariants as Kinds
@@ -65,27 +67,29 @@ rows terminal driver rx tx device lender copier client sender disk server asker 
 rows terminal driver rx tx device lender copier client sender disk server asker (Kinds.BlkDriver x) p h = driver (two_pipes x.driver.pipes) p h
 rows terminal driver rx tx device lender copier client sender disk server asker (Kinds.BlkVirt x) p h = server x p h
 rows terminal driver rx tx device lender copier client sender disk server asker (Kinds.BlkClient x) p h = asker x p h
+rows terminal driver rx tx device lender copier client sender disk server asker (Kinds.Rogue x) p h = tt
 
 -- and so is its balance
 pub balances : ((x : Terminal) (p : Passed) → TerminalStandsFor x p → TerminalBalances x p) → ((ps : List Pipe) (p : Passed) → PipesStandFor ps p → PipesBalance ps p) → ((x : SerialVirtRx) (p : Passed) → RxStandsFor x p → RxBalances x p) → ((x : SerialVirtTx) (p : Passed) → TxStandsFor x p → TxBalances x p)
     → ((x : EthDevice) (p : Passed) → DeviceStandsFor x p → DeviceBalances x p) → ((x : NetVirtRx) (p : Passed) → NetRxStandsFor x p → NetRxBalances x p) → ((x : NetCopier) (p : Passed) → CopierStandsFor x p → CopierBalances x p) → ((x : NetClient) (p : Passed) → ClientStandsFor x p → ClientBalances x p) → ((x : NetVirtTx) (p : Passed) → NetTxStandsFor x p → NetTxBalances x p)
-    → ((start : List ℕ) (x : DiskDevice) (p : Passed) → DiskStandsFor start x p → DiskBalances x p) → ((x : BlkVirt) (p : Passed) → BlkVirtStandsFor x p → BlkVirtBalances x p) → ((x : BlkClient) (p : Passed) → BlkClientStandsFor x p → BlkClientBalances x p)
+    → ((start : List ℕ) (x : DiskDevice) (p : Passed) → DiskStandsFor start x p → DiskBalances x p) → ((x : BlkVirt) (p : Passed) → BlkVirtStandsFor x p → BlkVirtBalances x p) → ((x : BlkClient) (p : Passed) → BlkClientStandsFor x p → BlkClientBalances x p) → ((x : Rogue) (p : Passed) → RogueStandsFor x p → RogueBalances x p)
     → (a : Actor) (p : Passed) → ActorStandsFor a p → ActorBalances a p
-balances terminal driver rx tx device lender copier client sender disk server asker (Kinds.UartDevice x) p h = terminal x.terminal p h
-balances terminal driver rx tx device lender copier client sender disk server asker (Kinds.UartDriver x) p h = driver (two_pipes x.driver.pipes) p h
-balances terminal driver rx tx device lender copier client sender disk server asker (Kinds.SerialVirtRx x) p h = rx x p h
-balances terminal driver rx tx device lender copier client sender disk server asker (Kinds.SerialVirtTx x) p h = tx x p h
-balances terminal driver rx tx device lender copier client sender disk server asker (Kinds.SerialClient x) p h = terminal x.terminal p h
-balances terminal driver rx tx device lender copier client sender disk server asker (Kinds.EthDevice x) p h = device x p h
-balances terminal driver rx tx device lender copier client sender disk server asker (Kinds.EthDriver x) p h = driver (four_pipes x.driver.pipes) p h
-balances terminal driver rx tx device lender copier client sender disk server asker (Kinds.NetVirtRx x) p h = lender x p h
-balances terminal driver rx tx device lender copier client sender disk server asker (Kinds.NetCopier x) p h = copier x p h
-balances terminal driver rx tx device lender copier client sender disk server asker (Kinds.NetClient x) p h = client x p h
-balances terminal driver rx tx device lender copier client sender disk server asker (Kinds.NetVirtTx x) p h = sender x p h
-balances terminal driver rx tx device lender copier client sender disk server asker (Kinds.DiskDevice x) p h = disk x.start.value x.device p h
-balances terminal driver rx tx device lender copier client sender disk server asker (Kinds.BlkDriver x) p h = driver (two_pipes x.driver.pipes) p h
-balances terminal driver rx tx device lender copier client sender disk server asker (Kinds.BlkVirt x) p h = server x p h
-balances terminal driver rx tx device lender copier client sender disk server asker (Kinds.BlkClient x) p h = asker x p h
+balances terminal driver rx tx device lender copier client sender disk server asker rogue (Kinds.UartDevice x) p h = terminal x.terminal p h
+balances terminal driver rx tx device lender copier client sender disk server asker rogue (Kinds.UartDriver x) p h = driver (two_pipes x.driver.pipes) p h
+balances terminal driver rx tx device lender copier client sender disk server asker rogue (Kinds.SerialVirtRx x) p h = rx x p h
+balances terminal driver rx tx device lender copier client sender disk server asker rogue (Kinds.SerialVirtTx x) p h = tx x p h
+balances terminal driver rx tx device lender copier client sender disk server asker rogue (Kinds.SerialClient x) p h = terminal x.terminal p h
+balances terminal driver rx tx device lender copier client sender disk server asker rogue (Kinds.EthDevice x) p h = device x p h
+balances terminal driver rx tx device lender copier client sender disk server asker rogue (Kinds.EthDriver x) p h = driver (four_pipes x.driver.pipes) p h
+balances terminal driver rx tx device lender copier client sender disk server asker rogue (Kinds.NetVirtRx x) p h = lender x p h
+balances terminal driver rx tx device lender copier client sender disk server asker rogue (Kinds.NetCopier x) p h = copier x p h
+balances terminal driver rx tx device lender copier client sender disk server asker rogue (Kinds.NetClient x) p h = client x p h
+balances terminal driver rx tx device lender copier client sender disk server asker rogue (Kinds.NetVirtTx x) p h = sender x p h
+balances terminal driver rx tx device lender copier client sender disk server asker rogue (Kinds.DiskDevice x) p h = disk x.start.value x.device p h
+balances terminal driver rx tx device lender copier client sender disk server asker rogue (Kinds.BlkDriver x) p h = driver (two_pipes x.driver.pipes) p h
+balances terminal driver rx tx device lender copier client sender disk server asker rogue (Kinds.BlkVirt x) p h = server x p h
+balances terminal driver rx tx device lender copier client sender disk server asker rogue (Kinds.BlkClient x) p h = asker x p h
+balances terminal driver rx tx device lender copier client sender disk server asker rogue (Kinds.Rogue x) p h = rogue x p h
 
 -- a block client's buffers can be counted
 pub few_pages : (w : Asking) → IsAsking w → length w.kept.pages < 2 ^ 32 - 2

@@ -1,9 +1,9 @@
 -- What is said of an actor of any kind: one case for each kind.
-use Rattle.std.specs.Prelude.{◌≡◌, ◌+◌, ◌-◌, ◌<◌, ◌^◌, ◌==◌, if◌then◌else◌, ℕ, Bool, List, length}
-use Rattle.std.specs.Prelude.{map}
+use Rattle.std.specs.Prelude.{◌≡◌, ◌+◌, ◌-◌, ◌<◌, ◌^◌, ◌==◌, if◌then◌else◌, ℕ, Bool, false}
+use Rattle.std.specs.Prelude.{List, [], length, map, All}
 use Rattle.cargo_core.specs.declared.item.Body.{Body}
 use Rattle.wire_core.specs.Lists.{Passed}
-use Rattle.wire_core.specs.Ends.{Role, End}
+use Rattle.wire_core.specs.Ends.{Role, End, role_of}
 use Rattle.wire_core.specs.declared.names.Event.{Event}
 use Rattle.turn_kit.specs.Turns.{Round, Turned, is_at_rest}
 use Rattle.turn_kit.specs.Hands.{bodies_of}
@@ -58,8 +58,15 @@ use Rattle.blk_virt.specs.Virtualising.{FitsBlkVirt, BlkVirtStandsFor, BlkVirtRo
 use Rattle.blk_virt.specs.Virtualising.{BlkVirtEnd, BlkVirtForgot, blk_virt_round}
 use Rattle.blk_virt.specs.declared.virtualiser.BlkVirt.{BlkVirt}
 use Rattle.blk_law.specs.Sheets.Playing.{disk_part, blk_driver_part, virt_part, blk_client_part}
+use Rattle.cargo_core.specs.Pages.{Paged}
+use Rattle.play_core.specs.Names.{Tag}
+use Rattle.client_programs.specs.declared.rogue.Rogue.{Rogue}
+use Rattle.client_programs.specs.Rogue.Acts.{Left, is_done}
+use Rattle.client_programs.specs.Rogue.Clients.{FitsRogue, RogueStandsFor, RogueBalances, RogueEnd}
+use Rattle.client_programs.specs.Rogue.Clients.{IsRogue, IsOwnCall, Acted, SameRogue, HasForgotten}
+use Rattle.client_programs.specs.Rogue.Clients.{left_of, left_at_start, ends_of}
 use Rattle.actor_set.specs.Parts.{Part, UartPart, DriverPart, RxPart, TxPart, ClientPart}
-use Rattle.actor_set.specs.Parts.{NetworkPart, SendingPart, BlockPart}
+use Rattle.actor_set.specs.Parts.{NetworkPart, SendingPart, BlockPart, RoguePart, HostilePart}
 use Rattle.actor_set.specs.declared.actor.Actor.{Actor}
 use Rattle.actor_set.specs.declared.actor.Actor.TheVariants as Kinds
 
@@ -71,8 +78,8 @@ HasFewClients v = length v.work.desk.clients.items < 2 ^ 31 - 2
 abbrev pub HasFirst : BlkVirt → Type 0
 HasFirst v = v.work.opening.own.no ≡ 0
 
--- the actor's ends are its own, and as it keeps them; a network client's own buffers begin at offset
--- 0, and a block virtualiser has few clients and the first buffer of its pool
+-- the actor's ends are its own, and as it keeps them; a network client's own buffers begin at
+-- offset 0, and a block virtualiser has few clients and the first buffer of its pool
 abbrev pub FitsActor : (Role → ℕ → End) → Actor → Type 0
 FitsActor ends (Kinds.UartDevice x) = FitsTerminal ends x.terminal
 FitsActor ends (Kinds.UartDriver x) = FitsPipes ends (two_pipes x.driver.pipes)
@@ -89,6 +96,7 @@ FitsActor ends (Kinds.DiskDevice x) = FitsDisk ends x.device
 FitsActor ends (Kinds.BlkDriver x) = FitsPipes ends (two_pipes x.driver.pipes)
 FitsActor ends (Kinds.BlkVirt x) = FitsBlkVirt ends x × HasFewClients x × HasFirst x
 FitsActor ends (Kinds.BlkClient x) = FitsBlkClient ends x
+FitsActor ends (Kinds.Rogue x) = FitsRogue ends x
 
 -- what it keeps, by what it took and what it put
 abbrev pub ActorStandsFor : Actor → Passed → Type 0
@@ -107,6 +115,7 @@ ActorStandsFor (Kinds.DiskDevice x) passed = DiskStandsFor x.start.value x.devic
 ActorStandsFor (Kinds.BlkDriver x) passed = PipesStandFor (two_pipes x.driver.pipes) passed
 ActorStandsFor (Kinds.BlkVirt x) passed = BlkVirtStandsFor x passed
 ActorStandsFor (Kinds.BlkClient x) passed = BlkClientStandsFor x passed
+ActorStandsFor (Kinds.Rogue x) passed = RogueStandsFor x passed
 
 -- what it may have put and recorded, for what it took
 abbrev pub ActorRow : Actor → Passed → Type 0
@@ -125,6 +134,7 @@ ActorRow (Kinds.DiskDevice x) passed = DiskRow x.start.value x.device passed
 ActorRow (Kinds.BlkDriver x) passed = PipesRow (two_pipes x.driver.pipes) passed
 ActorRow (Kinds.BlkVirt x) passed = BlkVirtRow x passed
 ActorRow (Kinds.BlkClient x) passed = BlkClientRow x passed
+ActorRow (Kinds.Rogue x) passed = Unit {0}
 
 -- what it had at the start and what came is what went, what is in its hand, and what it keeps for
 -- good or lends
@@ -144,6 +154,7 @@ ActorBalances (Kinds.DiskDevice x) passed = DiskBalances x.device passed
 ActorBalances (Kinds.BlkDriver x) passed = PipesBalance (two_pipes x.driver.pipes) passed
 ActorBalances (Kinds.BlkVirt x) passed = BlkVirtBalances x passed
 ActorBalances (Kinds.BlkClient x) passed = BlkClientBalances x passed
+ActorBalances (Kinds.Rogue x) passed = RogueBalances x passed
 
 -- one of its ends
 abbrev pub ActorEnd : Actor → Role → ℕ → Type 0
@@ -162,6 +173,7 @@ ActorEnd (Kinds.DiskDevice x) r n = DiskEnd x.device r n
 ActorEnd (Kinds.BlkDriver x) r n = PipesEnd (two_pipes x.driver.pipes) r n
 ActorEnd (Kinds.BlkVirt x) r n = BlkVirtEnd x r n
 ActorEnd (Kinds.BlkClient x) r n = BlkClientEnd x r n
+ActorEnd (Kinds.Rogue x) r n = RogueEnd x r n
 
 -- what a receiving virtualiser keeps fits together: it has one queue each way for each client
 pub record IsWholeReceiver (v : NetVirtRx) : Type 0 where
@@ -201,8 +213,10 @@ IsWhole (Kinds.DiskDevice x) = Unit {0}
 IsWhole (Kinds.BlkDriver x) = Unit {0}
 IsWhole (Kinds.BlkVirt x) = IsWholeServer x
 IsWhole (Kinds.BlkClient x) = IsAsking x.asking
+IsWhole (Kinds.Rogue x) = IsRogue x
 
--- its ends, and which of them it needs
+-- its ends, and which of them it needs; a hostile client takes no turns, so it has none of them
+-- here
 abbrev pub actor_round : Actor → Round
 actor_round (Kinds.UartDevice x) = terminal_round x.terminal
 actor_round (Kinds.UartDriver x) = pipes_round (two_pipes x.driver.pipes) x.driver.turn.last
@@ -219,9 +233,10 @@ actor_round (Kinds.DiskDevice x) = disk_round x.device
 actor_round (Kinds.BlkDriver x) = pipes_round (two_pipes x.driver.pipes) x.driver.turn.last
 actor_round (Kinds.BlkVirt x) = blk_virt_round x
 actor_round (Kinds.BlkClient x) = blk_client_round x
+actor_round (Kinds.Rogue x) = record { posts = []; needs = []; last = 0 }
 
--- nothing is to be done before a notification comes: each of these kinds says it of its ends, and a
--- kind without such ends would say it otherwise
+-- nothing is to be done before a notification comes: each of these kinds says it of its ends, but a
+-- hostile client of its acts
 abbrev pub actor_rests : Actor → Bool
 actor_rests (Kinds.UartDevice x) = is_at_rest (terminal_round x.terminal)
 actor_rests (Kinds.UartDriver x) = is_at_rest (pipes_round
@@ -241,8 +256,14 @@ actor_rests (Kinds.BlkDriver x) = is_at_rest (pipes_round
     (two_pipes x.driver.pipes) x.driver.turn.last)
 actor_rests (Kinds.BlkVirt x) = is_at_rest (blk_virt_round x)
 actor_rests (Kinds.BlkClient x) = is_at_rest (blk_client_round x)
+actor_rests (Kinds.Rogue x) = is_done (left_of x)
 
--- a call is its turn: each of these kinds takes its ends in turn
+-- a hostile client made its next call, and its acts and ends stay
+abbrev pub RogueTurned : Rogue → Event → Actor → Type 0
+RogueTurned x e (Kinds.Rogue y) = Acted x e y × SameRogue x y
+RogueTurned x e y = ⊥
+
+-- a call is its turn: each of these kinds takes its ends in turn, but a hostile client its acts
 abbrev pub ActorTurned : Actor → Event → Actor → Type 0
 ActorTurned (Kinds.UartDevice x) e y = Turned (terminal_round x.terminal) e (actor_round y)
 ActorTurned (Kinds.UartDriver x) e y =
@@ -262,6 +283,7 @@ ActorTurned (Kinds.BlkDriver x) e y =
     Turned (pipes_round (two_pipes x.driver.pipes) x.driver.turn.last) e (actor_round y)
 ActorTurned (Kinds.BlkVirt x) e y = Turned (blk_virt_round x) e (actor_round y)
 ActorTurned (Kinds.BlkClient x) e y = Turned (blk_client_round x) e (actor_round y)
+ActorTurned (Kinds.Rogue x) e y = RogueTurned x e y
 
 -- the bodies in its hand
 abbrev pub actor_hand : Actor → List Body
@@ -280,10 +302,25 @@ actor_hand (Kinds.DiskDevice x) = disk_hand x.device
 actor_hand (Kinds.BlkDriver x) = pipes_hand (two_pipes x.driver.pipes)
 actor_hand (Kinds.BlkVirt x) = bodies_of (work_cargo x.work)
 actor_hand (Kinds.BlkClient x) = blk_client_hand x
+actor_hand (Kinds.Rogue x) = x.kept.items
 
 -- the numbers of queues
 abbrev pub numbers : List QueueId → List ℕ
 numbers qs = map (λ q. q.0) qs
+
+-- the names of pages
+abbrev pub tags_of : List Paged → List Tag
+tags_of pages = map (λ p. record { pool = p.pool.0; number = p.no }) pages
+
+-- a hostile client's part, where its journal begins with this to do
+abbrev pub rogue_part : Rogue → Left → RoguePart
+rogue_part x start = record {
+  kind = x.kind;
+  inputs = numbers x.inputs.items;
+  outputs = numbers x.outputs.items;
+  start = start;
+  pages = tags_of x.start.value.items;
+}
 
 -- what it is made of
 abbrev pub part_of : Actor → Part
@@ -306,6 +343,7 @@ part_of (Kinds.DiskDevice x) = BlockPart (disk_part x.start.value x.device)
 part_of (Kinds.BlkDriver x) = BlockPart (blk_driver_part (two_pipes x.driver.pipes))
 part_of (Kinds.BlkVirt x) = BlockPart (virt_part x)
 part_of (Kinds.BlkClient x) = BlockPart (blk_client_part x)
+part_of (Kinds.Rogue x) = HostilePart (rogue_part x (left_at_start x))
 
 -- the length of a client's record: how many bytes, frames, or replies
 abbrev pub record_length : Actor → ℕ
@@ -324,6 +362,7 @@ record_length (Kinds.DiskDevice x) = 0
 record_length (Kinds.BlkDriver x) = 0
 record_length (Kinds.BlkVirt x) = 0
 record_length (Kinds.BlkClient x) = length x.asking.kept.shown
+record_length (Kinds.Rogue x) = 0
 
 -- what an actor counted as bad: a sending virtualiser of the network the descriptors that came bad
 -- from its clients, a block virtualiser the requests, and an actor of another kind nothing
@@ -343,6 +382,7 @@ bad_of (Kinds.DiskDevice x) = 0
 bad_of (Kinds.BlkDriver x) = 0
 bad_of (Kinds.BlkVirt x) = blk_bad_count x.work.desk
 bad_of (Kinds.BlkClient x) = 0
+bad_of (Kinds.Rogue x) = 0
 
 -- how many buffers of a pool an actor lent, by the pool's number: a receiving virtualiser of the
 -- network those of its own pool that are with a receiver, and an actor of another kind none
@@ -363,6 +403,7 @@ actor_lent (Kinds.DiskDevice x) pool = 0
 actor_lent (Kinds.BlkDriver x) pool = 0
 actor_lent (Kinds.BlkVirt x) pool = 0
 actor_lent (Kinds.BlkClient x) pool = 0
+actor_lent (Kinds.Rogue x) pool = 0
 
 -- the same actor without the last looks
 abbrev pub Forgot : Actor → Actor → Type 0
@@ -388,4 +429,66 @@ Forgot (Kinds.BlkDriver x) (Kinds.BlkDriver y) =
     × (y.driver.turn ≡ x.driver.turn)
 Forgot (Kinds.BlkVirt x) (Kinds.BlkVirt y) = BlkVirtForgot x y
 Forgot (Kinds.BlkClient x) (Kinds.BlkClient y) = y ≡ blk_client_forgotten x
+Forgot (Kinds.Rogue x) (Kinds.Rogue y) = HasForgotten x y
 Forgot x y = ⊥
+
+-- a call is at one of its ends; a hostile client's store is at a queue of which it has one
+abbrev pub IsActorCall : Actor → Event → Type 0
+IsActorCall (Kinds.UartDevice x) e = ActorEnd (Kinds.UartDevice x) (role_of e.op) e.queue.0
+IsActorCall (Kinds.UartDriver x) e = ActorEnd (Kinds.UartDriver x) (role_of e.op) e.queue.0
+IsActorCall (Kinds.SerialVirtRx x) e = ActorEnd (Kinds.SerialVirtRx x) (role_of e.op) e.queue.0
+IsActorCall (Kinds.SerialVirtTx x) e = ActorEnd (Kinds.SerialVirtTx x) (role_of e.op) e.queue.0
+IsActorCall (Kinds.SerialClient x) e = ActorEnd (Kinds.SerialClient x) (role_of e.op) e.queue.0
+IsActorCall (Kinds.EthDevice x) e = ActorEnd (Kinds.EthDevice x) (role_of e.op) e.queue.0
+IsActorCall (Kinds.EthDriver x) e = ActorEnd (Kinds.EthDriver x) (role_of e.op) e.queue.0
+IsActorCall (Kinds.NetVirtRx x) e = ActorEnd (Kinds.NetVirtRx x) (role_of e.op) e.queue.0
+IsActorCall (Kinds.NetCopier x) e = ActorEnd (Kinds.NetCopier x) (role_of e.op) e.queue.0
+IsActorCall (Kinds.NetClient x) e = ActorEnd (Kinds.NetClient x) (role_of e.op) e.queue.0
+IsActorCall (Kinds.NetVirtTx x) e = ActorEnd (Kinds.NetVirtTx x) (role_of e.op) e.queue.0
+IsActorCall (Kinds.DiskDevice x) e = ActorEnd (Kinds.DiskDevice x) (role_of e.op) e.queue.0
+IsActorCall (Kinds.BlkDriver x) e = ActorEnd (Kinds.BlkDriver x) (role_of e.op) e.queue.0
+IsActorCall (Kinds.BlkVirt x) e = ActorEnd (Kinds.BlkVirt x) (role_of e.op) e.queue.0
+IsActorCall (Kinds.BlkClient x) e = ActorEnd (Kinds.BlkClient x) (role_of e.op) e.queue.0
+IsActorCall (Kinds.Rogue x) e = IsOwnCall x e
+
+-- a step may be asked of it: of a hostile client where an act that makes a call is left and each of
+-- its queues is wild
+abbrev pub MayStep : (ℕ → Type 0) → Actor → Type 0
+MayStep wild (Kinds.UartDevice x) = Unit {0}
+MayStep wild (Kinds.UartDriver x) = Unit {0}
+MayStep wild (Kinds.SerialVirtRx x) = Unit {0}
+MayStep wild (Kinds.SerialVirtTx x) = Unit {0}
+MayStep wild (Kinds.SerialClient x) = Unit {0}
+MayStep wild (Kinds.EthDevice x) = Unit {0}
+MayStep wild (Kinds.EthDriver x) = Unit {0}
+MayStep wild (Kinds.NetVirtRx x) = Unit {0}
+MayStep wild (Kinds.NetCopier x) = Unit {0}
+MayStep wild (Kinds.NetClient x) = Unit {0}
+MayStep wild (Kinds.NetVirtTx x) = Unit {0}
+MayStep wild (Kinds.DiskDevice x) = Unit {0}
+MayStep wild (Kinds.BlkDriver x) = Unit {0}
+MayStep wild (Kinds.BlkVirt x) = Unit {0}
+MayStep wild (Kinds.BlkClient x) = Unit {0}
+MayStep wild (Kinds.Rogue x) =
+    (is_done (left_of x) ≡ false) × All (λ q. wild q.0) (ends_of x)
+
+-- what it is made of once it forgot its last looks: a hostile client's journal begins with what it
+-- has yet to do then
+abbrev pub part_anew : Actor → Part
+part_anew (Kinds.UartDevice x) = part_of (Kinds.UartDevice x)
+part_anew (Kinds.UartDriver x) = part_of (Kinds.UartDriver x)
+part_anew (Kinds.SerialVirtRx x) = part_of (Kinds.SerialVirtRx x)
+part_anew (Kinds.SerialVirtTx x) = part_of (Kinds.SerialVirtTx x)
+part_anew (Kinds.SerialClient x) = part_of (Kinds.SerialClient x)
+part_anew (Kinds.EthDevice x) = part_of (Kinds.EthDevice x)
+part_anew (Kinds.EthDriver x) = part_of (Kinds.EthDriver x)
+part_anew (Kinds.NetVirtRx x) = part_of (Kinds.NetVirtRx x)
+part_anew (Kinds.NetCopier x) = part_of (Kinds.NetCopier x)
+part_anew (Kinds.NetClient x) = part_of (Kinds.NetClient x)
+part_anew (Kinds.NetVirtTx x) = part_of (Kinds.NetVirtTx x)
+part_anew (Kinds.DiskDevice x) = part_of (Kinds.DiskDevice x)
+part_anew (Kinds.BlkDriver x) = part_of (Kinds.BlkDriver x)
+part_anew (Kinds.BlkVirt x) = part_of (Kinds.BlkVirt x)
+part_anew (Kinds.BlkClient x) = part_of (Kinds.BlkClient x)
+part_anew (Kinds.Rogue x) = HostilePart (rogue_part x
+    (record { acts = (left_of x).acts; looked = false; kept = (left_of x).kept }))

@@ -35,6 +35,7 @@ use Rattle.device_model.specs.Disk.Disks.{IsNewDisk}
 use Rattle.client_programs.specs.Blk.Asking.{IsAsking}
 use Rattle.client_programs.specs.Blk.Clients.{IsNewBlkClient, BlkClientStandsFor}
 use Rattle.client_programs.specs.declared.blk.BlkClient.{BlkClient}
+use Rattle.client_programs.specs.Rogue.Clients.{IsNewRogue}
 use Rattle.blk_driver.specs.declared.BlkDriver.{BlkDriver}
 use Rattle.blk_virt.specs.Works.{IsWork}
 use Rattle.blk_virt.specs.Virtualising.{IsNewBlkVirt, BlkVirtStandsFor}
@@ -124,6 +125,8 @@ IsNew (Kinds.BlkDriver x) =
     x.driver.pipes.rest
 IsNew (Kinds.BlkVirt x) = IsNewServer x
 IsNew (Kinds.BlkClient x) = IsNewAsker x
+IsNew (Kinds.Rogue x) =
+    IsNewRogue x.kind x.inputs.items x.outputs.items x.start.value.items x.acts.items x
 
 -- of a virtualiser of the network: its ends on each side are of queues of their own
 pub record HasApartQueues (v : VirtEnds) : Type 0 where
@@ -161,6 +164,7 @@ HasApartEnds (Kinds.BlkDriver x) =
     × (x.driver.pipes.first.output.queue.0 ≡ x.driver.pipes.rest.output.queue.0 → ⊥)
 HasApartEnds (Kinds.BlkVirt x) = HasApartQueues x.ends
 HasApartEnds (Kinds.BlkClient x) = Unit {0}
+HasApartEnds (Kinds.Rogue x) = Unit {0}
 
 -- no queue has both its ends with the actor
 abbrev pub HasNoLoop : Actor → Type 0
@@ -187,6 +191,13 @@ abbrev pub kind_by : (takes puts : QueueKind) → Role → QueueKind
 kind_by takes puts Consumer = takes
 kind_by takes puts Producer = puts
 
+-- what a client takes that puts this kind
+abbrev pub taken_kind : QueueKind → QueueKind
+taken_kind Kind.Net = Kind.Net
+taken_kind Kind.Byte = Kind.Byte
+taken_kind Kind.Req = Kind.Resp
+taken_kind Kind.Resp = Kind.Req
+
 -- what the queue at an end of an actor carries
 abbrev pub kind_at : Actor → Role → ℕ → QueueKind
 kind_at (Kinds.UartDevice x) r n = Kind.Byte
@@ -204,6 +215,7 @@ kind_at (Kinds.DiskDevice x) r n = kind_by Kind.Req Kind.Resp r
 kind_at (Kinds.BlkDriver x) r n = driver_kind x r n
 kind_at (Kinds.BlkVirt x) r n = server_kind x r n
 kind_at (Kinds.BlkClient x) r n = kind_by Kind.Resp Kind.Req r
+kind_at (Kinds.Rogue x) r n = kind_by (taken_kind x.kind) x.kind r
 
 -- by the rows, actor k has this end of queue n, which carries this kind
 pub record HasSeat (rows : List QueueRow) (kind : QueueKind) (k : ℕ) (r : Role) (n : ℕ) :

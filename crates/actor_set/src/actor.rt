@@ -1,19 +1,22 @@
 //! One actor of any kind, so that a system can keep a list of them.
 
 ghost use Rattle.std.specs.Prelude.{◌≡◌, ℕ, IfOk, OnErr};
-ghost use Rattle.wire_core.specs.Ends.{role_of, Role, End};
+ghost use Rattle.wire_core.specs.Ends.{Role, End};
 ghost use Rattle.wire_core.specs.Lists.{Passed, Stepped};
 ghost use Rattle.cargo_core.specs.Bodies.{buffers_of};
 ghost use Rattle.actor_set.specs.Actors.{FitsActor, ActorStandsFor, ActorRow, ActorBalances};
-ghost use Rattle.actor_set.specs.Actors.{ActorEnd, ActorTurned, IsWhole, Forgot, actor_rests};
-ghost use Rattle.actor_set.specs.Actors.{actor_hand, part_of, record_length, bad_of, actor_lent};
+ghost use Rattle.actor_set.specs.Actors.{ActorTurned, IsActorCall, IsWhole, MayStep, Forgot};
+ghost use Rattle.actor_set.specs.Actors.{actor_rests, actor_hand, part_of, part_anew};
+ghost use Rattle.actor_set.specs.Actors.{record_length, bad_of, actor_lent};
+ghost use Rattle.actor_set.specs.Laws.Kinds.{manner_of};
+ghost use Rattle.play_core.specs.Manners.{is_hostile};
 
 use crate::Disk;
 use blk_driver::BlkDriver;
 use blk_virt::BlkVirt;
 use cargo_core::{Memory, PoolId};
 use client_programs::blk::BlkClient;
-use client_programs::{NetClient, SerialClient};
+use client_programs::{NetClient, Rogue, SerialClient};
 use device_model::{EthDevice, UartDevice};
 use eth_driver::EthDriver;
 use net_copier::NetCopier;
@@ -21,7 +24,7 @@ use net_virt_rx::NetVirtRx;
 use net_virt_tx::NetVirtTx;
 use serial_virt::{SerialVirtRx, SerialVirtTx};
 use uart_driver::UartDriver;
-use wire_core::{Event, Wires};
+use wire_core::{Event, WildWires};
 
 /// One actor of any kind.
 #[derive(Drop)]
@@ -41,10 +44,11 @@ pub enum Actor {
     BlkDriver(BlkDriver),
     BlkVirt(BlkVirt),
     BlkClient(BlkClient),
+    Rogue(Rogue),
 }
 
 impl Actor {
-    /// Whether nothing is to be done before a notification comes.
+    /// Whether nothing is to be done before a notification comes, or, of a hostile client, ever.
     #[inline(always)]
     pub fn at_rest(&self) -> bool
         ensures { result ≡ actor_rests self.now }
@@ -65,7 +69,16 @@ impl Actor {
             Actor::BlkDriver(driver) => driver.at_rest(),
             Actor::BlkVirt(virt) => virt.at_rest(),
             Actor::BlkClient(client) => client.at_rest(),
+            Actor::Rogue(client) => client.at_rest(),
         }
+    }
+
+    /// Whether it is a hostile client.
+    #[inline(always)]
+    pub fn is_hostile(&self) -> bool
+        ensures { result ≡ is_hostile (manner_of (part_of self.now)) }
+    {
+        matches!(self, Actor::Rogue(_))
     }
 
     /// The length of a client's record, in bytes, in frames or in replies, and 0 for an actor of
@@ -114,6 +127,7 @@ impl Actor {
             Actor::BlkDriver(driver) => driver.held(pool),
             Actor::BlkVirt(virt) => virt.held(pool),
             Actor::BlkClient(client) => client.held(pool),
+            Actor::Rogue(client) => client.held(pool),
         }
     }
 
@@ -128,12 +142,13 @@ impl Actor {
         }
     }
 
-    /// Makes one call on one of its ends. After want of memory no call was made and nothing
-    /// changed.
-    pub fn step<W: Wires>(&mut self, wires: &mut W) -> Result<Event, Memory>
-        requires { FitsActor (W.ends wires.old) self.old }
+    /// Makes one call on one of its ends; a hostile client may store a word of one of its queues in
+    /// its place. After want of memory no call was made and nothing changed.
+    pub fn step<W: WildWires>(&mut self, wires: &mut W) -> Result<Event, Memory>
+        requires fits { FitsActor (W.ends wires.old) self.old }
+        requires may { MayStep (W.wild wires.old) self.old }
         ensures fits { FitsActor (W.ends wires.new) self.new }
-        ensures own { IfOk result (λ e. ActorEnd self.old (role_of e.op) e.queue.0) }
+        ensures own { IfOk result (λ e. IsActorCall self.old e) }
         ensures part { part_of self.new ≡ part_of self.old }
         ensures stepped { IfOk result
             (λ e. Stepped ActorStandsFor W.did wires.old wires.new self.old self.new e) }
@@ -157,14 +172,16 @@ impl Actor {
             Actor::BlkDriver(driver) => driver.step(wires),
             Actor::BlkVirt(virt) => virt.step(wires),
             Actor::BlkClient(client) => return client.step(wires),
+            Actor::Rogue(client) => client.step(wires),
         };
         Ok(event)
     }
 
-    /// Discards the last look of each end, and nothing else.
+    /// Discards the last look of each end, and nothing else; a hostile client's journal begins
+    /// here.
     pub fn forget(&mut self)
         ensures after { Forgot self.old self.new }
-        ensures part { part_of self.new ≡ part_of self.old }
+        ensures part { part_of self.new ≡ part_anew self.old }
         ensures recorded { record_length self.new ≡ record_length self.old }
         ensures whole { IsWhole self.old → IsWhole self.new }
         ensures fits { (ends : Role → ℕ → End) → FitsActor ends self.old → FitsActor ends self.new }
@@ -187,6 +204,7 @@ impl Actor {
             Actor::BlkDriver(driver) => driver.forget(),
             Actor::BlkVirt(virt) => virt.forget(),
             Actor::BlkClient(client) => client.forget(),
+            Actor::Rogue(client) => client.forget(),
         }
     }
 }
@@ -226,4 +244,5 @@ pub fn hand_law()
     device_model::disk::hand_law();
     blk_virt::hand_law();
     client_programs::blk::hand_law();
+    client_programs::rogue::hand_law();
 }

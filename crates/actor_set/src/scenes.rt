@@ -10,7 +10,7 @@ ghost use Rattle.wire_core.specs.Lists.{Passed};
 ghost use Rattle.wire_core.specs.Picks.{PickedFrom};
 ghost use Rattle.wire_core.specs.Queues.{Queue, end_at};
 ghost use Rattle.play_core.specs.Growing.{AllWithin, RowsStandIn, Stays, runs_in};
-ghost use Rattle.play_core.specs.Manners.{Manners};
+ghost use Rattle.play_core.specs.Manners.{Calm, Manners};
 ghost use Rattle.play_core.specs.Moved.{Moved, moved};
 ghost use Rattle.play_core.specs.Names.{GrowsTo, Names, Wild, names_at, wild_in};
 ghost use Rattle.play_core.specs.Rests.Showing.{HaveBells, HaveItems};
@@ -19,7 +19,7 @@ ghost use Rattle.play_core.specs.Sheets.{IsOwn, Scene, needful};
 ghost use Rattle.play_core.specs.Wants.{all_settled};
 ghost use Rattle.net_law.specs.Receiving.{HandsOver};
 ghost use Rattle.actor_set.specs.Actors.{ActorStandsFor, FitsActor, actor_rests, part_of};
-ghost use Rattle.actor_set.specs.Laws.Kinds.{hostiles, sheet};
+ghost use Rattle.actor_set.specs.Laws.Kinds.{AllCalm, hostiles, manner_of, sheet};
 ghost use Rattle.actor_set.specs.Laws.Scenes.{LiesWithin, NoneWild, ToldInTurn, told_sheet};
 ghost use Rattle.actor_set.specs.Parts.{Part};
 ghost use Rattle.actor_set.specs.declared.actor.Actor.{Actor};
@@ -58,28 +58,29 @@ pub fn scene_law()
         → NoneWild wild p → (told_sheet scene wild names p).dues m ≡ (sheet scene p).dues m }
 {}
 
-/// Nobody is hostile yet: so no queue has a hostile end, and whichever names are told, who is
+/// Where nobody is hostile, no queue has a hostile end, and whichever names are told, who is
 /// runnable by them is who is runnable without names.
 pub fn calm_law()
-    ensures none { (cast : List Part) (rows : List QueueRow) (p : Part)
+    ensures none { (cast : List Part) (rows : List QueueRow) (p : Part) → AllCalm cast
         → NoneWild (wild_in (hostiles cast) rows) p }
     ensures runs { (scene : Scene) (names : Names) (manner : Manners) (history : History)
-        (rows : List QueueRow) (cast : List Part) (journal : List Entry)
+        (rows : List QueueRow) (cast : List Part) (journal : List Entry) → AllCalm cast
         → runs_in (told_sheet scene (wild_in (hostiles cast) rows)) names manner history rows cast
         journal ≡ runnable manner history rows
         (needful (sheet scene) cast (moved history journal)) journal }
 {}
 
 /// An actor of any kind, of whose clients some may be hostile: where it stands for its lists and
-/// nothing came out of turn, the row that is said of its part holds of their items, and it is at
-/// rest exactly where all that is wanted of it is settled.
+/// nothing came out of turn, the row that is said of its part holds of their items, and, where it
+/// isn't hostile, it is at rest exactly where all that is wanted of it is settled.
 pub fn told_law()
     ensures row { (scene : Scene) (wild : Wild) (names : Names) (a : Actor) (passed : Passed)
         (m : Moved) → ToldInTurn scene wild names a passed → ActorStandsFor a passed
         → HaveItems passed m → (told_sheet scene wild names (part_of a)).row m }
     ensures rests { (scene : Scene) (wild : Wild) (names : Names) (history : History)
         (journal : List Entry) (world : List Queue) (a : Actor) (passed : Passed)
-        → ToldInTurn scene wild names a passed → FitsActor (end_at world) a
+        → manner_of (part_of a) ≡ Calm → ToldInTurn scene wild names a passed
+        → FitsActor (end_at world) a
         → ActorStandsFor a passed → HaveItems passed (moved history journal)
         → HaveBells world history journal → actor_rests a ≡ all_settled history journal
         ((told_sheet scene wild names (part_of a)).wants (moved history journal)) }

@@ -21,7 +21,7 @@ use Rattle.blk_law.specs.Sheets.Numbers.{BlkPlace}
 use Rattle.blk_law.specs.Hops.Hops.{blk_put, blk_moves, IsBlock}
 use Rattle.blk_law.proofs.HopsLemmas.Moves.{blk_moved}
 use Rattle.actor_set.specs.Parts.{Part}
-use Rattle.actor_set.specs.Laws.Kinds.{sheet, hostiles}
+use Rattle.actor_set.specs.Laws.Kinds.{AllCalm, sheet, hostiles}
 use Rattle.actor_set.proofs.LawsLemmas.Calm.{calm_actor, calm_row}
 use Rattle.actor_set.proofs.LawsLemmas.Told.{none_wild}
 use Rattle.wired_law.specs.Wiring.{HasPart, HasBlkIn}
@@ -57,7 +57,7 @@ serial_many_is (Some serial) = refl
 first_is : (plan : Plan) → first_blk plan ≡ blk_first plan
 first_is plan = let a = serial_first_is plan.net in let b = serial_many_is plan.serial in omega (arith, a, b)
 
-module _ (plan : Plan) (trace : Trace) (scene : Scene) (cast : List Part) (history : History) (journal : List Entry) (valid : Valid plan) (blk : Blk) (is : plan.blk ≡ Some blk) (has : HasBlkIn scene (queues_of plan) (blk_place plan trace) cast) (rows : RowsHold (sheet scene) (hostiles cast) cast (moved history journal)) where
+module _ (plan : Plan) (trace : Trace) (scene : Scene) (cast : List Part) (history : History) (journal : List Entry) (valid : Valid plan) (calm : AllCalm cast) (blk : Blk) (is : plan.blk ≡ Some blk) (has : HasBlkIn scene (queues_of plan) (blk_place plan trace) cast) (rows : RowsHold (sheet scene) (hostiles cast) cast (moved history journal)) where
   abbrev place : BlkPlace
   place = blk_place plan trace
 
@@ -65,7 +65,7 @@ module _ (plan : Plan) (trace : Trace) (scene : Scene) (cast : List Part) (histo
   many = value_count (length (blk_clients plan)) (client_entry plan) ∙ ap (λ (o : Option Blk). length (option_map_or (λ (b : Blk). b.client) o [])) is
 
   row_of : (p : Part) → HasPart cast p → (sheet scene p).row (moved history journal)
-  row_of p there = rows there.0 p (calm_actor cast there.0) there.1
+  row_of p there = rows there.0 p (calm_actor cast calm there.0) there.1
 
   is_block : IsBlock scene (hostiles cast) (queues_of plan) (moved history journal) place
   is_block = record {
@@ -74,11 +74,11 @@ module _ (plan : Plan) (trace : Trace) (scene : Scene) (cast : List Part) (histo
     disk = row_of _ has.disk;
     driver = row_of _ has.driver;
     virt = row_of _ has.virt;
-    client = λ k entry asks pool of. row_of _ (has.client k entry asks pool of (none_wild cast (queues_of plan) (place.first + 4 + 2 * k)));
+    client = λ k entry asks pool of. row_of _ (has.client k entry asks pool of (none_wild cast calm (queues_of plan) (place.first + 4 + 2 * k)));
     holds = λ i below.
         let all = (has_rows plan valid).blk blk is in
         let r = there_is (queues_of plan) (place.first + i) (let n = many in omega (arith, below, all, n)) in
-        record { row = r.0; there = r.1; calm = calm_row cast r.0; enough = omega arith };
+        record { row = r.0; there = r.1; calm = calm_row cast calm r.0; enough = omega arith };
   }
 
   pub few_put : QueuesFlow history (queues_of plan) journal → blk_put (blk_first plan) (length blk.client) (moved history journal) ≤ blk_moves trace.asks
@@ -89,10 +89,10 @@ module _ (plan : Plan) (trace : Trace) (scene : Scene) (cast : List Part) (histo
       ap (λ n. blk_put n (length place.entries) (moved history journal)) (first_is plan) ∙ ap (λ n. blk_put (blk_first plan) n (moved history journal)) many in
       omega (arith, few, asks, here)
 
-pub blk_within : (plan : Plan) (trace : Trace) (scene : Scene) (cast : List Part) (history : History) (journal : List Entry) → Valid plan → ((blk : Blk) → plan.blk ≡ Some blk → HasBlkIn scene (queues_of plan) (blk_place plan trace) cast)
+pub blk_within : (plan : Plan) (trace : Trace) (scene : Scene) (cast : List Part) (history : History) (journal : List Entry) → Valid plan → AllCalm cast → ((blk : Blk) → plan.blk ≡ Some blk → HasBlkIn scene (queues_of plan) (blk_place plan trace) cast)
     → QueuesFlow history (queues_of plan) journal → RowsHold (sheet scene) (hostiles cast) cast (moved history journal) → BlkMoves plan trace (moved history journal)
-blk_within plan trace scene cast history journal valid has flows rows = by plan.blk refl
+blk_within plan trace scene cast history journal valid calm has flows rows = by plan.blk refl
   where
     by : (o : Option Blk) → plan.blk ≡ o → BlkMoves plan trace (moved history journal)
     by None is = without_blk is
-    by (Some blk) is = with_blk blk is (few_put plan trace scene cast history journal valid blk is (has blk is) rows flows)
+    by (Some blk) is = with_blk blk is (few_put plan trace scene cast history journal valid calm blk is (has blk is) rows flows)

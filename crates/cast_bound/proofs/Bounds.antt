@@ -15,7 +15,7 @@ use Rattle.serial_law.specs.Serial.{SerialClass, IsSerial}
 use Rattle.serial_law.specs.Table.{serial_sheet}
 use Rattle.serial_law.proofs.HopsLemmas.Moves.{serial_moves}
 use Rattle.actor_set.specs.Parts.{Part}
-use Rattle.actor_set.specs.Laws.Kinds.{hostiles}
+use Rattle.actor_set.specs.Laws.Kinds.{AllCalm, hostiles}
 use Rattle.actor_set.proofs.LawsLemmas.Calm.{calm_row}
 use Rattle.cast_bound.specs.PlayBound.Standing.{StandsFrom, Carries, serial_first, NetMoves, SerialMoves, without_serial, with_serial, BlkMoves}
 use Rattle.cast_bound.proofs.PlayBound.Bounding.{within_budget}
@@ -32,8 +32,8 @@ serial_within plan trace cast history journal flows has = by plan.serial refl
         let h = has serial is in
         with_serial serial h.0 is h.1 h.2 (serial_moves (hostiles cast) history (queues_of plan) journal h.0 flows h.3)
 
-pub short : (plan : Plan) (trace : Trace) (cast : List Part) (history : History) (journal : List Entry) → Valid plan → length cast ≡ length (actors_of plan) → IsPeopled (queues_of plan) (length cast)
+pub short : (plan : Plan) (trace : Trace) (cast : List Part) (history : History) (journal : List Entry) → Valid plan → AllCalm cast → length cast ≡ length (actors_of plan) → IsPeopled (queues_of plan) (length cast)
     → BellsHold (hostiles cast) history (queues_of plan) [] → QueuesFlow history (queues_of plan) [] → LegalJournal (hostiles cast) history (queues_of plan) journal → Brisk (hostiles cast) (queues_of plan) no_drops journal
     → NetMoves plan trace (moved history journal) → SerialMoves plan trace (moved history journal) → BlkMoves plan trace (moved history journal) → length journal < budget_of plan trace
-short plan trace cast history journal valid count peopled bells flows legal brisk net serial blk =
-    within_budget plan trace (hostiles cast) history journal valid (λ n row at. calm_row cast row) bells flows legal brisk (subst (IsPeopled (queues_of plan)) count peopled) (classes_within plan trace history journal net serial blk)
+short plan trace cast history journal valid calm count peopled bells flows legal brisk net serial blk =
+    within_budget plan trace (hostiles cast) history journal valid (λ n row at. calm_row cast calm row) bells flows legal brisk (subst (IsPeopled (queues_of plan)) count peopled) (classes_within plan trace history journal net serial blk)

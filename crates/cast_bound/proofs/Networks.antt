@@ -21,7 +21,7 @@ use Rattle.owner_law.specs.Pools.Places.{PoolAt}
 use Rattle.net_law.specs.TxParts.Numbers.{NetPlace}
 use Rattle.net_law.specs.TxParts.Rows.{in_range}
 use Rattle.actor_set.specs.Parts.{Part}
-use Rattle.actor_set.specs.Laws.Kinds.{sheet, hostiles}
+use Rattle.actor_set.specs.Laws.Kinds.{AllCalm, sheet, hostiles}
 use Rattle.actor_set.proofs.LawsLemmas.Calm.{calm_actor, calm_row}
 use Rattle.actor_set.proofs.LawsLemmas.Told.{none_wild}
 use Rattle.net_law.specs.Parts.Numbers.{client_first}
@@ -93,12 +93,12 @@ module _ (plan : Plan) (valid : Valid plan) where
           by_other (inl less) = λ item here there. lower k j less low item there here
           by_other (inr same) = absurd (off (omega (arith, more, same)))
 
-module _ (plan : Plan) (trace : Trace) (scene : Scene) (cast : List Part) (history : History) (journal : List Entry) (valid : Valid plan) (net : Net) (is : plan.net ≡ Some net) (w : HasWholeIn scene (queues_of plan) (net_place plan trace) cast) (rows : RowsHold (sheet scene) (hostiles cast) cast (moved history journal)) where
+module _ (plan : Plan) (trace : Trace) (scene : Scene) (cast : List Part) (history : History) (journal : List Entry) (valid : Valid plan) (calm : AllCalm cast) (net : Net) (is : plan.net ≡ Some net) (w : HasWholeIn scene (queues_of plan) (net_place plan trace) cast) (rows : RowsHold (sheet scene) (hostiles cast) cast (moved history journal)) where
   abbrev place : NetPlace
   place = net_place plan trace
 
   row_of : (p : Part) → HasPart cast p → (sheet scene p).row (moved history journal)
-  row_of p there = rows there.0 p (calm_actor cast there.0) there.1
+  row_of p there = rows there.0 p (calm_actor cast calm there.0) there.1
 
   -- the pool that a client sends in is one of the network
   sends_below : (k : ℕ) → k < length (net_clients plan) → 2 + 2 * k < first_blk_pool plan
@@ -116,21 +116,21 @@ module _ (plan : Plan) (trace : Trace) (scene : Scene) (cast : List Part) (histo
     receiver = row_of _ w.receiver;
     sender = row_of _ w.sender;
     copier = λ k below. row_of _ (w.copier k below);
-    client = λ k program mac q runs address pooled. row_of _ (w.client k program mac q (record { address = address; pools = pooled; plays = runs }) (none_wild cast (queues_of plan) (client_first place.first k + 4)));
-    holds = λ i below. let r = w.kinds i below in record { row = r.0; there = r.1; calm = calm_row cast r.0; enough = omega arith };
+    client = λ k program mac q runs address pooled. row_of _ (w.client k program mac q (record { address = address; pools = pooled; plays = runs }) (none_wild cast calm (queues_of plan) (client_first place.first k + 4)));
+    holds = λ i below. let r = w.kinds i below in record { row = r.0; there = r.1; calm = calm_row cast calm r.0; enough = omega arith };
     apart = λ j k p q first second off.
         let a = value_is (length (net_clients plan)) (client_pools plan) j p first in
         let b = value_is (length (net_clients plan)) (client_pools plan) k q second in
         subst (λ (z : ClientPools × ClientPools). AreApart z.0.tx z.1.tx) (λ i. (sym a.1 i, sym b.1 i)) (apart_at plan valid (2 + 2 * j) (2 + 2 * k) (sends_below j a.0) (sends_below k b.0) (λ e. off (omega (arith, e))));
   }
 
-pub net_within : (plan : Plan) (trace : Trace) (scene : Scene) (cast : List Part) (history : History) (journal : List Entry) → Valid plan → ((net : Net) → plan.net ≡ Some net → HasWholeIn scene (queues_of plan) (net_place plan trace) cast) → scene ≡ scene_for plan trace
+pub net_within : (plan : Plan) (trace : Trace) (scene : Scene) (cast : List Part) (history : History) (journal : List Entry) → Valid plan → AllCalm cast → ((net : Net) → plan.net ≡ Some net → HasWholeIn scene (queues_of plan) (net_place plan trace) cast) → scene ≡ scene_for plan trace
     → QueuesFlow history (queues_of plan) journal → RowsHold (sheet scene) (hostiles cast) cast (moved history journal) → NetMoves plan trace (moved history journal)
-net_within plan trace scene cast history journal valid whole scene_is flows rows = by plan.net refl
+net_within plan trace scene cast history journal valid calm whole scene_is flows rows = by plan.net refl
   where
     by : (o : Option Net) → plan.net ≡ o → NetMoves plan trace (moved history journal)
     by None is = without_net is
     by (Some net) is =
         let frames : scene.frames ≡ trace.frames = ap (λ (s : Scene). s.frames) scene_is ∙ ap (λ (n : Option Net). option_map_or (λ (x : Net). trace.frames) n []) is in
-        let few = net_moved scene (hostiles cast) history (queues_of plan) journal (net_place plan trace) flows (is_network plan trace scene cast history journal valid net is (whole net is) rows) in
+        let few = net_moved scene (hostiles cast) history (queues_of plan) journal (net_place plan trace) flows (is_network plan trace scene cast history journal valid calm net is (whole net is) rows) in
         with_net net (net_place plan trace) is (place_is plan net is trace) (subst (λ fs. net_put 0 (length (net_place plan trace).macs) (moved history journal) ≤ net_moves (net_place plan trace) fs) frames few)

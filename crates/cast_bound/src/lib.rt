@@ -20,7 +20,7 @@ ghost use Rattle.expect_core.specs.Budgets.{budget_of};
 ghost use Rattle.serial_law.specs.Serial.{SerialClass, IsSerial};
 ghost use Rattle.serial_law.specs.Table.{serial_sheet};
 ghost use Rattle.actor_set.specs.Parts.{Part};
-ghost use Rattle.actor_set.specs.Laws.Kinds.{sheet, hostiles};
+ghost use Rattle.actor_set.specs.Laws.Kinds.{AllCalm, sheet, hostiles};
 ghost use Rattle.wired_law.specs.Wiring.{HasWholeIn, HasBlkIn};
 ghost use Rattle.cast_core.specs.Casts.{net_place, blk_place, scene_for};
 ghost use Rattle.cast_bound.specs.PlayBound.Standing.{StandsFrom, Carries, serial_first, NetMoves};
@@ -28,12 +28,12 @@ ghost use Rattle.cast_bound.specs.PlayBound.Standing.{SerialMoves, BlkMoves};
 
 pub mod play_bound;
 
-/// Where the rows of a plan's actors hold and its queues hand over in order, each class puts no
-/// more to its queues than its entries have to be moved; so a journal that is legal and brisk is
-/// shorter than the budget of plan and trace.
+/// Where no actor of a plan is hostile, their rows hold and its queues hand over in order, each
+/// class puts no more to its queues than its entries have to be moved; so a journal that is legal
+/// and brisk is shorter than the budget of plan and trace.
 pub fn cast_bound_law()
     ensures network { (plan : Plan) (trace : Trace) (scene : Scene) (cast : List Part)
-        (history : History) (journal : List Entry) → Valid plan
+        (history : History) (journal : List Entry) → Valid plan → AllCalm cast
         → ((net : Net) → plan.net ≡ Some net
         → HasWholeIn scene (queues_of plan) (net_place plan trace) cast)
         → scene ≡ scene_for plan trace
@@ -41,7 +41,7 @@ pub fn cast_bound_law()
         → RowsHold (sheet scene) (hostiles cast) cast (moved history journal)
         → NetMoves plan trace (moved history journal) }
     ensures block { (plan : Plan) (trace : Trace) (scene : Scene) (cast : List Part)
-        (history : History) (journal : List Entry) → Valid plan
+        (history : History) (journal : List Entry) → Valid plan → AllCalm cast
         → ((blk : Blk) → plan.blk ≡ Some blk
         → HasBlkIn scene (queues_of plan) (blk_place plan trace) cast)
         → QueuesFlow history (queues_of plan) journal
@@ -55,7 +55,7 @@ pub fn cast_bound_law()
         (queues_of plan) class)
         → SerialMoves plan trace (moved history journal) }
     ensures short { (plan : Plan) (trace : Trace) (cast : List Part) (history : History)
-        (journal : List Entry) → Valid plan
+        (journal : List Entry) → Valid plan → AllCalm cast
         → length cast ≡ length (actors_of plan) → IsPeopled (queues_of plan) (length cast)
         → BellsHold (hostiles cast) history (queues_of plan) []
         → QueuesFlow history (queues_of plan) []

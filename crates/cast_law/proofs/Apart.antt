@@ -29,7 +29,7 @@ use Rattle.blk_virt.specs.Desks.{holders}
 use Rattle.blk_law.specs.Sheets.Parts.{BlkPart, DiskDevice as DiskPart, BlkDriver as BlkDriverPart, BlkVirt as VirtPart, BlkClient as BlkClientPart, Sharer}
 use Rattle.blk_law.specs.Sheets.Numbers.{blk_driver_at, sharers_from}
 use Rattle.blk_law.specs.Sheets.Playing.{sharers}
-use Rattle.actor_set.specs.Parts.{Part, UartPart, DriverPart, RxPart, TxPart, ClientPart, NetworkPart, SendingPart, BlockPart}
+use Rattle.actor_set.specs.Parts.{HostilePart, Part, UartPart, DriverPart, RxPart, TxPart, ClientPart, NetworkPart, SendingPart, BlockPart}
 use Rattle.actor_set.specs.Actors.{IsWhole, part_of}
 use Rattle.actor_set.specs.StartStates.{HasApartEnds, HasApartQueues}
 use Rattle.actor_set.specs.declared.actor.Actor.{Actor}
@@ -75,6 +75,7 @@ ApartIn (ClientPart rx tx script) = Unit {0}
 ApartIn (NetworkPart p) = NetApart p
 ApartIn (SendingPart p) = SendApart p
 ApartIn (BlockPart p) = BlkApart p
+ApartIn (HostilePart p) = Unit {0}
 
 -- the client of a virtualiser's queue
 lessee_free : (macs : List Mac) (to from : List QueueId) → length to ≡ length macs → length from ≡ length macs → (k : ℕ) (q : QueueId) → slice_get from k ≡ Some q → (c : Lessee) × (slice_get (lessees macs to from) k ≡ Some c) × (c.free ≡ q.0)
@@ -175,6 +176,7 @@ apart_of (Kinds.DiskDevice x) whole h = tt
 apart_of (Kinds.BlkDriver x) whole h = (h.0.0.0, h.1.0.0)
 apart_of (Kinds.BlkVirt x) whole h = server_apart x whole h
 apart_of (Kinds.BlkClient x) whole h = tt
+apart_of (Kinds.Rogue x) whole h = tt
 
 leases_apart : (pool : PoolAt) (macs : List Mac) → NetApart (receiver_at 0 pool macs)
 leases_apart pool macs = (

@@ -1,6 +1,7 @@
 -- The proofs that a plan's actors stand where they belong, and of what holds of them.
 pub mod Numbers
 pub mod Parting
+pub mod Calming
 pub mod Apart
 pub mod Seated
 pub mod Wired

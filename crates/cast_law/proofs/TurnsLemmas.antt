@@ -86,13 +86,14 @@ told_within scene wild names (Kinds.BlkVirt x) passed m items turn = λ k c at i
     let told : IsPrefix (names_of (passed.taken c.req)) (names c.req) = subst (λ n. IsPrefix (names_of (passed.taken n)) (names n)) (sym req) (turn.1 k s.1 s.4 (ap wild (sym req) ∙ is_wild)) in
     few_told (passed.taken c.req) (names c.req) (m.taken c.req) (items.taken c.req) told
 told_within scene wild names (Kinds.BlkClient x) passed m items turn = tt
+told_within scene wild names (Kinds.Rogue x) passed m items turn = tt
 
 module _ (ends : Role → ℕ → End) (rows : List QueueRow) (pools : List PoolRow) (actors : List Actor) (passed : Passed) (in_place : IsInPlace rows pools (map part_of actors)) (work : AreAtWork ends rows actors passed) where
   abbrev cast : List Part
   cast = map part_of actors
 
   once : HasEachOnce rows actors passed
-  once = each_once ends rows actors passed in_place.peopled in_place.seated in_place.filled pools in_place.pooled.0 in_place.pooled.1 in_place.pooled.2 work
+  once = each_once ends rows actors passed in_place.calm in_place.peopled in_place.seated in_place.filled pools in_place.pooled.0 in_place.pooled.1 in_place.pooled.2 work
 
   pub beside_turns : (wild : Wild) → AreInTurn wild actors passed
   beside_turns wild = beside (scene_of cast) ends rows actors passed work (wired_place rows pools cast in_place) once wild
@@ -114,4 +115,4 @@ module _ (ends : Role → ℕ → End) (rows : List QueueRow) (pools : List Pool
 
   -- nobody is hostile, so no name is asked
   pub calm_turns : ClientsSend rows cast passed → (k : ℕ) (x : Actor) → slice_get actors k ≡ Some x → InTurn (scene_of cast) x passed
-  calm_turns sends k x at = turns_calm (scene_of cast) (wild_in (hostiles cast) rows) (names_at passed) x passed (none_wild cast rows) (told_turns sends (names_at passed) (λ n is_wild. ([], append-nil (names_at passed n))) k x at)
+  calm_turns sends k x at = turns_calm (scene_of cast) (wild_in (hostiles cast) rows) (names_at passed) x passed (none_wild cast in_place.calm rows) (told_turns sends (names_at passed) (λ n is_wild. ([], append-nil (names_at passed n))) k x at)

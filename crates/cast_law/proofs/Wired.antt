@@ -41,6 +41,7 @@ use Rattle.actor_set.specs.Actors.{part_of}
 use Rattle.actor_set.specs.declared.actor.Actor.{Actor}
 use Rattle.actor_set.specs.Laws.Kinds.{frames_of, image_of, scene_of}
 use Rattle.actor_set.proofs.LawsLemmas.Told.{none_wild}
+use Rattle.cast_law.proofs.Calming.{all_calm}
 use Rattle.wired_law.specs.Wiring.{HasWhole, HasNoNetwork, IsOfNetwork}
 use Rattle.layout_laws.specs.Jobs.Jobs.{Job, EthDevice, EthDriver, NetReceiver, NetSender, NetCopier, NetClient, UartDevice, UartDriver, SerialReceiver, SerialSender, SerialClient, DiskDevice, DiskDriver, BlkVirtualiser, BlkClient, HasJob}
 use Rattle.layout_laws.proofs.JobsLemmas.Having.{one_actor, same_job, job_below}
@@ -322,7 +323,7 @@ module _ (plan : Plan) (trace : Trace) (actors : List Actor) (valid : Valid plan
           let d = value_is count (client_pools plan) k q of.pools in
           let c = client_of k b.0 in
           ((actor_named plan c.0.pd).0, part_at (NetClient k) (actor_named plan c.0.pd).0 (named.client k c.0 c.1) ∙ client_part_is k program mac q a.1 b.1 d.1);
-      both = λ k below. none_wild cast (queues_of plan) (client_first place.first k + 4) ∙ sym (none_wild cast (queues_of plan) (client_first place.first k + 5));
+      both = λ k below. none_wild cast (all_calm plan trace actors made) (queues_of plan) (client_first place.first k + 4) ∙ sym (none_wild cast (all_calm plan trace actors made) (queues_of plan) (client_first place.first k + 5));
       only = λ k p at. let one = job_of k (NetworkPart p) at in net_is one.0 p one.2 (job_is_of plan one.0 k one.1);
       only_sender = λ k p at.
           let one = job_of k (SendingPart p) at in

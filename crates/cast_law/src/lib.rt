@@ -15,7 +15,7 @@ ghost use Rattle.trace_text.specs.Traces.{IsReadFor};
 ghost use Rattle.region_layout.specs.Rows.{pools_of, queues_of};
 ghost use Rattle.actor_set.specs.Actors.{part_of};
 ghost use Rattle.actor_set.specs.declared.actor.Actor.{Actor};
-ghost use Rattle.actor_set.specs.Laws.Kinds.{scene_of};
+ghost use Rattle.actor_set.specs.Laws.Kinds.{AllCalm, scene_of};
 ghost use Rattle.layout_laws.specs.Jobs.Jobs.{Job, HasJob};
 ghost use Rattle.cast_core.specs.Casts.{blk_place, net_place, job_part, scene_for, AreCast};
 ghost use Rattle.wired_law.specs.Wiring.{HasBlk, HasNoBlock, HasNoNetwork, HasWhole};
@@ -32,14 +32,17 @@ pub mod quiet;
 pub mod runs;
 pub mod turns;
 
-/// The actors of a valid plan are seated at its layout's queues, each number has the part of its
-/// job, and with a network class or a block class the cast has the whole class where the layout
-/// places it. The scene is what the trace gives the plan's classes. The classes with pools stand
-/// where the plan has them, no two pools of the block class have an address in common, and their
-/// pools are those of the layout, by their numbers and with their sizes.
+/// The actors of a valid plan are seated at its layout's queues, none of them is hostile, each
+/// number has the part of its job, and with a network class or a block class the cast has the whole
+/// class where the layout places it. The scene is what the trace gives the plan's classes. The
+/// classes with pools stand where the plan has them, no two pools of the block class have an
+/// address in common, and their pools are those of the layout, by their numbers and with their
+/// sizes.
 pub fn cast_law()
     ensures seated { (plan : Plan) (trace : Trace) (actors : List Actor) → Valid plan
         → IsReadFor plan trace → AreCast plan trace actors → AreSeated (queues_of plan) actors }
+    ensures calm { (plan : Plan) (trace : Trace) (actors : List Actor) → AreCast plan trace actors
+        → AllCalm (map part_of actors) }
     ensures parts { (plan : Plan) (trace : Trace) (actors : List Actor) → Valid plan
         → AreCast plan trace actors → (job : Job) (k : ℕ) → HasJob plan job k
         → slice_get (map part_of actors) k ≡ job_part plan trace job }

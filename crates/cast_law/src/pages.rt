@@ -18,7 +18,7 @@ ghost use Rattle.page_law.specs.Holders.{AreHeld};
 ghost use Rattle.actor_set.specs.Parts.{Part};
 ghost use Rattle.actor_set.specs.Actors.{part_of};
 ghost use Rattle.actor_set.specs.declared.actor.Actor.{Actor};
-ghost use Rattle.actor_set.specs.Laws.Kinds.{scene_of, sheet};
+ghost use Rattle.actor_set.specs.Laws.Kinds.{AllCalm, scene_of, sheet};
 ghost use Rattle.wired_law.specs.Buffers.{HasEachOnce};
 ghost use Rattle.wired_law.specs.Wiring.{AreAtWork};
 ghost use Rattle.cast_law.specs.Pools.Places.{PoolPlace, IsPlaced, HasPools};
@@ -65,12 +65,14 @@ pub fn cast_page_law()
         → cast_weighs (of_other_length (record { 0 = q.number }) q.size) passed world actors ≡ 0 }
 {}
 
-/// Of one moment's lists alone, wherever actors at work have just the ends that the rows give them:
+/// Of one moment's lists alone, wherever actors at work, none of which is hostile, have just the
+/// ends that the rows give them:
 /// each buffer is there once, and those of block clients have their class's length. No journal is
 /// asked, nor whether anything came out of turn, nor what the actors put.
 pub fn cast_once_law()
     ensures { (ends : Role → ℕ → End) (rows : List QueueRow) (actors : List Actor)
-        (passed : Passed) → IsPeopled rows (length (map part_of actors))
+        (passed : Passed) → AllCalm (map part_of actors)
+        → IsPeopled rows (length (map part_of actors))
         → AreSeated (sheet (scene_of (map part_of actors))) rows (map part_of actors)
         → AreFilled (sheet (scene_of (map part_of actors))) rows (map part_of actors)
         → (pools : List PoolRow) (place : PoolPlace) → IsPlaced rows place (map part_of actors)

@@ -24,8 +24,9 @@ ghost use Rattle.cast_law.specs.PoolLines.PoolLines.{table_lines, counted_lines}
 ghost use Rattle.actor_set.specs.Parts.{Part};
 ghost use Rattle.actor_set.specs.Actors.{ActorStandsFor, IsWhole, part_of, bad_of};
 ghost use Rattle.actor_set.specs.declared.actor.Actor.{Actor};
-ghost use Rattle.actor_set.specs.Laws.Kinds.{sheet, scene_of};
+ghost use Rattle.actor_set.specs.Laws.Kinds.{manner_of, AllCalm, sheet, scene_of};
 ghost use Rattle.actor_set.specs.Laws.Turning.{InTurn};
+ghost use Rattle.play_core.specs.Manners.{Calm};
 ghost use Rattle.cast_law.specs.Pools.Holders.{NamesAt, IsSized, TakesNet, actor_holder};
 ghost use Rattle.cast_law.specs.Pools.Holders.{holders_of};
 ghost use Rattle.cast_law.specs.Pools.Places.{PoolPlace, IsPlaced, HasPools, ArePooled};
@@ -33,17 +34,20 @@ ghost use Rattle.cast_law.specs.Pools.Places.{cast_naming, place_sizes};
 ghost use Rattle.cast_law.specs.Pools.Pooling.{keepers_at, AddUp, AreAtPlay, BeginsWith};
 ghost use Rattle.cast_law.specs.Pools.Pooling.{HasOwners, AreKindly, IsCall};
 
-/// Where nothing came out of turn at an actor, of any class, queues hand over in order, and what it
-/// took carries the pages that are named, so does what it put; and of each pool it had at the start
-/// and took what it put, has in its hand and has lent. It counted nothing as bad.
+/// Where nothing came out of turn at an actor that isn't hostile, of any class, queues hand over in
+/// order, and what it took carries the pages that are named, so does what it put; and of each pool
+/// it had at the start and took what it put, has in its hand and has lent. It counted nothing as
+/// bad.
 pub fn holder_law()
     ensures hands_on { (naming : Naming) (scene : Scene) (x : Actor) (passed : Passed) (m : Moved)
-        → HaveItems passed m → IsInOrder naming m → NamesAt naming scene (part_of x)
-        → TakesNet x passed → IsWhole x → InTurn scene x passed → ActorStandsFor x passed
+        → HaveItems passed m → IsInOrder naming m → manner_of (part_of x) ≡ Calm
+        → NamesAt naming scene (part_of x) → TakesNet x passed → IsWhole x
+        → InTurn scene x passed → ActorStandsFor x passed
         → HandsOn naming m passed (sheet scene (part_of x)).ends }
     ensures holds { (naming : Naming) (sizes : ℕ → ℕ) (scene : Scene) (x : Actor)
-        (passed : Passed) (m : Moved) → HaveItems passed m → NamesAt naming scene (part_of x)
-        → IsSized sizes (part_of x) → IsWhole x → InTurn scene x passed → ActorStandsFor x passed
+        (passed : Passed) (m : Moved) → HaveItems passed m → manner_of (part_of x) ≡ Calm
+        → NamesAt naming scene (part_of x) → IsSized sizes (part_of x) → IsWhole x
+        → InTurn scene x passed → ActorStandsFor x passed
         → TakesPages naming m passed (sheet scene (part_of x)).ends
         → HoldsIts naming sizes m passed (actor_holder scene x) }
     ensures bad { (scene : Scene) (x : Actor) (passed : Passed) → InTurn scene x passed
@@ -83,12 +87,12 @@ pub fn cast_pool_law()
         (moved history journal) passed
         → AddUp world (holders_of actors) pools }
     ensures anew { (rows : List QueueRow) (pools : List PoolRow) (place : PoolPlace)
-        (cast : List Part) → IsPlaced rows place cast → HasPools pools place
+        (cast : List Part) → AllCalm cast → IsPlaced rows place cast → HasPools pools place
         → AreSeated (sheet (scene_of cast)) rows cast
         → BeginsWith (start_history rows) rows place cast (start_table (keepers_at cast))
         × ((k : ℕ) → IsPool (start_table (keepers_at cast)) k (place_sizes place k)) }
     ensures few { (rows : List QueueRow) (pools : List PoolRow) (cast : List Part)
-        → ArePooled rows pools cast → AreSeated (sheet (scene_of cast)) rows cast
+        → AllCalm cast → ArePooled rows pools cast → AreSeated (sheet (scene_of cast)) rows cast
         → length rows ≤ 65536 → length pools ≤ 65536 }
     ensures kinds { (history : History) (rows : List QueueRow) (actors : List Actor)
         (journal : List Entry) (passed : Passed) (world : List Queue)

@@ -11,7 +11,7 @@ ghost use Rattle.region_layout.specs.Rows.{queues_of};
 ghost use Rattle.net_quiet.specs.Still.{HasPools, HasRooms};
 ghost use Rattle.blk_quiet.specs.Still.{HasClientPools, HasBlkRooms};
 ghost use Rattle.actor_set.specs.Parts.{Part};
-ghost use Rattle.actor_set.specs.Laws.Kinds.{hostiles};
+ghost use Rattle.actor_set.specs.Laws.Kinds.{AllCalm, hostiles};
 ghost use Rattle.wired_law.specs.Wiring.{HasWhole};
 ghost use Rattle.cast_core.specs.Casts.{net_place, blk_place};
 
@@ -23,11 +23,11 @@ pub fn quiet_law()
     ensures pools { (plan : Plan) (trace : Trace) → Valid plan → (net : Net)
         → plan.net ≡ Some net → HasPools (net_place plan trace) }
     ensures rooms { (plan : Plan) (trace : Trace) (cast : List Part) → Valid plan → (net : Net)
-        → plan.net ≡ Some net → HasWhole (queues_of plan) (net_place plan trace) cast
+        → plan.net ≡ Some net → AllCalm cast → HasWhole (queues_of plan) (net_place plan trace) cast
         → HasRooms (hostiles cast) (queues_of plan) (net_place plan trace) }
     ensures blk_pools { (plan : Plan) (trace : Trace) → Valid plan → (blk : Blk)
         → plan.blk ≡ Some blk → HasClientPools (blk_place plan trace) }
     ensures blk_rooms { (plan : Plan) (trace : Trace) → Valid plan → (blk : Blk)
-        → plan.blk ≡ Some blk → (cast : List Part)
+        → plan.blk ≡ Some blk → (cast : List Part) → AllCalm cast
         → HasBlkRooms (hostiles cast) (queues_of plan) (blk_place plan trace) }
 {}

@@ -97,10 +97,10 @@ impl Rogue {
 
     // The place of the first act that is left and makes a call, or of the end.
     fn upcoming(&self) -> usize
-        requires { self.now.next ≤ length self.now.acts.items }
         ensures next { next_acts (length self.now.kept.items)
             (drop self.now.next self.now.acts.items) ≡ drop result self.now.acts.items }
-        ensures within { result ≤ length self.now.acts.items }
+        ensures within { self.now.next ≤ length self.now.acts.items
+            → result ≤ length self.now.acts.items }
     {
         let mut place = self.next;
         while place < self.acts.len() && !makes_call(&self.acts[place], self.kept.len()) {
@@ -111,10 +111,9 @@ impl Rogue {
 
     /// Whether no act that makes a call is left.
     pub fn at_rest(&self) -> bool
-        requires { IsRogue self.now }
         ensures { result ≡ is_done (left_of self.now) }
     {
-        self.upcoming() == self.acts.len()
+        self.upcoming() >= self.acts.len()
     }
 
     /// How many buffers of a pool it keeps.

@@ -1,5 +1,5 @@
 -- What an actor at rest does: it only looks for a notification, or wants none.
-use Rattle.std.proofs.Common.{◌≡◌, ◌∙◌, Bool, true, false, Option, refl, sym, ap}
+use Rattle.std.proofs.Common.{◌≡◌, ◌⊎◌, ◌∙◌, ℕ, Bool, true, false, Option, inl, inr, refl, sym, ap, subst}
 use Rattle.wire_core.specs.declared.names.Event.{Event}
 use Rattle.wire_core.specs.declared.names.Side.{Side}
 use Rattle.wire_core.specs.declared.names.Waiter.{Waiter}
@@ -9,7 +9,11 @@ use Rattle.wire_core.specs.declared.names.Ringer.TheVariants as Rung
 use Rattle.turn_kit.specs.Table.{next_of, is_settled}
 use Rattle.turn_kit.specs.Turns.{Round, Turned, is_at_rest}
 use Rattle.turn_kit.proofs.Turning.{rest_at}
-use Rattle.actor_set.specs.Actors.{actor_rests, actor_round}
+use Rattle.play_core.specs.Manners.{Calm}
+use Rattle.client_programs.specs.declared.rogue.Rogue.{Rogue}
+use Rattle.actor_set.specs.Actors.{MayStep, actor_rests, actor_round, part_of}
+use Rattle.actor_set.specs.Laws.Kinds.{manner_of}
+use Rattle.actor_set.specs.declared.actor.Actor.TheVariants as Kinds
 use Rattle.actor_set.specs.declared.actor.Actor.{Actor}
 use Rattle.order_law.specs.Tales.{is_waiting}
 
@@ -32,3 +36,11 @@ rested_op r e m t rest =
 
 pub due : (x : Actor) (e : Event) (y : Actor) → Turned (actor_round x) e (actor_round y) → actor_rests x ≡ is_at_rest (actor_round x) → actor_rests x ≡ true → is_waiting e.op ≡ true
 due x e y t is rest = rested_op (actor_round x) e (actor_round y) t (sym is ∙ rest)
+
+-- a hostile client makes no call at rest
+rogue_due : (wild : ℕ → Type 0) (x : Actor) (r : Rogue) (e : Event) → x ≡ Kinds.Rogue r → MayStep wild x → actor_rests x ≡ true → is_waiting e.op ≡ true
+rogue_due wild x r e is may rest = let m = subst (MayStep wild) is may in let no : true ≡ false = sym (ap actor_rests (sym is) ∙ rest) ∙ m.0 in cc
+
+pub due_any : (wild : ℕ → Type 0) (x : Actor) (e : Event) (y : Actor) → MayStep wild x → (manner_of (part_of x) ≡ Calm) ⊎ ((r : Rogue) × (x ≡ Kinds.Rogue r)) → (manner_of (part_of x) ≡ Calm → Turned (actor_round x) e (actor_round y)) → (manner_of (part_of x) ≡ Calm → actor_rests x ≡ is_at_rest (actor_round x)) → actor_rests x ≡ true → is_waiting e.op ≡ true
+due_any wild x e y may (inl calm) turned is rest = due x e y (turned calm) (is calm) rest
+due_any wild x e y may (inr r) turned is rest = rogue_due wild x r.0 e r.1 may rest

@@ -3,11 +3,10 @@ use Rattle.std.specs.Prelude.{◌≡◌, Bool, true, false, List, [], ◌∷◌}
 use Rattle.wire_core.specs.declared.names.Op.{Op}
 use Rattle.wire_core.specs.declared.names.Op.TheVariants as Do
 use Rattle.wire_core.specs.Deeds.{Deed}
-use Rattle.wire_core.specs.Ends.{role_of}
 use Rattle.wire_core.specs.Lists.{Passed, with_deed}
 use Rattle.seat_wires.specs.Places.Are.{SeatsAre}
 use Rattle.seat_wires.specs.Places.{SeatDid, seat_end}
-use Rattle.actor_set.specs.Actors.{FitsActor, ActorStandsFor, ActorEnd, actor_rests, part_of}
+use Rattle.actor_set.specs.Actors.{FitsActor, ActorStandsFor, IsActorCall, actor_rests, part_of}
 use Rattle.actor_set.specs.declared.actor.Actor.{Actor}
 
 -- a call, with the actor and its ends as they are then
@@ -35,7 +34,7 @@ is_waiting (Do.Store w v) = false
 -- none
 pub record Made (x : Actor) (s : SeatsAre) (c : Call) : Type 0 where
   pub did : SeatDid s c.deed c.seats
-  pub own : ActorEnd x (role_of c.deed.event.op) c.deed.event.queue.0
+  pub own : IsActorCall x c.deed.event
   pub due : actor_rests x ≡ true → is_waiting c.deed.event.op ≡ true
   pub part : part_of c.actor ≡ part_of x
   pub kept : (p : Passed) → ActorStandsFor x p → ActorStandsFor c.actor (with_deed p c.deed)

@@ -1,5 +1,5 @@
 -- How the threads and the last pass fit together.
-use Rattle.std.proofs.Common.{◌≡◌, ◌∙◌, ◌≤◌, ◌+◌, ◌⊎◌, inl, inr, ⊎_elim, ℕ, List, [], ◌∷◌, ◌++◌, Bool, true, false, arith, refl, subst}
+use Rattle.std.proofs.Common.{◌≡◌, ◌∙◌, ap, ◌≤◌, ◌+◌, ◌⊎◌, inl, inr, ⊎_elim, ℕ, List, [], ◌∷◌, ◌++◌, Bool, true, false, arith, refl, subst}
 use Rattle.spsc_queue.specs.Known.Ends.{RingIs}
 use Rattle.seat_wires.specs.Places.Are.{SeatsAre}
 use Rattle.seat_wires.proofs.Going.{went_then}
@@ -7,7 +7,8 @@ use Rattle.actor_set.specs.declared.actor.Actor.{Actor}
 use Rattle.order_law.proofs.Telling.{goes_then}
 use Rattle.pd_runner.specs.declared.part.Part.{Part}
 use Rattle.pd_runner.specs.declared.part.Ran.{Ran}
-use Rattle.pd_runner.specs.Running.{HasNoWant, Comes, Came, CameAtWork}
+use Rattle.actor_set.specs.Laws.Kinds.{manner_of}
+use Rattle.pd_runner.specs.Running.{IsReady, HasNoWant, Comes, Came, CameAtWork}
 use Rattle.pd_runner.specs.Begun.{RanOf}
 use Rattle.pd_runner.specs.Ends.{RanReady, SettledOf, LawfulOf, SpentOf, Rests}
 use Rattle.pd_runner.specs.Each.{Each, Every, AnyOf, AnyPair}
@@ -21,11 +22,11 @@ came_then rings a n b m c h k = record { stands = k.stands; comes = comes_then _
 
 module _ (rings : List RingIs) (limit : ℕ) where
   -- a part that a thread left may be stepped where it met no want
-  pub rans_ready : (olds : List Part) (rans : List Ran) → Each (RanOf rings limit) olds rans → Every (λ (r : Ran). HasNoWant r.part) rans → Every (RanReady rings limit) rans
-  rans_ready [] [] h fine = tt
-  rans_ready [] (r ∷ rans) h fine = absurd h
-  rans_ready (x ∷ olds) [] h fine = absurd h
-  rans_ready (x ∷ olds) (r ∷ rans) h fine = ((record { stands = h.0.0.stands; fine = fine.0 }, h.0.1), rans_ready olds rans h.1 fine.1)
+  pub rans_ready : (olds : List Part) (rans : List Ran) → Every (IsReady rings) olds → Each (RanOf rings limit) olds rans → Every (λ (r : Ran). HasNoWant r.part) rans → Every (RanReady rings limit) rans
+  rans_ready [] [] were h fine = tt
+  rans_ready [] (r ∷ rans) were h fine = absurd h
+  rans_ready (x ∷ olds) [] were h fine = absurd h
+  rans_ready (x ∷ olds) (r ∷ rans) were h fine = ((record { stands = h.0.0.stands; calm = ap manner_of h.0.0.comes.same ∙ were.0.calm; fine = fine.0 }, h.0.1), rans_ready olds rans were.1 h.1 fine.1)
 
   pub lawful : (stop : Bool) (old : Part) (ran : Ran) (new : Part) → RanOf rings limit old ran → SettledOf rings limit stop ran new → LawfulOf rings limit old new
   lawful stop old ran new h k = record { steps = ran.made + k.more; within = k.within; came = came_then rings old ran.made ran.part k.more new h.0 k.came.came; fine = k.fine }

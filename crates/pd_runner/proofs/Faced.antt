@@ -9,7 +9,8 @@ use Rattle.spsc_queue.specs.Known.Ends.{EndIs, RingIs}
 use Rattle.seat_wires.specs.Places.Are.{SeatsAre}
 use Rattle.seat_wires.specs.Places.{EndsOn, ends_of, stands_at}
 use Rattle.seat_wires.specs.Went.{NoneWild}
-use Rattle.actor_set.specs.Actors.{FitsActor, ActorStandsFor, actor_rests}
+use Rattle.actor_set.specs.Actors.{FitsActor, ActorStandsFor, actor_rests, part_of}
+use Rattle.actor_set.specs.Laws.Kinds.{manner_of}
 use Rattle.actor_set.specs.declared.actor.Actor.{Actor}
 use Rattle.order_law.specs.declared.actor_parts.worker.Worker.{Worker}
 use Rattle.order_law.specs.ActorParts.Given.{Kept, apart_of}
@@ -63,6 +64,7 @@ module _ (rings : List RingIs) (limit : ℕ) (k : Kept) (p q : Part) (l : Kept) 
   still_apart was = record {
     once = numbered_once (apart_of l) (part_seats rings q) numbers;
     on = numbered_on (apart_of l) (part_seats rings q) numbers ends_on;
+    calm = ap (λ (w : Worker). manner_of (part_of w.actor)) is.worker ∙ (ap manner_of lawful.came.comes.same ∙ (ap (λ (w : Worker). manner_of (part_of w.actor)) seated.worker ∙ was.calm));
     plain = numbered_plain (apart_of l) (part_seats rings q) numbers (λ r m. lawful.came.comes.went.sorts r m ∙ none_before was r m);
     fits = subst (λ (z : (Role → ℕ → End) × Actor). FitsActor z.0 z.1) (λ i. (ends_same rings (apart_of l) (part_seats rings q) after_is i, (sym is.worker i).actor)) lawful.came.stands.sits.fits;
     stands = (lawful.came.stands.sits.lists.0, subst (λ (z : Actor × Passed). ActorStandsFor z.0 z.1) (λ i. ((sym is.worker i).actor, passed_same rings (apart_of l) (part_seats rings q) after_is lawful.came.stands.sits.lists.0 i)) lawful.came.stands.sits.lists.1);

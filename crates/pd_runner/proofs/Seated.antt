@@ -5,7 +5,8 @@ use Rattle.wire_core.specs.Lists.{Passed}
 use Rattle.wire_core.specs.declared.names.QueueId.{QueueId}
 use Rattle.spsc_queue.specs.Known.Ends.{EndIs, RingIs}
 use Rattle.seat_wires.specs.Places.{stands_at, ends_of}
-use Rattle.actor_set.specs.Actors.{FitsActor, ActorStandsFor}
+use Rattle.actor_set.specs.Actors.{FitsActor, ActorStandsFor, part_of}
+use Rattle.actor_set.specs.Laws.Kinds.{manner_of}
 use Rattle.actor_set.specs.declared.actor.Actor.{Actor}
 use Rattle.order_law.specs.declared.actor_parts.worker.Worker.{Worker}
 use Rattle.order_law.specs.ActorParts.Given.{Kept, apart_of}
@@ -50,4 +51,4 @@ module _ (rings : List RingIs) (k : Kept) (apart : IsApart rings k) where
     }
 
     pub seated : IsSeated rings k p
-    seated = record { worker = same; seats = are_seats; ready = record { stands = stand; fine = ap (λ (w : Worker). w.wanted) same ∙ apart.fine } }
+    seated = record { worker = same; seats = are_seats; ready = record { stands = stand; calm = ap (λ (w : Worker). manner_of (part_of w.actor)) same ∙ apart.calm; fine = ap (λ (w : Worker). w.wanted) same ∙ apart.fine } }

@@ -25,9 +25,18 @@ use Rattle.blk_driver.proofs.BlkDriver.TheSendSync as BlkDriver
 use Rattle.blk_virt.proofs.virtualiser.BlkVirt.TheSendSync as BlkVirt
 use Rattle.client_programs.proofs.blk.BlkClient.TheSendSync as BlkClient
 use Rattle.device_model.proofs.disk.DiskDevice.TheSendSync as DiskDevice
+use Rattle.client_programs.specs.contracts.rogue.Rogue as Rogue
+use Rattle.cargo_core.proofs.act.Act.TheSendSync as Act
+use Rattle.cargo_core.proofs.item.Body.TheSendSync as Body
+use Rattle.cargo_core.proofs.item.QueueKind.TheSendSync as QueueKind
+use Rattle.cargo_core.proofs.page.Page.TheSendSync as Page
+use Rattle.wire_core.proofs.names.QueueId.TheSendSync as QueueId
 
 disk_field_send : IsSend Disk.the_field.row
 disk_field_send = let a = DiskDevice.the_field_send in search sendable depth 20
+
+rogue_field_send : IsSend Rogue.the_field.row
+rogue_field_send = let a = Act.the_send in let b = Body.the_send in let c = QueueKind.the_field_send in let d = Page.the_send in let e = QueueId.the_send in search (crosses, sendable) depth 40
 
 pub actor_field_send : IsSend Actor.the_field.row
 actor_field_send = enum_send (shape Actor.the_type) (
@@ -58,7 +67,7 @@ actor_field_send = enum_send (shape Actor.the_type) (
                           (BlkDriver.the_field_send, tt),
                           (
                             (BlkVirt.the_field_send, tt),
-                            ((BlkClient.the_field_send, tt), tt),
+                            ((BlkClient.the_field_send, tt), ((rogue_field_send, tt), tt)),
                           ),
                         ),
                       ),

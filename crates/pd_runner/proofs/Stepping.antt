@@ -4,12 +4,11 @@ use Rattle.spsc_queue.specs.Known.Ends.{RingIs}
 use Rattle.wire_core.specs.Lists.{Passed, Stepped, with_deed}
 use Rattle.wire_core.specs.declared.names.Event.{Event}
 use Rattle.wire_core.specs.Deeds.{Deed}
-use Rattle.wire_core.specs.Ends.{role_of}
 use Rattle.seat_wires.specs.Places.Are.{SeatsAre}
 use Rattle.seat_wires.specs.Places.{EndsOn, SeatDid, seat_end}
 use Rattle.seat_wires.proofs.Listing.{taken_grow, sent_grow}
 use Rattle.seat_wires.proofs.Going.{went_none, went_one, went_then}
-use Rattle.actor_set.specs.Actors.{FitsActor, ActorStandsFor, ActorEnd, ActorRow, actor_rests, part_of}
+use Rattle.actor_set.specs.Actors.{FitsActor, ActorStandsFor, ActorRow, IsActorCall, actor_rests, part_of}
 use Rattle.actor_set.specs.declared.actor.Actor.{Actor}
 use Rattle.order_law.specs.Tales.{Call, Goes, is_waiting}
 use Rattle.order_law.proofs.Telling.{goes_on}
@@ -24,7 +23,7 @@ passed_on : (s : SeatsAre) (d : Deed) (t : SeatsAre) (calls : List Event) → Se
 passed_on s d t calls h = λ i. record { taken = taken_grow s d t h i; sent = sent_grow s d t h i; calls = calls ++ d.event ∷ [] }
 
 pub comes_on : (a : Actor) (s : SeatsAre) (n : ℕ) (b : Actor) (t : SeatsAre) (c : Actor) (u : SeatsAre) (e : Event)
-    → Comes a s n b t → FitsActor (seat_end u) c → part_of c ≡ part_of b → Stepped ActorStandsFor SeatDid t u b c e → ActorEnd b (role_of e.op) e.queue.0 → (actor_rests b ≡ true → is_waiting e.op ≡ true) → Comes a s (n + 1) c u
+    → Comes a s n b t → FitsActor (seat_end u) c → part_of c ≡ part_of b → Stepped ActorStandsFor SeatDid t u b c e → IsActorCall b e → (actor_rests b ≡ true → is_waiting e.op ≡ true) → Comes a s (n + 1) c u
 comes_on a s n b t c u e h fits same st own due =
     let d : Deed = record { event = e; body = st.body } in
     record {
@@ -52,7 +51,7 @@ unfolding comes_none
 worked_none a s t is h = subst (λ (z : SeatsAre). Worked a s 0 a z) (sym is) (record { comes = comes_none a s h; at_work = tt })
 
 pub worked_on : (a : Actor) (s : SeatsAre) (n : ℕ) (b : Actor) (t : SeatsAre) (c : Actor) (u : SeatsAre) (e : Event)
-    → Worked a s n b t → FitsActor (seat_end u) c → part_of c ≡ part_of b → Stepped ActorStandsFor SeatDid t u b c e → ActorEnd b (role_of e.op) e.queue.0 → (actor_rests b ≡ true → is_waiting e.op ≡ true) → actor_rests b ≡ false → Worked a s (n + 1) c u
+    → Worked a s n b t → FitsActor (seat_end u) c → part_of c ≡ part_of b → Stepped ActorStandsFor SeatDid t u b c e → IsActorCall b e → (actor_rests b ≡ true → is_waiting e.op ≡ true) → actor_rests b ≡ false → Worked a s (n + 1) c u
 unfolding comes_on
 worked_on a s n b t c u e h fits same st own due busy = record {
   comes = comes_on a s n b t c u e h.comes fits same st own due;

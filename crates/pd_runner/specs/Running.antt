@@ -6,7 +6,9 @@ use Rattle.spsc_queue.specs.Known.Ends.{RingIs}
 use Rattle.seat_wires.specs.Places.Are.{SeatsAre}
 use Rattle.seat_wires.specs.Places.{EndsOn, seat_end, seats_taken, seats_sent}
 use Rattle.seat_wires.specs.Went.{Went}
+use Rattle.play_core.specs.Manners.{Calm}
 use Rattle.actor_set.specs.Actors.{FitsActor, ActorStandsFor, ActorRow, actor_rests, part_of}
+use Rattle.actor_set.specs.Laws.Kinds.{manner_of}
 use Rattle.actor_set.specs.declared.actor.Actor.{Actor}
 use Rattle.order_law.specs.Tales.{Call, Goes}
 use Rattle.pd_runner.specs.declared.part.Part.{Part}
@@ -50,9 +52,10 @@ pub record Stands (rings : List RingIs) (p : Part) : Type 0 where
 abbrev pub HasNoWant : Part → Type 0
 HasNoWant p = p.worker.wanted ≡ None
 
--- a part whose actor may be stepped
+-- a part whose actor isn't hostile and may be stepped
 pub record IsReady (rings : List RingIs) (p : Part) : Type 0 where
   pub stands : Stands rings p
+  pub calm : manner_of (part_of p.worker.actor) ≡ Calm
   pub fine : HasNoWant p
 
 -- the part came of the old one by n steps, and its row holds

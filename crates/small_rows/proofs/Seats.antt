@@ -8,9 +8,11 @@ use Rattle.wire_core.specs.Ends.{Role, waiting_role}
 use Rattle.wire_core.specs.Journal.{owner_of}
 use Rattle.play_core.specs.Sheets.{IsSeat}
 use Rattle.play_core.proofs.Lists.{map_get}
-use Rattle.actor_set.specs.Actors.{ActorEnd}
+use Rattle.actor_set.specs.Actors.{part_of, ActorEnd}
 use Rattle.actor_set.specs.declared.actor.Actor.{Actor}
 use Rattle.actor_set.proofs.LawsLemmas.Paces.{post_end}
+use Rattle.actor_set.specs.Laws.Kinds.{manner_of}
+use Rattle.play_core.specs.Manners.{Calm}
 use Rattle.cast_law.specs.Seats as Seated
 use Rattle.system_core.proofs.Seating.{seated_start}
 use Rattle.small_system.specs.Meanings.{Own}
@@ -29,6 +31,9 @@ module _ (rows : List QueueRow) (actors : List Actor) (wrapped : List Wrapped) (
   bare : (k : ℕ) (x : Wrapped) → slice_get wrapped k ≡ Some x → slice_get actors k ≡ Some x.actor
   bare k x at = ap (λ xs. slice_get xs k) (sym are) ∙ map_get (λ (y : Wrapped). y.actor) wrapped k x at
 
+  calm : (k : ℕ) (x : Wrapped) → slice_get wrapped k ≡ Some x → manner_of (part_of x.actor) ≡ Calm
+  calm k x at = s.calm k (part_of x.actor) (map_get part_of actors k x.actor (bare k x at))
+
   many : length actors ≡ length wrapped
   many = ap length (sym are) ∙ length-map wrapped (λ (y : Wrapped). y.actor)
 
@@ -39,7 +44,7 @@ module _ (rows : List QueueRow) (actors : List Actor) (wrapped : List Wrapped) (
       (seat.row, seat.there, seat.owner)
 
   all : (k : ℕ) (x : Wrapped) → slice_get wrapped k ≡ Some x → (r : Role) (n : ℕ) → IsSeat rows k (record { queue = n; role = r }) → Own wrapped_means x r n
-  all k x at r n seat = own_end x r n (s.ends k x.actor (bare k x at) n seat.0 seat.1 r seat.2)
+  all k x at r n seat = own_end x (calm k x at) r n (s.ends k x.actor (bare k x at) n seat.0 seat.1 r seat.2)
 
   pub wrapped_begin : Begins wrapped_means rows wrapped
   wrapped_begin =
@@ -49,7 +54,7 @@ module _ (rows : List QueueRow) (actors : List Actor) (wrapped : List Wrapped) (
         peopled = λ n row at r. subst (λ m. owner_of row r < m) many (s.peers n row at r);
         few = subst (λ m. m ≤ 65536) many s.few;
         seated = record { given = given; all = all };
-        fits = λ k x at. start.fits k x.actor (bare k x at);
+        fits = λ k x at. (start.fits k x.actor (bare k x at), calm k x at);
         rounds = λ k x at. start.rounds k x.actor (bare k x at);
         stands = λ k x at. start.stands k x.actor (bare k x at);
       }

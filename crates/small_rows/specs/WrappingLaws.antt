@@ -9,7 +9,9 @@ use Rattle.wire_core.specs.Deeds.{Deed, Cargo}
 use Rattle.wire_core.specs.Lists.{Passed, with_deed}
 use Rattle.wire_core.proofs.Beside.{take_beside, put_beside}
 use Rattle.turn_kit.specs.Turns.{Post}
-use Rattle.actor_set.specs.Actors.{FitsActor, ActorStandsFor, ActorEnd, actor_round}
+use Rattle.play_core.specs.Manners.{Calm}
+use Rattle.actor_set.specs.Actors.{FitsActor, ActorStandsFor, ActorEnd, actor_round, part_of}
+use Rattle.actor_set.specs.Laws.Kinds.{manner_of}
 use Rattle.actor_set.proofs.LawsLemmas.Beside.{fits_beside, stands_beside}
 use Rattle.actor_set.proofs.LawsLemmas.Paces.{post_stands, end_post}
 use Rattle.actor_set.proofs.LawsLemmas.Starts.{fits_whole}
@@ -17,36 +19,39 @@ use Rattle.small_system.specs.Meanings.{Own, Lawful}
 use Rattle.small_rows.specs.declared.wrapping.Wrapped.{Wrapped}
 use Rattle.small_rows.specs.Wrappings.{wrapped_means}
 
--- an end of an actor is one of its posts
-pub own_end : (x : Wrapped) (r : Role) (n : ℕ) → ActorEnd x.actor r n → Own wrapped_means x r n
-own_end x Consumer n h =
-    let p = end_post x.actor Forward n h in
+-- an end of an actor that isn't hostile is one of its posts
+pub own_end : (x : Wrapped) → manner_of (part_of x.actor) ≡ Calm → (r : Role) (n : ℕ)
+    → ActorEnd x.actor r n → Own wrapped_means x r n
+own_end x calm Consumer n h =
+    let p = end_post x.actor Forward n calm h in
     record { place = p.0; post = p.1; there = p.2; queue = p.3; role = ap waiting_role p.4 }
-own_end x Producer n h =
-    let p = end_post x.actor Backward n h in
+own_end x calm Producer n h =
+    let p = end_post x.actor Backward n calm h in
     record { place = p.0; post = p.1; there = p.2; queue = p.3; role = ap waiting_role p.4 }
 
 still : (xs more : List Cargo) → more ≡ [] → xs ++ more ≡ xs
 still xs more none = ap (λ c. xs ++ c) none ∙ append-nil xs
 
 -- the end at which a call is made
-called_at : (x : Wrapped) (d : Deed) (r : Role) (n : ℕ) → role_of d.event.op ≡ r
+called_at : (x : Wrapped) → manner_of (part_of x.actor) ≡ Calm → (d : Deed) (r : Role) (n : ℕ)
+    → role_of d.event.op ≡ r
     → d.event.queue.0 ≡ n → ActorEnd x.actor r n
     → Own wrapped_means x (role_of d.event.op) d.event.queue.0
-called_at x d r n a b own =
-    own_end x (role_of d.event.op) d.event.queue.0
+called_at x calm d r n a b own =
+    own_end x calm (role_of d.event.op) d.event.queue.0
     (subst (λ q. ActorEnd x.actor q d.event.queue.0) (sym a)
     (subst (ActorEnd x.actor r) (sym b) own))
 
-beside : (ends : Role → ℕ → End) (p : Passed) (d : Deed) (x : Wrapped) → FitsActor ends x.actor
+beside : (ends : Role → ℕ → End) (p : Passed) (d : Deed) (x : Wrapped)
+    → FitsActor ends x.actor × (manner_of (part_of x.actor) ≡ Calm)
     → (Own wrapped_means x (role_of d.event.op) d.event.queue.0 → ⊥) → ActorStandsFor x.actor p
     → ActorStandsFor x.actor (with_deed p d)
 beside ends p d x f off st =
-    stands_beside p (with_deed p d) x.actor (fits_whole ends x.actor f)
+    stands_beside p (with_deed p d) x.actor (fits_whole ends x.actor f.0)
     (λ n own. still (p.taken n) _
-    (take_beside d n (λ a b. off (called_at x d Consumer n a b own))))
+    (take_beside d n (λ a b. off (called_at x f.1 d Consumer n a b own))))
     (λ n own. still (p.sent n) _
-    (put_beside d n (λ a b. off (called_at x d Producer n a b own))))
+    (put_beside d n (λ a b. off (called_at x f.1 d Producer n a b own))))
     st
 
 -- what holds of each holds of all
@@ -60,7 +65,7 @@ all_from (p ∷ ps) h = (h zero p refl, all_from ps (λ k q. h (suc k) q))
 pub wrapped_lawful : Lawful wrapped_means
 wrapped_lawful = record {
   fits_beside = λ a b x same f.
-      fits_beside a b x.actor (λ r n own. same r n (own_end x r n own)) f;
+      (fits_beside a b x.actor (λ r n own. same r n (own_end x f.1 r n own)) f.0, f.1);
   stands_beside = beside;
   waits = λ x. all_from (actor_round x.actor).posts (λ k p at. (post_stands x.actor k p at).1);
 }

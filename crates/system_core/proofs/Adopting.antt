@@ -28,9 +28,10 @@ use Rattle.play_core.specs.Rests.Showing.{HaveItems, HaveBells}
 use Rattle.actor_set.specs.Parts.{Part}
 use Rattle.actor_set.specs.Actors.{FitsActor, ActorStandsFor, ActorEnd, Forgot, IsWhole, part_of, actor_round, actor_rests}
 use Rattle.actor_set.specs.declared.actor.Actor.{Actor}
-use Rattle.actor_set.specs.Laws.Kinds.{sheet, scene_of, hostiles}
+use Rattle.actor_set.specs.Laws.Kinds.{AllCalm, sheet, scene_of, hostiles}
 use Rattle.actor_set.specs.Laws.Turning.{InTurn}
 use Rattle.actor_set.proofs.LawsLemmas.PartEnds.{to_part, end_seat}
+use Rattle.actor_set.proofs.LawsLemmas.Rounds.{anew_is}
 use Rattle.actor_set.proofs.LawsLemmas.Starts.{fits_whole}
 use Rattle.wired_law.specs.Wiring.{AreAtWork, AreOfKind, ClientsSend}
 use Rattle.cast_law.specs.Pools.Places.{PoolPlace, IsInPlace, IsPlaced, HasPools, cast_naming}
@@ -94,11 +95,11 @@ history_is rows (e ∷ ended) same = refl
 all_of : {X : Type 0} (P : X → Type 0) (xs : List X) (k : ℕ) (x : X) → All P xs → slice_get xs k ≡ Some x → P x
 all_of P xs k x all at = subst P (get_or_from_slice_get xs k x x at) (all k x (there_below xs k x at))
 
-parts_same : (actors nows : List Actor) → AllZip IsForgotten actors nows → map part_of nows ≡ map part_of actors
-parts_same [] [] all = refl
-parts_same [] (y ∷ ys) all = absurd all
-parts_same (x ∷ xs) [] all = absurd all
-parts_same (x ∷ xs) (y ∷ ys) all = ap (λ (p : Part). p ∷ map part_of ys) all.0.part ∙ ap (λ (ps : List Part). part_of x ∷ ps) (parts_same xs ys all.1)
+parts_same : (actors nows : List Actor) → AllCalm (map part_of actors) → AllZip IsForgotten actors nows → map part_of nows ≡ map part_of actors
+parts_same [] [] calm all = refl
+parts_same [] (y ∷ ys) calm all = absurd all
+parts_same (x ∷ xs) [] calm all = absurd all
+parts_same (x ∷ xs) (y ∷ ys) calm all = ap (λ (p : Part). p ∷ map part_of ys) (all.0.part ∙ anew_is x (calm 0 (part_of x) refl)) ∙ ap (λ (ps : List Part). part_of x ∷ ps) (parts_same xs ys (λ k p at. calm (suc k) p at) all.1)
 
 -- no word was stored there
 none_stored : (rows : List QueueRow) (ended : List EndedIs) (n : ℕ) → (queue_at (all_adopted rows ended) n).indices.stored ≡ false
@@ -125,12 +126,19 @@ module _ (s : Setting) (rings : List RingIs) (parts : List Apart) (fitted : IsFi
   abbrev history : History
   history = history_left ended
 
+  -- nobody is hostile
+  calm : AllCalm (map part_of actors)
+  calm = subst AllCalm (sym cast) fitted.calm
+
   -- in the scene that the parts give
   in_place : IsInPlace rows s.pools s.cast
   in_place = fitted_place s fitted
 
   cast_now : map part_of nows ≡ s.cast
-  cast_now = parts_same actors nows forgotten ∙ cast
+  cast_now = parts_same actors nows calm forgotten ∙ cast
+
+  calm_now : AllCalm (map part_of nows)
+  calm_now = subst AllCalm (sym cast_now) fitted.calm
 
   parts_many : length parts ≡ length s.cast
   parts_many = sym (length-map parts (λ (p : Apart). p.actor)) ∙ (sym (ap length done.actors_are) ∙ (sym (length-map actors part_of) ∙ ap length cast))
@@ -215,7 +223,7 @@ module _ (s : Setting) (rings : List RingIs) (parts : List Apart) (fitted : IsFi
   items = record { taken = taken_shown ended; sent = sent_shown ended }
 
   sends_now : ClientsSend rows (map part_of nows) passed
-  sends_now = subst (λ (c : List Part). ClientsSend rows c passed) (sym (parts_same actors nows forgotten)) held.sends
+  sends_now = subst (λ (c : List Part). ClientsSend rows c passed) (sym (parts_same actors nows calm forgotten)) held.sends
 
   work : AreAtWork (end_at world) rows nows passed
   work = record { fits = fits_now; stands = stands_now; hands_over = λ n. ((queue_at world n).entries, sym (stands_there n)); kinds = kinds }
@@ -225,6 +233,7 @@ module _ (s : Setting) (rings : List RingIs) (parts : List Apart) (fitted : IsFi
 
   pub holds : Holds history rows world nows []
   holds = record {
+    calm = calm_now;
     passed = passed;
     stands_there = stands_there;
     shows_taken = taken_shown ended;
@@ -235,14 +244,14 @@ module _ (s : Setting) (rings : List RingIs) (parts : List Apart) (fitted : IsFi
     fits = fits_now;
     stands = stands_now;
     carry = λ place placed. (
-        let same = parts_same actors nows forgotten in
+        let same = parts_same actors nows calm forgotten in
         subst (λ (c : List Part). CarryPages (cast_naming (scene_of c) place) (moved history []) passed) (sym same) (held.carry place (subst (IsPlaced rows place) same placed) (moved history []) items)
         );
     sends = sends_now;
     in_turn = turns_now;
     owners = λ k x at r n own row there. (let o = own_now k x at r n own in ap (λ (w : QueueRow). owner_of w r) (some_is (sym there ∙ o.1)) ∙ o.2);
     unstored = λ n row at calm. none_stored rows ended n;
-    paced = λ k x at calm. paced_anew (pendings history []) (actor_round x) (fits_round (end_at world) x (fits_now k x at) (no_loop k x at));
+    paced = λ k x at calm. paced_anew (pendings history []) (actor_round x) (fits_round (end_at world) x (calm_now k (part_of x) (map_get part_of nows k x at)) (fits_now k x at) (no_loop k x at));
     peers = λ n row at r. subst (λ (m : ℕ). owner_of row r < m) (sym nows_many) (fitted.peopled n row at r);
     few = subst (λ (m : ℕ). m ≤ 65536) (sym nows_many) few;
     legal = tt;
@@ -254,6 +263,7 @@ module _ (s : Setting) (rings : List RingIs) (parts : List Apart) (fitted : IsFi
   -- the cast is at play
   pub at_play : AreAtPlay history rows nows [] passed world
   at_play = record {
+    calm = calm_now;
     peopled = subst (λ (c : List Part). IsPeopled rows (length c)) (sym cast_now) fitted.peopled;
     seated = subst (λ (c : List Part). AreSeated (sheet (scene_of c)) rows c) (sym cast_now) in_place.seated;
     filled = subst (λ (c : List Part). AreFilled (sheet (scene_of c)) rows c) (sym cast_now) in_place.filled;
@@ -274,6 +284,7 @@ module _ (s : Setting) (rings : List RingIs) (parts : List Apart) (fitted : IsFi
     refitted : IsFitted (record s { history = history })
     refitted = record {
       scene_is = fitted.scene_is;
+      calm = fitted.calm;
       names_are = fitted.names_are;
       peopled = fitted.peopled;
       seated = fitted.seated;
@@ -302,8 +313,8 @@ module _ (s : Setting) (rings : List RingIs) (parts : List Apart) (fitted : IsFi
         let o = own_of k (part_of p.actor) part p.actor refl (fits_whole (apart_end p) p.actor (fits_apart k p at)) r n own in
         (let lt = there_below rows n o.0 o.1 in let long = left.size in omega (arith, lt, long), same_end rows rings parts actors ended apart peopled done k p at r n o.0 o.1 o.2)
         ))
-        (fits_apart k p at) (subst (λ z. InTurn z p.actor passed) (sym fitted.scene_is) (subst (λ (c : List Part). InTurn (scene_of c) p.actor passed) cast (held.in_turn k p.actor here))) (held.stands k p.actor here) items
-        ∙ ap (all_settled history []) (sym (wants_plain (record s { history = history }) (part_of p.actor) (moved history [])))
+        (fits_apart k p at) (apart.stand k p at).calm (subst (λ z. InTurn z p.actor passed) (sym fitted.scene_is) (subst (λ (c : List Part). InTurn (scene_of c) p.actor passed) cast (held.in_turn k p.actor here))) (held.stands k p.actor here) items
+        ∙ ap (all_settled history []) (sym (wants_plain (record s { history = history }) fitted.calm (part_of p.actor) (moved history [])))
       where
         bells : HaveBells world history []
         bells n lt = let row = there_is rows n (let long = left.size in omega (arith, lt, long)) in (left.each n row.0 row.1).shown.bells

@@ -42,7 +42,7 @@ module _ (plan : Plan) (serial : Serial) (first : ℕ) (trace : Trace) (s : Sett
   holds k p at i x end =
       let seat = fitted.seated k p at i x end in
       let c = fitted.places x.queue seat.0 seat.1 in
-      record { row = seat.0; there = seat.1; calm = calm_row s.cast seat.0; enough = subst (λ m. 1 ≤ m) (sym c.2) (some_power c.0) }
+      record { row = seat.0; there = seat.1; calm = calm_row s.cast fitted.calm seat.0; enough = subst (λ m. 1 ≤ m) (sym c.2) (some_power c.0) }
     where
       some_power : (k : ℕ) → 1 ≤ 2 ^ k
       some_power k = let p : 0 < 2 ^ k = pow_pos k in omega (arith, p)

@@ -39,6 +39,7 @@ are_sized rows few places = record { few = few; capacities = capacities rows pla
 -- the cast of a setting that fits is in place
 pub fitted_place : (s : Setting) → IsFitted s → IsInPlace s.rows s.pools s.cast
 fitted_place s fitted = record {
+  calm = fitted.calm;
   peopled = fitted.peopled;
   seated = subst (λ z. HaveSeats (sheet z) s.rows s.cast) fitted.scene_is fitted.seated;
   filled = subst (λ z. AreFilled (sheet z) s.rows s.cast) fitted.scene_is fitted.ends;
@@ -73,6 +74,7 @@ module _ (rows : List QueueRow) (actors : List Actor) (s : AreSeated rows actors
     pub seated_fit : IsFitted (begun history rows pools actors net serial blk)
     seated_fit = record {
       scene_is = refl;
+      calm = s.calm;
       names_are = refl;
       peopled = λ n row at r. subst (λ m. owner_of row r < m) (sym (length-map actors part_of)) (s.peers n row at r);
       seated = end_given;
@@ -89,7 +91,7 @@ module _ (rows : List QueueRow) (actors : List Actor) (s : AreSeated rows actors
 pub start_goes : (rows : List QueueRow) (pools : List PoolRow) (actors : List Actor) (net serial blk : Crew) → AreSeated rows actors → ArePooled rows pools (map part_of actors) → GoesOn (begun (start_history rows) rows pools actors net serial blk) (starts rows) actors
 start_goes rows pools actors net serial blk s pooled =
     let start : Setting = begun (start_history rows) rows pools actors net serial blk in
-    let fitted : IsFitted start = seated_fit rows actors s (start_history rows) pools net serial blk pooled (λ place placed has. owners_anew rows (map part_of actors) (end_given rows actors s) place placed has.numbered) in record {
+    let fitted : IsFitted start = seated_fit rows actors s (start_history rows) pools net serial blk pooled (λ place placed has. owners_anew rows (map part_of actors) s.calm (end_given rows actors s) place placed has.numbered) in record {
       fitted = fitted;
       before = record { bells_hold = starts_hold (hostiles (map part_of actors)) rows; flows = starts_flow rows };
       holds = start_holds rows pools actors (fitted_place start fitted) (seated_start rows actors s);

@@ -67,7 +67,7 @@ module _ (a : Inside) (i : IsSystem a) where
   -- a runnable actor is one of its actors
   pub runner_there : (place k : ℕ) → slice_get a.running.list place ≡ Some k → k < length a.actors.items
   runner_there place k at =
-      let below = runs_below (setting_of a).history a.rows.items (map part_of a.actors.items) a.journal.items place k (rw (i.running ∙ runs_plain (setting_of a) a.journal.items) at at) in
+      let below = runs_below (setting_of a).history a.rows.items (map part_of a.actors.items) a.journal.items place k (rw (i.running ∙ runs_plain (setting_of a) i.fitted.calm a.journal.items) at at) in
       let size = length-map a.actors.items part_of in
       omega (arith, below, size)
 

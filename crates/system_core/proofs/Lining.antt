@@ -34,12 +34,13 @@ module _ (a : Inside) (i : IsSystem a) where
   -- it is a cast at play
   at_play : AreAtPlay (setting_of a).history a.rows.items a.actors.items a.journal.items i.holds.passed a.world
   at_play = record {
+    calm = i.fitted.calm;
     peopled = i.fitted.peopled;
     seated = i.fitted.seated;
     filled = i.fitted.ends;
     legal = i.holds.legal;
     flows = queues_flow (hostile_in (setting_of a)) (setting_of a).history a.rows.items a.journal.items i.before.flows i.holds.legal;
-    rows_hold = each_plain (setting_of a) a.journal.items i.rows_hold;
+    rows_hold = each_plain (setting_of a) i.fitted.calm a.journal.items i.rows_hold;
     items = items_here (setting_of a).history a.rows.items a.world a.actors.items a.journal.items i.holds;
     stands_there = i.holds.stands_there;
     size = i.holds.size;
@@ -60,7 +61,7 @@ module _ (a : Inside) (i : IsSystem a) where
   -- so they are from the start state on, where each pool's buffers are in its owner's hand
   pub pool_lines_anew : (setting_of a).history ≡ start_history a.rows.items → (place : PoolPlace) → IsPlaced a.rows.items place cast → HasPools a.pools.items place → counted_lines a.world (holders_of a.actors.items) 0 a.pools.items ≡ table_lines (replay (cast_naming (scene_of cast) place) (start_history a.rows.items) (start_table (keepers_at cast)) a.journal.items) 0 a.pools.items
   pool_lines_anew anew place placed has =
-      let begins = subst (λ h. BeginsWith h a.rows.items place cast (start_table (keepers_at cast))) (sym anew) (begins_anew a.rows.items cast i.fitted.seated place placed has.numbered) in
+      let begins = subst (λ h. BeginsWith h a.rows.items place cast (start_table (keepers_at cast))) (sym anew) (begins_anew a.rows.items cast i.fitted.calm i.fitted.seated place placed has.numbered) in
       subst (λ h. counted_lines a.world (holders_of a.actors.items) 0 a.pools.items ≡ table_lines (replay (cast_naming (scene_of cast) place) h (start_table (keepers_at cast)) a.journal.items) 0 a.pools.items) anew (pool_lines place placed has (start_table (keepers_at cast)) begins)
 
   pub without_pools : HasNoNetwork cast → HasNoBlock cast → counted_lines a.world (holders_of a.actors.items) 0 a.pools.items ≡ []
@@ -92,7 +93,7 @@ module _ (a : Inside) (i : IsSystem a) where
 
   -- a pool's number has 16 bits
   pub few_pools : length a.pools.items ≤ 65536
-  few_pools = pools_few a.rows.items a.pools.items cast i.fitted.pooled i.fitted.seated i.fitted.numbered
+  few_pools = pools_few a.rows.items a.pools.items cast i.fitted.calm i.fitted.pooled i.fitted.seated i.fitted.numbered
 
   pub queues_few : length a.world ≤ 65536
   queues_few = omega (arith, i.holds.size, i.fitted.numbered)

@@ -11,9 +11,11 @@ use Rattle.wire_core.specs.Journal.{History, Track, IsShown, start_track, start_
 use Rattle.wire_core.specs.Sizes.{AreSized}
 use Rattle.wire_core.proofs.BellTheorem.{start_is}
 use Rattle.play_core.proofs.Lists.{map_get}
-use Rattle.actor_set.specs.Actors.{FitsActor, IsWhole, part_of}
+use Rattle.actor_set.specs.Parts.{Part}
+use Rattle.actor_set.specs.Actors.{FitsActor, IsWhole, part_anew, part_of}
 use Rattle.actor_set.specs.declared.actor.Actor.{Actor}
-use Rattle.actor_set.specs.Laws.Kinds.{scene_of}
+use Rattle.actor_set.specs.Laws.Kinds.{AllCalm, scene_of}
+use Rattle.actor_set.proofs.LawsLemmas.Rounds.{anew_is}
 use Rattle.actor_set.proofs.LawsLemmas.Beside.{stands_beside}
 use Rattle.actor_set.proofs.LawsLemmas.Starts.{fits_whole}
 use Rattle.actor_set.proofs.LawsLemmas.PartEnds.{to_part, end_seat}
@@ -60,12 +62,18 @@ module _ (a : Inside) (i : IsSystem a) (anew : (setting_of a).history ≡ start_
   -- its actors fit the queues in their start state, and own the ends that they have there
   pub are_ready : AreReady a.rows.items a.actors.items
   are_ready = record {
+    calm = λ k x at. i.fitted.calm k (part_of x) (map_get part_of a.actors.items k x at);
     fits = λ k x at. subst (λ (e : Role → ℕ → End). FitsActor e x) (start_ends a.rows.items a.world a.actors.items holds) (holds.fits k x at);
     stands = λ k x at. stands_beside holds.passed nothing_passed x (whole k x at) (λ n e. sym (none_taken a.rows.items a.world a.actors.items holds n)) (λ n e. sym (none_sent a.rows.items a.world a.actors.items holds n)) (holds.stands k x at);
     owners = λ k x at r n own.
         let e = end_seat (scene_of (map part_of a.actors.items)) (part_of x) r n (to_part x r n (whole k x at) own) in
         i.fitted.seated k (part_of x) (map_get part_of a.actors.items k x at) e.0 (record { queue = n; role = r }) e.1;
   }
+
+-- what its actors are made of stays where they forget their looks
+pub all_anew : (actors : List Actor) → AllCalm (map part_of actors) → map part_anew actors ≡ map part_of actors
+all_anew [] calm = refl
+all_anew (x ∷ actors) calm = ap (λ (p : Part). p ∷ map part_anew actors) (anew_is x (calm 0 (part_of x) refl)) ∙ ap (λ (ps : List Part). part_of x ∷ ps) (all_anew actors (λ k p at. calm (suc k) p at))
 
 -- rings can be opened for its queues
 pub rings_fit : (a : Inside) → IsSystem a → AreSized a.rows.items

@@ -76,9 +76,9 @@ module _ (history : History) (rows : List QueueRow) (w : List Queue) (actors : L
       → (option_map (frames_from actors) device ≡ Some (wire_at net (scene_of (map part_of actors)).frames (taken history (net.first + 2) journal))) × PrefixMerge (sends_at net.programs net.macs (scene_of (map part_of actors)).frames) (wire_at net (scene_of (map part_of actors)).frames (taken history (net.first + 2) journal))
   wire_here net whole device k is part =
       let x = map_from part_of actors k (NetworkPart (device_at net.first (scene_of (map part_of actors)).frames)) part in
-      let told : frames_got x.0 ≡ wire_at net (scene_of (map part_of actors)).frames (taken history (net.first + 2) journal) = sent_told (end_at w) rows actors h.passed net whole at_work h.sends k x.0 x.1 x.2 ∙ ap (wire_at net (scene_of (map part_of actors)).frames) (h.shows_taken (net.first + 2)) in (
+      let told : frames_got x.0 ≡ wire_at net (scene_of (map part_of actors)).frames (taken history (net.first + 2) journal) = sent_told (end_at w) rows actors h.passed net h.calm whole at_work h.sends k x.0 x.1 x.2 ∙ ap (wire_at net (scene_of (map part_of actors)).frames) (h.shows_taken (net.first + 2)) in (
         ap (option_map (frames_from actors)) is ∙ ap Some (ap (λ o. option_map_or frames_got o []) x.1 ∙ told),
-        subst (PrefixMerge (sends_at net.programs net.macs (scene_of (map part_of actors)).frames)) told (sent_on (end_at w) rows actors h.passed net whole at_work h.sends k x.0 x.1 x.2),
+        subst (PrefixMerge (sends_at net.programs net.macs (scene_of (map part_of actors)).frames)) told (sent_on (end_at w) rows actors h.passed net h.calm whole at_work h.sends k x.0 x.1 x.2),
       )
 
   -- a reply was recorded for each response that was taken

@@ -37,6 +37,7 @@ use Rattle.player_kit.proofs.Showing.{starts_shown, nothing_there, none_stored}
 -- a start state holds
 pub start_holds : (rows : List QueueRow) (pools : List PoolRow) (actors : List Actor) → IsInPlace rows pools (map part_of actors) → AreStarting rows actors → Holds (start_history rows) rows (starts rows) actors []
 start_holds rows pools actors in_place s = record {
+  calm = in_place.calm;
   passed = nothing_passed;
   stands_there = λ n. sym (nothing_there rows n);
   shows_taken = λ n. ap (λ t. t.taken) (sym (start_is rows n));

@@ -1,4 +1,4 @@
-use Rattle.std.proofs.Common.{◌≡◌, ◌≢◌, ◌⊎◌, ◌<◌, ◌≤◌, ◌+◌, ◌==◌, ℕ, Bool, true, false, not, ◌||◌, Option, Some, None, List, [], ◌∷◌, ◌++◌, length, length-set, slice_get, slice_set, slice_index_or, map, subst, refl, sym, ap, ◌∙◌, arith, inl, inr, zero, suc}
+use Rattle.std.proofs.Common.{◌≡◌, ◌≢◌, ◌⊎◌, ◌<◌, ◌≤◌, ◌+◌, ◌==◌, ℕ, Bool, true, false, not, ◌&&◌, ◌||◌, Option, Some, None, List, [], ◌∷◌, ◌++◌, length, length-set, slice_get, slice_set, slice_index_or, map, subst, refl, sym, ap, ◌∙◌, arith, inl, inr, zero, suc}
 use Rattle.std.proofs.lemmas.List.{length-map}
 use Rattle.std.proofs.lemmas.Option.{slice_get_past, slice_get_read}
 use Rattle.wire_core.specs.declared.names.PoolRow.{PoolRow}
@@ -24,9 +24,9 @@ use Rattle.play_core.proofs.Lists.{some_is, map_get, there_is}
 use Rattle.play_core.proofs.Flags.{differs_at, differs_twice, flag_at, flags_length, reach_owns}
 use Rattle.play_core.proofs.Tables.{others_run}
 use Rattle.actor_set.specs.Parts.{Part}
-use Rattle.actor_set.specs.Actors.{FitsActor, ActorStandsFor, ActorEnd, ActorTurned, actor_round, actor_rests, part_of}
+use Rattle.actor_set.specs.Actors.{IsActorCall, FitsActor, ActorStandsFor, ActorEnd, ActorTurned, actor_round, actor_rests, part_of}
 use Rattle.actor_set.specs.declared.actor.Actor.{Actor}
-use Rattle.play_core.specs.Manners.{Manner, Manners, Calm}
+use Rattle.play_core.specs.Manners.{Manner, Manners, Calm, Hostile, is_hostile}
 use Rattle.actor_set.specs.Laws.Kinds.{scene_of, sheet, manner_of, manners, hostiles, idles}
 use Rattle.system_core.specs.Shows.{Crew, Setting, hostile_in, runs, RowsStand}
 use Rattle.system_core.specs.Lawful.{IsFitted}
@@ -39,7 +39,7 @@ use Rattle.system_core.proofs.SystemStep.{step_holds, map_same, entry_of}
 use Rattle.system_core.proofs.RunsNow.{idle_here, rests_here}
 use Rattle.actor_set.proofs.LawsLemmas.PartEnds.{from_part, seat_end}
 use Rattle.actor_set.proofs.LawsLemmas.Paces.{called_end}
-use Rattle.actor_set.proofs.LawsLemmas.Rounds.{rests_is}
+use Rattle.actor_set.proofs.LawsLemmas.Rounds.{own_is, rests_is}
 use Rattle.cast_law.specs.Pools.Places.{IsInPlace}
 use Rattle.system_core.proofs.Fitting.{fitted_place}
 use Rattle.system_core.proofs.Telling.{plain_runs, rows_told, runs_plain}
@@ -165,11 +165,17 @@ rung_there history rows w actors journal old k x e row m within is rung =
     rw length-set lt
 
 -- who makes a call owns the end at which it is made
-pub caller_owns : (history : History) (rows : List QueueRow) (w : List Queue) (actors : List Actor) (journal : List Entry) → Holds history rows w actors journal → (k : ℕ) (x : Actor) (e : Event) (row : QueueRow) → k < length actors → e.queue.0 < length w → x ≡ slice_index_or actors k x → row ≡ slice_index_or rows e.queue.0 row → ActorEnd x (role_of e.op) e.queue.0 → owner_of row (role_of e.op) ≡ k
+pub caller_owns : (history : History) (rows : List QueueRow) (w : List Queue) (actors : List Actor) (journal : List Entry) → Holds history rows w actors journal → (k : ℕ) (x : Actor) (e : Event) (row : QueueRow) → k < length actors → e.queue.0 < length w → x ≡ slice_index_or actors k x → row ≡ slice_index_or rows e.queue.0 row → IsActorCall x e → owner_of row (role_of e.op) ≡ k
 caller_owns history rows w actors journal old k x e row below within x_is row_is own =
     let here : slice_get actors k ≡ Some x = slice_get_read actors _ k x refl below x_is in
     let there : slice_get rows e.queue.0 ≡ Some row = slice_get_read rows _ e.queue.0 row refl (subst (λ n. e.queue.0 < n) old.size within) row_is in
-    old.owners k x here (role_of e.op) e.queue.0 own row there
+    old.owners k x here (role_of e.op) e.queue.0 (own_is x e (old.calm k (part_of x) (map_get part_of actors k x here)) own) row there
+
+-- an actor isn't runnable where it rests and is hostile or isn't called
+pub idles_so : (m : Manner) (rests called : Bool) → (rests && (is_hostile m || not called)) ≡ idles m rests called
+idles_so Calm rests called = refl
+idles_so (Hostile done) true called = refl
+idles_so (Hostile done) false called = refl
 
 -- at an end of the caller's own, only a call that reaches the other owner changes anything for it
 pub own_reach : (op : Op) (row : QueueRow) (k : ℕ) → owner_of row (role_of op) ≡ k → reaches op ≡ false → reach_of op row k ≡ None
@@ -188,9 +194,9 @@ module _ (history : History) (rows : List QueueRow) (pools : List PoolRow) (net 
   runs_called fitted old here at rest =
       let part : slice_get (map part_of actors) k ≡ Some (part_of x) = map_get part_of actors k x here in
       let so = places_so 0 k k place (flags history rows (map part_of actors) journal) (omega arith) at in
-      let flag : is_runnable Calm k (wanted history rows (map part_of actors) (part_of x) journal) history rows journal ≡ true = subst (λ m. is_runnable m k (wanted history rows (map part_of actors) (part_of x) journal) history rows journal ≡ true) (calm_manner (map part_of actors) k) (some_is (sym (flag_of history rows (map part_of actors) journal k (part_of x) part) ∙ so)) in
-      let settled : all_settled history journal (wanted history rows (map part_of actors) (part_of x) journal) ≡ true = sym (rests_here (scene_of (map part_of actors)) history rows w actors journal old refl k x here) ∙ (rests_is x ∙ rest) in
-      called_end k x history rows journal
+      let flag : is_runnable Calm k (wanted history rows (map part_of actors) (part_of x) journal) history rows journal ≡ true = subst (λ m. is_runnable m k (wanted history rows (map part_of actors) (part_of x) journal) history rows journal ≡ true) (calm_manner (map part_of actors) old.calm k) (some_is (sym (flag_of history rows (map part_of actors) journal k (part_of x) part) ∙ so)) in
+      let settled : all_settled history journal (wanted history rows (map part_of actors) (part_of x) journal) ≡ true = sym (rests_here (scene_of (map part_of actors)) history rows w actors journal old refl k x here) ∙ (rests_is x (old.calm k (part_of x) part) ∙ rest) in
+      called_end k x history rows journal (old.calm k (part_of x) part)
       (λ n row there r owner. let g = fitted.ends k (part_of x) part (record { queue = n; role = r }) (row, there, owner) in from_part x r n (seat_end (scene_of (map part_of actors)) (part_of x) g.0 (record { queue = n; role = r }) g.1))
       (called_so (all_settled history journal (wanted history rows (map part_of actors) (part_of x) journal)) (called_from k 0 history rows journal) settled flag)
 
@@ -224,29 +230,30 @@ module _ (history : History) (rows : List QueueRow) (pools : List PoolRow) (net 
   setting = record { history = history; rows = rows; pools = pools; cast = map part_of actors; scene = scene_of (map part_of actors); names = []; net = net; serial = serial; blk = blk }
 
   pub system_then : IsFitted setting → Holds history rows w actors journal → EachMoment (RowsStand setting) journal → list ≡ runs setting journal → length actors ≤ room → Brisk (hostile_in setting) rows no_drops journal
-      → slice_get list place ≡ Some k → x ≡ slice_index_or actors k x → ActorEnd x (role_of e.op) e.queue.0 → Stepped ActorStandsFor Happens w v x x' e → ActorTurned x e x' → FitsActor (end_at v) x' → part_of x' ≡ part_of x
+      → slice_get list place ≡ Some k → x ≡ slice_index_or actors k x → IsActorCall x e → Stepped ActorStandsFor Happens w v x x' e → ActorTurned x e x' → FitsActor (end_at v) x' → part_of x' ≡ part_of x
       → y ≡ slice_index_or (slice_set actors k x') k y → row ≡ slice_index_or rows e.queue.0 row → idle ≡ idles (manner_of (part_of y)) (actor_rests y) (is_pending k v) → rung ≡ reach_of e.op row k → IsAsked (slice_set actors k x') v rung woken
       → StepThen setting v (slice_set actors k x') (journal ++ entry_of k e ∷ []) (with_option rung woken (removed_if idle list place)) room
   system_then fitted old rows_old running le brisk at x_is own st turned fits part y_is row_is idle_is rung_is asked =
-      let running' : list ≡ plain_runs setting journal = running ∙ runs_plain setting journal in
+      let running' : list ≡ plain_runs setting journal = running ∙ runs_plain setting fitted.calm journal in
       let at' : slice_get (plain_runs setting journal) place ≡ Some k = rw (← running') at in
       let size : length (map part_of actors) ≡ length actors = length-map actors part_of in
       let below : k < length (map part_of actors) = runs_below history rows (map part_of actors) journal place k at' in
       let lt : k < length actors = omega (arith, below, size) in
       let here : slice_get actors k ≡ Some x = slice_get_read actors _ k x refl lt x_is in
       let there : slice_get rows e.queue.0 ≡ Some row = slice_get_read rows _ e.queue.0 row refl (subst (λ n. e.queue.0 < n) old.size st.happened.there) row_is in
+      let at_end = own_is x e (old.calm k (part_of x) (map_get part_of actors k x here)) own in
       let pressed = runs_called history rows pools net serial blk w actors journal k x place fitted old here at' in
-      let new = step_holds history rows w v actors journal k x x' e here old own st turned pressed pools (fitted_place setting fitted) fitted.split fits part in
+      let new = step_holds history rows w v actors journal k x x' e here old at_end st turned pressed pools (fitted_place setting fitted) fitted.split fits part in
       let cast_is = map_same part_of actors k x x' here part in
       let y_same : y ≡ x' = some_is (sym (slice_get_read (slice_set actors k x') _ k y refl (subst (λ n. k < n) (sym (length-set actors k x')) lt) y_is) ∙ slice_get_written actors k x x' here) in
-      let then_is = running_then history rows w v actors journal k x x' e row here old pools (fitted_place setting fitted) fitted.split own st turned pressed fits part there rung woken idle place (sym rung_is) asked (idle_is ∙ ap (λ a. idles (manner_of (part_of a)) (actor_rests a) (is_pending k v)) y_same) at' in
+      let then_is = running_then history rows w v actors journal k x x' e row here old pools (fitted_place setting fitted) fitted.split at_end st turned pressed fits part there rung woken idle place (sym rung_is) asked (idle_is ∙ ap (λ a. idles (manner_of (part_of a)) (actor_rests a) (is_pending k v)) y_same) at' in
       let list_is : with_option rung woken (removed_if idle list place) ≡ plain_runs setting (journal ++ entry_of k e ∷ []) = ap (λ l. with_option rung woken (removed_if idle l place)) running' ∙ sym then_is in
       record {
         holds = new;
         cast_is = cast_is;
-        rows_hold = (rows_old.0, EachFrom-append _ [] journal _ rows_old.1 (rows_told setting (journal ++ entry_of k e ∷ []) (subst (λ cast. RowsHold (sheet (scene_of (map part_of actors))) (hostiles (map part_of actors)) cast (moved history (journal ++ entry_of k e ∷ []))) cast_is (rows_now (scene_of (map part_of actors)) history rows v (slice_set actors k x') (journal ++ entry_of k e ∷ []) new (ap scene_of cast_is) (hostiles (map part_of actors))))));
+        rows_hold = (rows_old.0, EachFrom-append _ [] journal _ rows_old.1 (rows_told setting fitted.calm (journal ++ entry_of k e ∷ []) (subst (λ cast. RowsHold (sheet (scene_of (map part_of actors))) (hostiles (map part_of actors)) cast (moved history (journal ++ entry_of k e ∷ []))) cast_is (rows_now (scene_of (map part_of actors)) history rows v (slice_set actors k x') (journal ++ entry_of k e ∷ []) new (ap scene_of cast_is) (hostiles (map part_of actors))))));
         brisk = (brisk.0, EachFrom-append (λ b d. AreFew (hostile_in setting) rows no_drops (b ++ d ∷ [])) [] journal (entry_of k e) brisk.1 (subst (λ cast. AreFew (hostiles cast) rows no_drops (journal ++ entry_of k e ∷ [])) cast_is (few_holds history rows v (slice_set actors k x') (journal ++ entry_of k e ∷ []) new)));
-        running = list_is ∙ sym (runs_plain setting (journal ++ entry_of k e ∷ []));
+        running = list_is ∙ sym (runs_plain setting fitted.calm (journal ++ entry_of k e ∷ []));
         room_is = rw length-set le;
         few = rw list_is (running_few history rows (map part_of actors) room (omega (arith, le, size)) (journal ++ entry_of k e ∷ []));
       }

@@ -36,7 +36,7 @@ use Rattle.actor_set.specs.Parts.{Part}
 use Rattle.play_core.specs.Moved.{moved}
 use Rattle.play_core.specs.Sheets.{RowsHold}
 use Rattle.owner_law.specs.Pages.{CarryPages}
-use Rattle.actor_set.specs.Laws.Kinds.{sheet, scene_of, hostiles}
+use Rattle.actor_set.specs.Laws.Kinds.{AllCalm, sheet, scene_of, hostiles}
 use Rattle.actor_set.specs.Laws.Turning.{InTurn}
 use Rattle.system_core.specs.Systems.{Holds}
 use Rattle.actor_set.specs.declared.actor.Actor.{Actor}
@@ -150,7 +150,7 @@ module _ (history : History) (rows : List QueueRow) (w v : List Queue) (actors :
   hostile = hostiles (map part_of actors)
 
   turn : Turned (actor_round x) e (actor_round x')
-  turn = turned_is x x' e turned
+  turn = turned_is x x' e (old.calm k (part_of x) (map_get part_of actors k x here)) turned
 
   -- it made no store
   plain : is_store e.op ≡ false
@@ -228,6 +228,7 @@ module _ (history : History) (rows : List QueueRow) (w v : List Queue) (actors :
       let rows_new = rows_at rows (slice_set actors k x') passed' (moved history (journal ++ entry_of k e ∷ [])) items turns (λ j y at. stands' j y at (eqb_tells j k)) in
       subst (λ c. CarryPages (cast_naming (scene_of c) place) (moved history (journal ++ entry_of k e ∷ [])) passed') (sym (all_parts part))
       (carry_call rows place (map part_of actors) (moved history journal) (moved history (journal ++ entry_of k e ∷ [])) old.passed deed k x' (record {
+        calm = old.calm;
         placed = placed_old;
         seated = in_place.seated;
         split = split;
@@ -248,6 +249,7 @@ module _ (history : History) (rows : List QueueRow) (w v : List Queue) (actors :
   -- all goes on to hold
   pub step_holds : (pools : List PoolRow) → IsInPlace rows pools (map part_of actors) → ((n : ℕ) (row : QueueRow) → slice_get rows n ≡ Some row → row.producer.0 ≡ row.consumer.0 → ⊥) → FitsActor (end_at v) x' → part_of x' ≡ part_of x → Holds history rows v (slice_set actors k x') (journal ++ entry_of k e ∷ [])
   step_holds pools in_place split new part = record {
+    calm = subst AllCalm (sym (all_parts part)) old.calm;
     passed = passed';
     stands_there = λ n. there_after n (eqb_tells e.queue.0 n);
     shows_taken = shows_taken';

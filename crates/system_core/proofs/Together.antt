@@ -60,7 +60,7 @@ module _ (s : Shown) (stands : StandsLawful s) (class : SerialClass) (there : Is
   arrives_at : LawInPart → (j : List Entry) → RowsStand s.setting j → QueuesFlow s.setting.history s.setting.rows j → ArrivesInPart class (moved_in s.setting j)
   arrives_at law j rows flows =
       law (hostile_in s.setting) s.setting.history s.setting.rows j class flows
-      (as_there (There s.setting) (RowAt (moved_in s.setting j)) (λ p at. row_as s.setting (moved_in s.setting j) p (rows_plain s.setting j rows at.0 (serial_part p) (calm_actor s.setting.cast at.0) at.1)) (hostile_in s.setting) s.setting.rows class there)
+      (as_there (There s.setting) (RowAt (moved_in s.setting j)) (λ p at. row_as s.setting (moved_in s.setting j) p (rows_plain s.setting stands.fitted.calm j rows at.0 (serial_part p) (calm_actor s.setting.cast stands.fitted.calm at.0) at.1)) (hostile_in s.setting) s.setting.rows class there)
 
   arrives : LawInPart → EachMoment (λ j. ArrivesInPart class (moved_in s.setting j)) s.journal
   arrives law = each_moment (RowsStand s.setting) (QueuesFlow s.setting.history s.setting.rows) (λ j. ArrivesInPart class (moved_in s.setting j)) (arrives_at law) s.journal stands.lawful.rows_hold stands.lawful.flows
@@ -75,7 +75,7 @@ module _ (s : Shown) (stands : StandsLawful s) (class : SerialClass) (there : Is
   arrives_whole law quiet =
       law (hostile_in s.setting) s.setting.history s.setting.rows actors s.journal class (still_now s stands quiet)
       (as_there (There s.setting) (λ p. Plays (hostile_in s.setting) actors (moved_in s.setting s.journal) (serial_sheet p))
-      (λ p at. plays_as s.setting (hostile_in s.setting) actors (moved_in s.setting s.journal) p (plays_there (sheet s.setting.scene) (hostile_in s.setting) s.setting.cast (moved_in s.setting s.journal) (rows_plain s.setting s.journal (last_moment (RowsStand s.setting) s.journal stands.lawful.rows_hold)) at.0 (serial_part p) (calm_actor s.setting.cast at.0) at.1))
+      (λ p at. plays_as s.setting (hostile_in s.setting) actors (moved_in s.setting s.journal) p (plays_there (sheet s.setting.scene) (hostile_in s.setting) s.setting.cast (moved_in s.setting s.journal) (rows_plain s.setting stands.fitted.calm s.journal (last_moment (RowsStand s.setting) s.journal stands.lawful.rows_hold)) at.0 (serial_part p) (calm_actor s.setting.cast stands.fitted.calm at.0) at.1))
       (hostile_in s.setting) s.setting.rows class there)
 
 -- a system of a plan and a trace, whatever its queues had before its journal begins

@@ -28,7 +28,7 @@ use Rattle.owner_law.specs.Owners.{Table, replay}
 use Rattle.owner_law.specs.Keeping.{start_table}
 use Rattle.cast_law.specs.PoolLines.PoolLines.{table_lines}
 use Rattle.actor_set.specs.Parts.{Part, NetworkPart, BlockPart}
-use Rattle.actor_set.specs.Laws.Kinds.{scene_of, sheet}
+use Rattle.actor_set.specs.Laws.Kinds.{AllCalm, scene_of, sheet}
 use Rattle.actor_set.specs.Laws.Records.{record_by}
 use Rattle.wired_law.specs.Wiring.{HasWholeIn, HasNoNetwork, HasBlkIn, HasNoBlock, IsWiredIn}
 use Rattle.cast_law.specs.Pages.Paging.{part_pools, pools_weigh}
@@ -41,7 +41,9 @@ use Rattle.system_core.specs.Shows.{Setting, Shown, hostile_in, moved_in, RowsSt
 pub record IsFitted (s : Setting) : Type 0 where
   -- the scene is what these actors' parts give
   pub scene_is : s.scene ≡ scene_of s.cast
-  -- no names are kept yet, as nobody is hostile
+  -- nobody is hostile
+  pub calm : AllCalm s.cast
+  -- so no names are kept
   pub names_are : s.names ≡ []
   -- each queue's owners are among the actors
   pub peopled : IsPeopled s.rows (length s.cast)

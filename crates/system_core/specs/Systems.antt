@@ -13,7 +13,7 @@ use Rattle.play_core.specs.Moved.{moved}
 use Rattle.owner_law.specs.Pages.{CarryPages}
 use Rattle.turn_kit.specs.Pace.{Paced, pendings}
 use Rattle.actor_set.specs.Actors.{FitsActor, ActorStandsFor, ActorEnd, part_of, actor_round}
-use Rattle.actor_set.specs.Laws.Kinds.{hostiles, scene_of}
+use Rattle.actor_set.specs.Laws.Kinds.{AllCalm, hostiles, scene_of}
 use Rattle.actor_set.specs.Laws.Turning.{InTurn}
 use Rattle.wired_law.specs.Wiring.{AreOfKind, ClientsSend}
 use Rattle.cast_law.specs.Pools.Places.{PoolPlace, IsPlaced, cast_naming}
@@ -24,6 +24,8 @@ use Rattle.actor_set.specs.declared.actor.Actor.{Actor}
 -- the history, the queues, the actors and the journal belong together
 pub record Holds (history : History) (rows : List QueueRow) (world : List Queue)
     (actors : List Actor) (journal : List Entry) : Type 0 where
+  -- no actor is hostile
+  pub calm : AllCalm (map part_of actors)
   -- the entries that the actors stand for, with their bodies; history and journal show their items
   pub passed : Passed
   -- in each queue stands what was put there and wasn't taken

@@ -10,7 +10,7 @@ ghost use Rattle.actor_set.specs.Actors.{actor_rests, part_of};
 ghost use Rattle.trace_text.specs.Traces.{IsReadFor};
 ghost use Rattle.region_layout.specs.Layouts.{layout_of};
 ghost use Rattle.sdf_check.specs.Valid.{Valid};
-ghost use Rattle.actor_set.specs.Laws.Kinds.{manner_of, idles};
+ghost use Rattle.actor_set.specs.Laws.Kinds.{AllCalm, manner_of, idles};
 ghost use Rattle.cast_law.specs.Pools.Places.{ArePooled};
 ghost use Rattle.system_core.specs.Shows.{runs};
 ghost use Rattle.system_core.specs.States.{history_of, begun, nobody, started};
@@ -86,13 +86,14 @@ impl Model for System {
     ghost invariant = { IsSystem };
 }
 
-// Whether the actor at a place isn't runnable.
+// Whether the actor at a place isn't runnable. No notification makes a hostile client so.
 #[inline(always)]
+#[tactic(auto, using(crate::proofs::Stepping::idles_so))]
 fn is_idle(actor: &Actor, world: &World, place: ActorId) -> bool
     ensures { result ≡ idles (manner_of (part_of actor.now)) (actor_rests actor.now)
         (is_pending place.0 world.now) }
 {
-    actor.at_rest() && !world.is_pending(place)
+    actor.at_rest() && (actor.is_hostile() || !world.is_pending(place))
 }
 
 // The other owner of a queue.
@@ -305,7 +306,8 @@ impl System {
     }
 
     fn runnable_count(&self) -> usize
-        ensures { result ≡ length (runnable_now self.now) }
+        ensures count { result ≡ length (runnable_now self.now) }
+        ensures calm { AllCalm self.now.setting.cast }
     {
         self.running.len()
     }

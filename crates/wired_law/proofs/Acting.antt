@@ -44,6 +44,7 @@ device_actor first frames (Kinds.DiskDevice x) e = absurd cc
 device_actor first frames (Kinds.BlkDriver x) e = absurd cc
 device_actor first frames (Kinds.BlkVirt x) e = absurd cc
 device_actor first frames (Kinds.BlkClient x) e = absurd cc
+device_actor first frames (Kinds.Rogue x) e = absurd cc
 
 pub driver_actor : (first : ℕ) (x : Actor) → part_of x ≡ NetworkPart (driver_at first) → (d : EthDriver) × (x ≡ Kinds.EthDriver d) × (driver_part (four_pipes d.driver.pipes) ≡ driver_at first)
 driver_actor first (Kinds.UartDevice x) e = absurd cc
@@ -61,6 +62,7 @@ driver_actor first (Kinds.DiskDevice x) e = absurd cc
 driver_actor first (Kinds.BlkDriver x) e = absurd cc
 driver_actor first (Kinds.BlkVirt x) e = absurd cc
 driver_actor first (Kinds.BlkClient x) e = absurd cc
+driver_actor first (Kinds.Rogue x) e = absurd cc
 
 pub receiver_actor : (first : ℕ) (pool : PoolAt) (macs : List Mac) (x : Actor) → part_of x ≡ NetworkPart (receiver_at first pool macs) → (v : NetVirtRx) × (x ≡ Kinds.NetVirtRx v) × (receiver_part v ≡ receiver_at first pool macs)
 receiver_actor first pool macs (Kinds.UartDevice x) e = absurd cc
@@ -78,6 +80,7 @@ receiver_actor first pool macs (Kinds.DiskDevice x) e = absurd cc
 receiver_actor first pool macs (Kinds.BlkDriver x) e = absurd cc
 receiver_actor first pool macs (Kinds.BlkVirt x) e = absurd cc
 receiver_actor first pool macs (Kinds.BlkClient x) e = absurd cc
+receiver_actor first pool macs (Kinds.Rogue x) e = absurd cc
 
 pub copier_actor : (first k : ℕ) (x : Actor) → part_of x ≡ NetworkPart (copier_at first k) → (c : NetCopier) × (x ≡ Kinds.NetCopier c) × (copier_part c ≡ copier_at first k)
 copier_actor first k (Kinds.UartDevice x) e = absurd cc
@@ -95,6 +98,7 @@ copier_actor first k (Kinds.DiskDevice x) e = absurd cc
 copier_actor first k (Kinds.BlkDriver x) e = absurd cc
 copier_actor first k (Kinds.BlkVirt x) e = absurd cc
 copier_actor first k (Kinds.BlkClient x) e = absurd cc
+copier_actor first k (Kinds.Rogue x) e = absurd cc
 
 pub client_actor : (first k : ℕ) (program : Program) (mac : Mac) (pools : ClientPools) (x : Actor) → part_of x ≡ NetworkPart (client_at first k program mac pools) → (c : NetClient) × (x ≡ Kinds.NetClient c) × (client_part c ≡ client_at first k program mac pools)
 client_actor first k program mac pools (Kinds.UartDevice x) e = absurd cc
@@ -112,6 +116,7 @@ client_actor first k program mac pools (Kinds.DiskDevice x) e = absurd cc
 client_actor first k program mac pools (Kinds.BlkDriver x) e = absurd cc
 client_actor first k program mac pools (Kinds.BlkVirt x) e = absurd cc
 client_actor first k program mac pools (Kinds.BlkClient x) e = absurd cc
+client_actor first k program mac pools (Kinds.Rogue x) e = absurd cc
 
 pub sender_actor : (first most : ℕ) (pools : List ClientPools) (x : Actor) → part_of x ≡ SendingPart (sender_at first most pools) → (v : NetVirtTx) × (x ≡ Kinds.NetVirtTx v) × (send_part v ≡ sender_at first most pools)
 sender_actor first most pools (Kinds.UartDevice x) e = absurd cc
@@ -129,6 +134,7 @@ sender_actor first most pools (Kinds.DiskDevice x) e = absurd cc
 sender_actor first most pools (Kinds.BlkDriver x) e = absurd cc
 sender_actor first most pools (Kinds.BlkVirt x) e = absurd cc
 sender_actor first most pools (Kinds.BlkClient x) e = absurd cc
+sender_actor first most pools (Kinds.Rogue x) e = absurd cc
 
 pub disk_actor : (place : BlkPlace) (x : Actor) → part_of x ≡ BlockPart (disk_at place) → (d : Disk) × (x ≡ Kinds.DiskDevice d) × (disk_part d.start.value d.device ≡ disk_at place)
 disk_actor place (Kinds.UartDevice x) e = absurd cc
@@ -146,6 +152,7 @@ disk_actor place (Kinds.DiskDevice x) e = (x, refl, cc)
 disk_actor place (Kinds.BlkDriver x) e = absurd cc
 disk_actor place (Kinds.BlkVirt x) e = absurd cc
 disk_actor place (Kinds.BlkClient x) e = absurd cc
+disk_actor place (Kinds.Rogue x) e = absurd cc
 
 pub blk_driver_actor : (first : ℕ) (x : Actor) → part_of x ≡ BlockPart (blk_driver_at first) → (d : BlkDriver) × (x ≡ Kinds.BlkDriver d) × (blk_driver_part (two_pipes d.driver.pipes) ≡ blk_driver_at first)
 blk_driver_actor first (Kinds.UartDevice x) e = absurd cc
@@ -163,6 +170,7 @@ blk_driver_actor first (Kinds.DiskDevice x) e = absurd cc
 blk_driver_actor first (Kinds.BlkDriver x) e = (x, refl, cc)
 blk_driver_actor first (Kinds.BlkVirt x) e = absurd cc
 blk_driver_actor first (Kinds.BlkClient x) e = absurd cc
+blk_driver_actor first (Kinds.Rogue x) e = absurd cc
 
 pub virt_actor : (place : BlkPlace) (x : Actor) → part_of x ≡ BlockPart (virt_at place) → (v : BlkVirt) × (x ≡ Kinds.BlkVirt v) × (virt_part v ≡ virt_at place)
 virt_actor place (Kinds.UartDevice x) e = absurd cc
@@ -180,6 +188,7 @@ virt_actor place (Kinds.DiskDevice x) e = absurd cc
 virt_actor place (Kinds.BlkDriver x) e = absurd cc
 virt_actor place (Kinds.BlkVirt x) e = (x, refl, cc)
 virt_actor place (Kinds.BlkClient x) e = absurd cc
+virt_actor place (Kinds.Rogue x) e = absurd cc
 
 pub blk_client_actor : (first k : ℕ) (asks : List Ask) (pool : PoolAt) (x : Actor) → part_of x ≡ BlockPart (blk_client_at first k asks pool) → (c : BlkClient) × (x ≡ Kinds.BlkClient c) × (blk_client_part c ≡ blk_client_at first k asks pool)
 blk_client_actor first k asks pool (Kinds.UartDevice x) e = absurd cc
@@ -197,3 +206,4 @@ blk_client_actor first k asks pool (Kinds.DiskDevice x) e = absurd cc
 blk_client_actor first k asks pool (Kinds.BlkDriver x) e = absurd cc
 blk_client_actor first k asks pool (Kinds.BlkVirt x) e = absurd cc
 blk_client_actor first k asks pool (Kinds.BlkClient x) e = (x, refl, cc)
+blk_client_actor first k asks pool (Kinds.Rogue x) e = absurd cc

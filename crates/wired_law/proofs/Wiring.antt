@@ -50,7 +50,7 @@ use Rattle.actor_set.specs.Laws.Scenes.{ToldInTurn}
 use Rattle.actor_set.proofs.LawsLemmas.NetRows.{device_row_of}
 use Rattle.play_core.specs.Names.{Names, Wild, name_of, names_at, names_of, wild_in}
 use Rattle.play_core.specs.Sheets.{Scene}
-use Rattle.actor_set.specs.Laws.Kinds.{hostiles, scene_of}
+use Rattle.actor_set.specs.Laws.Kinds.{AllCalm, hostiles, scene_of}
 use Rattle.actor_set.proofs.LawsLemmas.Told.{none_wild}
 use Rattle.wired_law.specs.Wiring.{IsOfNetwork, HasWholeIn, HasNoNetwork, HasBlkIn, HasNoBlock, HasPart, IsWired, IsWiredIn, NetClientsSendIn, ClientsAsk, ClientsSend, ClientsSendIn, AreAtWork, AreInTurn, TellsKept}
 use Rattle.wired_law.proofs.Acting.{device_actor, driver_actor, receiver_actor, sender_actor, copier_actor, client_actor}
@@ -300,6 +300,7 @@ module _ (scene : Scene) (ends : Role → ℕ → End) (rows : List QueueRow) (a
     whole_turns sends block ask names kept turn k (Kinds.BlkDriver x) at fits stands = tt
     whole_turns sends block ask names kept turn k (Kinds.BlkVirt x) at fits stands = (virt_by scene ends rows actors passed work block ask k x at, λ j q q_at is_wild. told_at names kept q.0 is_wild)
     whole_turns sends block ask names kept turn k (Kinds.BlkClient x) at fits stands = client_by scene ends rows actors passed work block k x at
+    whole_turns sends block ask names kept turn k (Kinds.Rogue x) at fits stands = tt
 
     pub recorded_here : (k c : ℕ) (x : Actor) (program : Program) (mac : Mac) (pools : ClientPools) → slice_get actors k ≡ Some x → part_of x ≡ NetworkPart (client_at net.first c program mac pools) → 1 ≤ pools.rx.buffers → net.most ≤ pools.rx.size → slice_get net.macs c ≡ Some mac → IsPrefix (frames_got x) (frames_for mac frames)
     recorded_here k c x program mac pools at part some enough address =
@@ -358,6 +359,7 @@ module _ (scene : Scene) (ends : Role → ℕ → End) (rows : List QueueRow) (a
   none_turns empty block ask names kept turn k (Kinds.BlkDriver x) at = tt
   none_turns empty block ask names kept turn k (Kinds.BlkVirt x) at = (virt_by scene ends rows actors passed work block ask k x at, λ j q q_at is_wild. told_at names kept q.0 is_wild)
   none_turns empty block ask names kept turn k (Kinds.BlkClient x) at = client_by scene ends rows actors passed work block k x at
+  none_turns empty block ask names kept turn k (Kinds.Rogue x) at = tt
 
   turns_by : HasNoNetwork cast ⊎ ((net : NetPlace) × HasWholeIn scene rows net cast) → HasNoBlock cast ⊎ ((place : BlkPlace) × HasBlkIn scene rows place cast) → ClientsSendIn scene rows cast passed → (names : Names) → TellsKept wild names passed → AreInTurn wild actors passed → (k : ℕ) (x : Actor) → slice_get actors k ≡ Some x → ToldInTurn scene wild names x passed
   turns_by (inl empty) block sends names kept turn k x at = none_turns empty block sends.requests names kept turn k x at
@@ -398,11 +400,12 @@ turns_calm scene wild names (Kinds.BlkVirt x) passed none is =
     let both = is.0 in
     record { free = both.free; in_turn = both.in_turn; answered = both.answered; sector = both.sector; sectors = both.sectors; good = λ k h q h_at q_at. both.good k h q h_at q_at (none q.0); apart = both.apart; from_each = both.from_each; to_each = both.to_each }
 turns_calm scene wild names (Kinds.BlkClient x) passed none is = is
+turns_calm scene wild names (Kinds.Rogue x) passed none is = is
 
-pub in_turn : {scene : Scene} (ends : Role → ℕ → End) (rows : List QueueRow) (actors : List Actor) (passed : Passed) → IsWiredIn scene rows (map part_of actors) → AreAtWork ends rows actors passed → ClientsSendIn scene rows (map part_of actors) passed → (k : ℕ) (x : Actor) → slice_get actors k ≡ Some x → InTurn scene x passed
-in_turn {scene} ends rows actors passed wired work sends k x at =
+pub in_turn : {scene : Scene} (ends : Role → ℕ → End) (rows : List QueueRow) (actors : List Actor) (passed : Passed) → AllCalm (map part_of actors) → IsWiredIn scene rows (map part_of actors) → AreAtWork ends rows actors passed → ClientsSendIn scene rows (map part_of actors) passed → (k : ℕ) (x : Actor) → slice_get actors k ≡ Some x → InTurn scene x passed
+in_turn {scene} ends rows actors passed calm wired work sends k x at =
     let cast = map part_of actors in
-    let none = none_wild cast rows in
+    let none = none_wild cast calm rows in
     let turn = calm_turns scene ends rows actors passed work wired.network wired.block sends none in
     turns_calm scene (wild_in (hostiles cast) rows) (names_at passed) x passed none (turns_beside scene ends rows actors passed (names_at passed) wired work sends (λ n is_wild. ([], append-nil (names_at passed n))) turn k x at)
 
@@ -418,17 +421,17 @@ pub told_beside : {scene : Scene} (ends : Role → ℕ → End) (rows : List Que
     → frames_got x ≡ wire_beside (wild_in (hostiles (map part_of actors)) rows) net scene.frames passed
 told_beside {scene} ends rows actors passed net whole work sends = told_here scene ends rows actors passed work net whole (sends.frames net whole)
 
--- nobody is hostile: so each client of the network sends by its program
-none_hostile : (cast : List Part) (rows : List QueueRow) (net : NetPlace) → NoneHostile (wild_in (hostiles cast) rows) net
-none_hostile cast rows net k below = none_wild cast rows (client_first net.first k + 4)
+-- where nobody is hostile, each client of the network sends by its program
+none_hostile : (cast : List Part) → AllCalm cast → (rows : List QueueRow) (net : NetPlace) → NoneHostile (wild_in (hostiles cast) rows) net
+none_hostile cast calm rows net k below = none_wild cast calm rows (client_first net.first k + 4)
 
-pub sent_on : {scene : Scene} (ends : Role → ℕ → End) (rows : List QueueRow) (actors : List Actor) (passed : Passed) (net : NetPlace) → HasWholeIn scene rows net (map part_of actors) → AreAtWork ends rows actors passed → ClientsSendIn scene rows (map part_of actors) passed → (k : ℕ) (x : Actor) → slice_get actors k ≡ Some x → part_of x ≡ NetworkPart (device_at net.first scene.frames)
+pub sent_on : {scene : Scene} (ends : Role → ℕ → End) (rows : List QueueRow) (actors : List Actor) (passed : Passed) (net : NetPlace) → AllCalm (map part_of actors) → HasWholeIn scene rows net (map part_of actors) → AreAtWork ends rows actors passed → ClientsSendIn scene rows (map part_of actors) passed → (k : ℕ) (x : Actor) → slice_get actors k ≡ Some x → part_of x ≡ NetworkPart (device_at net.first scene.frames)
     → PrefixMerge (sends_at net.programs net.macs scene.frames) (frames_got x)
-sent_on {scene} ends rows actors passed net whole work sends k x at part = subst (λ l. PrefixMerge l (frames_got x)) (sends_calm_here scene ends rows actors passed work net whole (none_hostile (map part_of actors) rows net)) (sent_beside ends rows actors passed net whole work sends k x at part)
+sent_on {scene} ends rows actors passed net calm whole work sends k x at part = subst (λ l. PrefixMerge l (frames_got x)) (sends_calm_here scene ends rows actors passed work net whole (none_hostile (map part_of actors) calm rows net)) (sent_beside ends rows actors passed net whole work sends k x at part)
 
-pub sent_told : {scene : Scene} (ends : Role → ℕ → End) (rows : List QueueRow) (actors : List Actor) (passed : Passed) (net : NetPlace) → HasWholeIn scene rows net (map part_of actors) → AreAtWork ends rows actors passed → ClientsSendIn scene rows (map part_of actors) passed → (k : ℕ) (x : Actor) → slice_get actors k ≡ Some x → part_of x ≡ NetworkPart (device_at net.first scene.frames)
+pub sent_told : {scene : Scene} (ends : Role → ℕ → End) (rows : List QueueRow) (actors : List Actor) (passed : Passed) (net : NetPlace) → AllCalm (map part_of actors) → HasWholeIn scene rows net (map part_of actors) → AreAtWork ends rows actors passed → ClientsSendIn scene rows (map part_of actors) passed → (k : ℕ) (x : Actor) → slice_get actors k ≡ Some x → part_of x ≡ NetworkPart (device_at net.first scene.frames)
     → frames_got x ≡ wire_at net scene.frames (items_of (passed.taken (net.first + 2)))
-sent_told {scene} ends rows actors passed net whole work sends k x at part = told_beside ends rows actors passed net whole work sends k x at part ∙ wire_calm_here scene ends rows actors passed work net whole (none_hostile (map part_of actors) rows net)
+sent_told {scene} ends rows actors passed net calm whole work sends k x at part = told_beside ends rows actors passed net whole work sends k x at part ∙ wire_calm_here scene ends rows actors passed work net whole (none_hostile (map part_of actors) calm rows net)
 
 -- nothing was put at the start
 pub nothing_sent : {scene : Scene} (rows : List QueueRow) (cast : List Part) → ClientsSendIn scene rows cast nothing_passed

@@ -22,7 +22,7 @@ ghost use Rattle.net_quiet.specs.TxCast.Casting.{sends_at, sends_beside, wire_at
 ghost use Rattle.actor_set.specs.Parts.{Part, NetworkPart};
 ghost use Rattle.actor_set.specs.Actors.{part_of};
 ghost use Rattle.actor_set.specs.declared.actor.Actor.{Actor};
-ghost use Rattle.actor_set.specs.Laws.Kinds.{hostiles};
+ghost use Rattle.actor_set.specs.Laws.Kinds.{AllCalm, hostiles};
 ghost use Rattle.actor_set.specs.Laws.Records.{frames_got};
 ghost use Rattle.actor_set.specs.Laws.Scenes.{ToldInTurn};
 ghost use Rattle.actor_set.specs.Laws.Turning.{InTurn};
@@ -33,18 +33,18 @@ pub mod blk_replies;
 pub mod quiet;
 pub mod turning;
 
-/// Nothing comes out of turn at any actor of a cast that is wired in a scene, where those of its
-/// clients that aren't hostile put good descriptors and requests alone (nobody is hostile yet): so
-/// they did when nothing had passed yet, and whatever hostile ones put, after one more call they
-/// still have. Beside hostile clients nothing does by the names that are told, those of all that
+/// Nothing comes out of turn at any actor of a cast that is wired in a scene, where nobody is
+/// hostile and its clients put good descriptors and requests alone: so those that aren't hostile
+/// did when nothing had passed yet, and whatever hostile ones put, after one more call they still
+/// have. Beside hostile clients nothing does by the names that are told, those of all that
 /// was put to the queues with a hostile end, where what those put isn't out of turn. A network
 /// client with buffers of its own recorded a beginning of the frames that are for its address; and
 /// the device a merge of beginnings of what the clients send, each by its program, a hostile one
 /// the frames of its good descriptors: which is what the items tell that it took.
 pub fn wired_law()
     ensures turns { (scene : Scene) (ends : Role → ℕ → End) (rows : List QueueRow)
-        (actors : List Actor) (passed : Passed) → IsWiredIn scene rows (map part_of actors)
-        → AreAtWork ends rows actors passed
+        (actors : List Actor) (passed : Passed) → AllCalm (map part_of actors)
+        → IsWiredIn scene rows (map part_of actors) → AreAtWork ends rows actors passed
         → ClientsSendIn scene rows (map part_of actors) passed → (k : ℕ) (x : Actor)
         → slice_get actors k ≡ Some x → InTurn scene x passed }
     ensures turns_beside { (scene : Scene) (ends : Role → ℕ → End) (rows : List QueueRow)
@@ -74,7 +74,7 @@ pub fn wired_law()
         → slice_get net.macs c ≡ Some mac
         → IsPrefix (frames_got x) (frames_for mac scene.frames) }
     ensures wire { (scene : Scene) (ends : Role → ℕ → End) (rows : List QueueRow)
-        (actors : List Actor) (passed : Passed) (net : NetPlace)
+        (actors : List Actor) (passed : Passed) (net : NetPlace) → AllCalm (map part_of actors)
         → HasWholeIn scene rows net (map part_of actors)
         → AreAtWork ends rows actors passed → ClientsSendIn scene rows (map part_of actors) passed
         → (k : ℕ) (x : Actor) → slice_get actors k ≡ Some x
@@ -97,7 +97,7 @@ pub fn wired_law()
         → frames_got x ≡ wire_beside (wild_in (hostiles (map part_of actors)) rows) net
         scene.frames passed }
     ensures told { (scene : Scene) (ends : Role → ℕ → End) (rows : List QueueRow)
-        (actors : List Actor) (passed : Passed) (net : NetPlace)
+        (actors : List Actor) (passed : Passed) (net : NetPlace) → AllCalm (map part_of actors)
         → HasWholeIn scene rows net (map part_of actors)
         → AreAtWork ends rows actors passed → ClientsSendIn scene rows (map part_of actors) passed
         → (k : ℕ) (x : Actor) → slice_get actors k ≡ Some x

@@ -27,24 +27,24 @@ ghost use Rattle.blk_quiet.specs.Still.{HasClientPools, HasBlkRooms, IsBlock};
 ghost use Rattle.actor_set.specs.Parts.{Part, NetworkPart, BlockPart};
 ghost use Rattle.actor_set.specs.Actors.{part_of};
 ghost use Rattle.actor_set.specs.declared.actor.Actor.{Actor};
-ghost use Rattle.actor_set.specs.Laws.Kinds.{sheet, hostiles};
+ghost use Rattle.actor_set.specs.Laws.Kinds.{AllCalm, sheet, hostiles};
 ghost use Rattle.actor_set.specs.Laws.Records.{frames_got, replies_got};
 ghost use Rattle.wired_law.specs.Wiring.{HasWholeIn, HasBlkIn, IsWiredIn, ClientsSendIn, AreAtWork};
 
-/// Where the rows of a cast hold that has the whole network, this network is among its actors.
-/// Where actors stand for what passed, and nobody is runnable, each network client recorded all
-/// frames that are for its address, and the device a merge of all that the clients send by their
-/// programs. So it is of the whole block class: each client recorded all replies to what it asks,
-/// those of a disk that has the bytes of its partition alone.
+/// Of a cast without a hostile client: where its rows hold and it has the whole network, this
+/// network is among its actors. Where actors stand for what passed, and nobody is runnable, each
+/// network client recorded all frames that are for its address, and the device a merge of all that
+/// the clients send by their programs. So it is of the whole block class: each client recorded all
+/// replies to what it asks, those of a disk that has the bytes of its partition alone.
 pub fn quiet_law()
     ensures there { (scene : Scene) (rows : List QueueRow) (cast : List Part) (m : Moved)
-        (net : NetPlace) → HasWholeIn scene rows net cast → HasPools net
+        (net : NetPlace) → AllCalm cast → HasWholeIn scene rows net cast → HasPools net
         → HasRooms (hostiles cast) rows net
         → RowsHold (sheet scene) (hostiles cast) cast m
         → IsNetwork (hostiles cast) scene rows (needful (sheet scene) cast m) net m }
     ensures records { (scene : Scene) (ends : Role → ℕ → End) (history : History)
         (rows : List QueueRow) (actors : List Actor) (journal : List Entry)
-        (passed : Passed) (net : NetPlace)
+        (passed : Passed) (net : NetPlace) → AllCalm (map part_of actors)
         → HasWholeIn scene rows net (map part_of actors) → IsWiredIn scene rows (map part_of actors)
         → HasPools net
         → HasRooms (hostiles (map part_of actors)) rows net
@@ -58,7 +58,7 @@ pub fn quiet_law()
         → frames_got x ≡ frames_for mac scene.frames }
     ensures wire { (scene : Scene) (ends : Role → ℕ → End) (history : History)
         (rows : List QueueRow) (actors : List Actor) (journal : List Entry)
-        (passed : Passed) (net : NetPlace)
+        (passed : Passed) (net : NetPlace) → AllCalm (map part_of actors)
         → HasWholeIn scene rows net (map part_of actors) → IsWiredIn scene rows (map part_of actors)
         → HasPools net
         → HasRooms (hostiles (map part_of actors)) rows net
@@ -70,13 +70,13 @@ pub fn quiet_law()
         → part_of x ≡ NetworkPart (device_at net.first scene.frames)
         → Merge (sends_at net.programs net.macs scene.frames) (frames_got x) }
     ensures block { (scene : Scene) (rows : List QueueRow) (cast : List Part) (m : Moved)
-        (place : BlkPlace) → HasBlkIn scene rows place cast → HasClientPools place
+        (place : BlkPlace) → AllCalm cast → HasBlkIn scene rows place cast → HasClientPools place
         → HasBlkRooms (hostiles cast) rows place
         → RowsHold (sheet scene) (hostiles cast) cast m
         → IsBlock (hostiles cast) scene rows (needful (sheet scene) cast m) place m }
     ensures replies { (scene : Scene) (ends : Role → ℕ → End) (history : History)
         (rows : List QueueRow) (actors : List Actor) (journal : List Entry)
-        (passed : Passed) (place : BlkPlace)
+        (passed : Passed) (place : BlkPlace) → AllCalm (map part_of actors)
         → HasBlkIn scene rows place (map part_of actors) → IsWiredIn scene rows (map part_of actors)
         → HasClientPools place
         → HasBlkRooms (hostiles (map part_of actors)) rows place

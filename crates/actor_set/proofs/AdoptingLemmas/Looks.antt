@@ -39,6 +39,7 @@ use Rattle.actor_set.specs.Actors.{FitsActor, ActorEnd, Forgot}
 use Rattle.actor_set.specs.declared.actor.Actor.{Actor}
 use Rattle.actor_set.specs.declared.actor.Actor.TheVariants as Kinds
 use Rattle.actor_set.specs.Adopting.Looks.{SameButLook}
+use Rattle.actor_set.proofs.RogueLemmas.Ends.{rogue_anew}
 
 no_yes : (o : Option Bool) → o ≡ None → o ≡ Some true → ⊥
 no_yes None n y = cc
@@ -245,4 +246,5 @@ module _ (ends ends' : Role → ℕ → End) where
   fits_anew (Kinds.BlkDriver x) (Kinds.BlkDriver y) is same f = pipes_anew (two_pipes x.driver.pipes) (two_pipes y.driver.pipes) is.0 same f
   fits_anew (Kinds.BlkVirt x) (Kinds.BlkVirt y) is same f = (record { ends_fit = served_anew x.ends y.ends is.ends same f.0.ends_fit; work = f.0.work; from_each = f.0.from_each; to_each = f.0.to_each }, f.1, f.2)
   fits_anew (Kinds.BlkClient x) (Kinds.BlkClient y) is same f = asker_anew x y is same f
+  fits_anew (Kinds.Rogue x) (Kinds.Rogue y) is same f = rogue_anew ends ends' x y is same f
   fits_anew x y is same f = absurd is

@@ -20,6 +20,7 @@ use Rattle.actor_set.specs.declared.actor.Actor.{Actor}
 use Rattle.actor_set.specs.declared.actor.Actor.TheVariants as Kinds
 use Rattle.actor_set.proofs.LawsLemmas.NetBeside.{fits_pipes, fits_device, fits_receiver, fits_copier, fits_client, stands_pipes, stands_device, stands_receiver, stands_copier, stands_client}
 use Rattle.actor_set.proofs.LawsLemmas.TxBeside.{fits_sender, stands_sender}
+use Rattle.actor_set.proofs.RogueLemmas.Ends.{fits_rogue, stands_rogue}
 use Rattle.actor_set.proofs.LawsLemmas.BlkBeside.{fits_disk, fits_server, fits_asker, stands_disk, stands_server, stands_asker}
 
 -- where an actor's ends stay, it fits as before
@@ -73,6 +74,7 @@ module _ (ends ends' : Role → ℕ → End) where
   fits_beside (Kinds.BlkDriver x) same f = fits_pipes ends ends' (two_pipes x.driver.pipes) same f
   fits_beside (Kinds.BlkVirt x) same f = (fits_server ends ends' x same f.0, f.1, f.2)
   fits_beside (Kinds.BlkClient x) same f = fits_asker ends ends' x same f
+  fits_beside (Kinds.Rogue x) same f = fits_rogue ends ends' x same f
 
 -- where nothing moved at an actor's ends, it stands for the same lists
 module _ (passed passed' : Passed) where
@@ -105,3 +107,4 @@ module _ (passed passed' : Passed) where
   stands_beside (Kinds.BlkDriver x) whole ins outs f = stands_pipes passed passed' (two_pipes x.driver.pipes) ins outs f
   stands_beside (Kinds.BlkVirt x) whole ins outs f = stands_server passed passed' x whole.from_each whole.to_each ins outs f
   stands_beside (Kinds.BlkClient x) whole ins outs f = stands_asker passed passed' x ins outs f
+  stands_beside (Kinds.Rogue x) whole ins outs f = stands_rogue passed passed' x ins outs f

@@ -14,7 +14,9 @@ use Rattle.turn_kit.specs.declared.ends.Outlet.{Outlet}
 use Rattle.turn_kit.specs.Posts.{intake_post, outlet_post}
 use Rattle.wire_core.specs.Marks.{is_vain_look}
 use Rattle.turn_kit.specs.Turns.{Post, is_drop, IsRound}
-use Rattle.actor_set.specs.Actors.{ActorEnd, actor_round}
+use Rattle.play_core.specs.Manners.{Calm}
+use Rattle.actor_set.specs.Actors.{ActorEnd, actor_round, part_of}
+use Rattle.actor_set.specs.Laws.Kinds.{manner_of}
 use Rattle.actor_set.specs.declared.actor.Actor.{Actor}
 use Rattle.actor_set.specs.declared.actor.Actor.TheVariants as Kinds
 use Rattle.device_model.specs.declared.serial_terminal.Terminal.{Terminal}
@@ -69,6 +71,7 @@ post_stands (Kinds.BlkVirt x) k p at = virt_post x.ends k p at
 post_stands (Kinds.BlkClient x) zero p at = subst (IsPostOf (Kinds.BlkClient x)) (some_is at) (refl, refl)
 post_stands (Kinds.BlkClient x) (suc zero) p at = subst (IsPostOf (Kinds.BlkClient x)) (some_is at) (refl, refl)
 post_stands (Kinds.BlkClient x) (suc (suc k)) p at = cc
+post_stands (Kinds.Rogue x) k p at = cc
 
 pub post_end : (x : Actor) (k : ℕ) (p : Post) → slice_get (actor_round x).posts k ≡ Some p → ActorEnd x (waiting_role p.side) p.queue
 post_end x k p at = (post_stands x k p at).0
@@ -81,42 +84,43 @@ post_waits x e k p at = sym (ap (λ d. d && is_vain_look e.op e.answer) (post_st
 abbrev pub EndPost : Actor → Side → ℕ → Type 0
 EndPost x s n = (k : ℕ) × (p : Post) × (slice_get (actor_round x).posts k ≡ Some p) × (p.queue ≡ n) × (p.side ≡ s)
 
-pub end_post : (x : Actor) (s : Side) (n : ℕ) → ActorEnd x (waiting_role s) n → EndPost x s n
-end_post (Kinds.UartDevice x) Forward n h = (0, intake_post x.terminal.input, refl, sym h, refl)
-end_post (Kinds.UartDevice x) Backward n h = (1, outlet_post x.terminal.output, refl, sym h, refl)
-end_post (Kinds.SerialClient x) Forward n h = (0, intake_post x.terminal.input, refl, sym h, refl)
-end_post (Kinds.SerialClient x) Backward n h = (1, outlet_post x.terminal.output, refl, sym h, refl)
-end_post (Kinds.UartDriver x) Forward n (inl h) = (0, intake_post x.driver.pipes.first.input, refl, sym h, refl)
-end_post (Kinds.UartDriver x) Forward n (inr (inl h)) = (2, intake_post x.driver.pipes.rest.input, refl, sym h, refl)
-end_post (Kinds.UartDriver x) Forward n (inr (inr h)) = absurd h
-end_post (Kinds.UartDriver x) Backward n (inl h) = (1, outlet_post x.driver.pipes.first.output, refl, sym h, refl)
-end_post (Kinds.UartDriver x) Backward n (inr (inl h)) = (3, outlet_post x.driver.pipes.rest.output, refl, sym h, refl)
-end_post (Kinds.UartDriver x) Backward n (inr (inr h)) = absurd h
-end_post (Kinds.SerialVirtRx x) Forward n h = (0, intake_post x.input, refl, sym h, refl)
-end_post (Kinds.SerialVirtRx x) Backward n h = let m = map_from (λ (o : Outlet). o.queue) x.outputs.ends.items h.0 h.1 h.2 in (suc h.0, outlet_post m.0, map_get outlet_post x.outputs.ends.items h.0 m.0 m.1, ap (λ (q : QueueId). q.0) m.2 ∙ sym h.3, refl)
-end_post (Kinds.SerialVirtTx x) Forward n h = let m = map_from (λ (i : Intake). i.queue) x.inputs.ends.items h.0 h.1 h.2 in (suc h.0, intake_post m.0, map_get intake_post x.inputs.ends.items h.0 m.0 m.1, ap (λ (q : QueueId). q.0) m.2 ∙ sym h.3, refl)
-end_post (Kinds.SerialVirtTx x) Backward n h = (0, outlet_post x.output, refl, sym h, refl)
-end_post (Kinds.EthDevice x) Forward n (inl h) = (0, intake_post x.free, refl, sym h, refl)
-end_post (Kinds.EthDevice x) Forward n (inr h) = (2, intake_post x.wire.pipe.input, refl, sym h, refl)
-end_post (Kinds.EthDevice x) Backward n (inl h) = (1, outlet_post x.active, refl, sym h, refl)
-end_post (Kinds.EthDevice x) Backward n (inr h) = (3, outlet_post x.wire.pipe.output, refl, sym h, refl)
-end_post (Kinds.EthDriver x) s n h = pipes_has (four_pipes x.driver.pipes) s n h
-end_post (Kinds.NetVirtRx x) s n h = virt_has x.ends s n h
-end_post (Kinds.NetCopier x) Forward n (inl h) = (0, intake_post x.lease_input, refl, sym h, refl)
-end_post (Kinds.NetCopier x) Forward n (inr h) = (1, intake_post x.buffer_input, refl, sym h, refl)
-end_post (Kinds.NetCopier x) Backward n (inl h) = (2, outlet_post x.buffer_output, refl, sym h, refl)
-end_post (Kinds.NetCopier x) Backward n (inr h) = (3, outlet_post x.lease_output, refl, sym h, refl)
-end_post (Kinds.NetClient x) Forward n (inl h) = (0, intake_post x.frames.pipe.input, refl, sym h, refl)
-end_post (Kinds.NetClient x) Forward n (inr h) = (2, intake_post x.sent, refl, sym h, refl)
-end_post (Kinds.NetClient x) Backward n (inl h) = (1, outlet_post x.frames.pipe.output, refl, sym h, refl)
-end_post (Kinds.NetClient x) Backward n (inr h) = (3, outlet_post x.send, refl, sym h, refl)
-end_post (Kinds.NetVirtTx x) s n h = virt_has x.ends s n h
-end_post (Kinds.DiskDevice x) Forward n h = (0, intake_post x.device.input, refl, sym h, refl)
-end_post (Kinds.DiskDevice x) Backward n h = (1, outlet_post x.device.output, refl, sym h, refl)
-end_post (Kinds.BlkDriver x) s n h = pipes_has (two_pipes x.driver.pipes) s n h
-end_post (Kinds.BlkVirt x) s n h = virt_has x.ends s n h
-end_post (Kinds.BlkClient x) Forward n h = (0, intake_post x.responses, refl, sym h, refl)
-end_post (Kinds.BlkClient x) Backward n h = (1, outlet_post x.requests, refl, sym h, refl)
+pub end_post : (x : Actor) (s : Side) (n : ℕ) → manner_of (part_of x) ≡ Calm → ActorEnd x (waiting_role s) n → EndPost x s n
+end_post (Kinds.UartDevice x) Forward n calm h = (0, intake_post x.terminal.input, refl, sym h, refl)
+end_post (Kinds.UartDevice x) Backward n calm h = (1, outlet_post x.terminal.output, refl, sym h, refl)
+end_post (Kinds.SerialClient x) Forward n calm h = (0, intake_post x.terminal.input, refl, sym h, refl)
+end_post (Kinds.SerialClient x) Backward n calm h = (1, outlet_post x.terminal.output, refl, sym h, refl)
+end_post (Kinds.UartDriver x) Forward n calm (inl h) = (0, intake_post x.driver.pipes.first.input, refl, sym h, refl)
+end_post (Kinds.UartDriver x) Forward n calm (inr (inl h)) = (2, intake_post x.driver.pipes.rest.input, refl, sym h, refl)
+end_post (Kinds.UartDriver x) Forward n calm (inr (inr h)) = absurd h
+end_post (Kinds.UartDriver x) Backward n calm (inl h) = (1, outlet_post x.driver.pipes.first.output, refl, sym h, refl)
+end_post (Kinds.UartDriver x) Backward n calm (inr (inl h)) = (3, outlet_post x.driver.pipes.rest.output, refl, sym h, refl)
+end_post (Kinds.UartDriver x) Backward n calm (inr (inr h)) = absurd h
+end_post (Kinds.SerialVirtRx x) Forward n calm h = (0, intake_post x.input, refl, sym h, refl)
+end_post (Kinds.SerialVirtRx x) Backward n calm h = let m = map_from (λ (o : Outlet). o.queue) x.outputs.ends.items h.0 h.1 h.2 in (suc h.0, outlet_post m.0, map_get outlet_post x.outputs.ends.items h.0 m.0 m.1, ap (λ (q : QueueId). q.0) m.2 ∙ sym h.3, refl)
+end_post (Kinds.SerialVirtTx x) Forward n calm h = let m = map_from (λ (i : Intake). i.queue) x.inputs.ends.items h.0 h.1 h.2 in (suc h.0, intake_post m.0, map_get intake_post x.inputs.ends.items h.0 m.0 m.1, ap (λ (q : QueueId). q.0) m.2 ∙ sym h.3, refl)
+end_post (Kinds.SerialVirtTx x) Backward n calm h = (0, outlet_post x.output, refl, sym h, refl)
+end_post (Kinds.EthDevice x) Forward n calm (inl h) = (0, intake_post x.free, refl, sym h, refl)
+end_post (Kinds.EthDevice x) Forward n calm (inr h) = (2, intake_post x.wire.pipe.input, refl, sym h, refl)
+end_post (Kinds.EthDevice x) Backward n calm (inl h) = (1, outlet_post x.active, refl, sym h, refl)
+end_post (Kinds.EthDevice x) Backward n calm (inr h) = (3, outlet_post x.wire.pipe.output, refl, sym h, refl)
+end_post (Kinds.EthDriver x) s n calm h = pipes_has (four_pipes x.driver.pipes) s n h
+end_post (Kinds.NetVirtRx x) s n calm h = virt_has x.ends s n h
+end_post (Kinds.NetCopier x) Forward n calm (inl h) = (0, intake_post x.lease_input, refl, sym h, refl)
+end_post (Kinds.NetCopier x) Forward n calm (inr h) = (1, intake_post x.buffer_input, refl, sym h, refl)
+end_post (Kinds.NetCopier x) Backward n calm (inl h) = (2, outlet_post x.buffer_output, refl, sym h, refl)
+end_post (Kinds.NetCopier x) Backward n calm (inr h) = (3, outlet_post x.lease_output, refl, sym h, refl)
+end_post (Kinds.NetClient x) Forward n calm (inl h) = (0, intake_post x.frames.pipe.input, refl, sym h, refl)
+end_post (Kinds.NetClient x) Forward n calm (inr h) = (2, intake_post x.sent, refl, sym h, refl)
+end_post (Kinds.NetClient x) Backward n calm (inl h) = (1, outlet_post x.frames.pipe.output, refl, sym h, refl)
+end_post (Kinds.NetClient x) Backward n calm (inr h) = (3, outlet_post x.send, refl, sym h, refl)
+end_post (Kinds.NetVirtTx x) s n calm h = virt_has x.ends s n h
+end_post (Kinds.DiskDevice x) Forward n calm h = (0, intake_post x.device.input, refl, sym h, refl)
+end_post (Kinds.DiskDevice x) Backward n calm h = (1, outlet_post x.device.output, refl, sym h, refl)
+end_post (Kinds.BlkDriver x) s n calm h = pipes_has (two_pipes x.driver.pipes) s n h
+end_post (Kinds.BlkVirt x) s n calm h = virt_has x.ends s n h
+end_post (Kinds.BlkClient x) Forward n calm h = (0, intake_post x.responses, refl, sym h, refl)
+end_post (Kinds.BlkClient x) Backward n calm h = (1, outlet_post x.requests, refl, sym h, refl)
+end_post (Kinds.Rogue x) s n calm h = cc
 
 -- each end has its need
 sizes : (x : Actor) → length (actor_round x).needs ≡ length (actor_round x).posts
@@ -135,23 +139,25 @@ sizes (Kinds.DiskDevice x) = refl
 sizes (Kinds.BlkDriver x) = refl
 sizes (Kinds.BlkVirt x) = virt_size x.ends (is_none x.work.stray) (is_owing x.work) (wants_at x.work) (gives_at x.work)
 sizes (Kinds.BlkClient x) = refl
+sizes (Kinds.Rogue x) = refl
 
-some_ends : (x : Actor) → 0 < length (actor_round x).posts
-some_ends (Kinds.UartDevice x) = omega arith
-some_ends (Kinds.SerialClient x) = omega arith
-some_ends (Kinds.UartDriver x) = omega arith
-some_ends (Kinds.SerialVirtRx x) = omega arith
-some_ends (Kinds.SerialVirtTx x) = omega arith
-some_ends (Kinds.EthDevice x) = omega arith
-some_ends (Kinds.EthDriver x) = omega arith
-some_ends (Kinds.NetVirtRx x) = omega arith
-some_ends (Kinds.NetCopier x) = omega arith
-some_ends (Kinds.NetClient x) = omega arith
-some_ends (Kinds.NetVirtTx x) = omega arith
-some_ends (Kinds.DiskDevice x) = omega arith
-some_ends (Kinds.BlkDriver x) = omega arith
-some_ends (Kinds.BlkVirt x) = omega arith
-some_ends (Kinds.BlkClient x) = omega arith
+some_ends : (x : Actor) → manner_of (part_of x) ≡ Calm → 0 < length (actor_round x).posts
+some_ends (Kinds.UartDevice x) calm = omega arith
+some_ends (Kinds.SerialClient x) calm = omega arith
+some_ends (Kinds.UartDriver x) calm = omega arith
+some_ends (Kinds.SerialVirtRx x) calm = omega arith
+some_ends (Kinds.SerialVirtTx x) calm = omega arith
+some_ends (Kinds.EthDevice x) calm = omega arith
+some_ends (Kinds.EthDriver x) calm = omega arith
+some_ends (Kinds.NetVirtRx x) calm = omega arith
+some_ends (Kinds.NetCopier x) calm = omega arith
+some_ends (Kinds.NetClient x) calm = omega arith
+some_ends (Kinds.NetVirtTx x) calm = omega arith
+some_ends (Kinds.DiskDevice x) calm = omega arith
+some_ends (Kinds.BlkDriver x) calm = omega arith
+some_ends (Kinds.BlkVirt x) calm = omega arith
+some_ends (Kinds.BlkClient x) calm = omega arith
+some_ends (Kinds.Rogue x) calm = cc
 
 abbrev Apart : Actor → Type 0
 Apart x = (k j : ℕ) (p q : Post) → slice_get (actor_round x).posts k ≡ Some p → slice_get (actor_round x).posts j ≡ Some q → p.queue ≡ q.queue → k ≡ j
@@ -245,9 +251,10 @@ apart_posts (Kinds.DiskDevice x) h d k j p q a b e = two_apart (intake_post x.de
 apart_posts (Kinds.BlkDriver x) h d k j p q a b e = four_apart (intake_post x.driver.pipes.first.input) (outlet_post x.driver.pipes.first.output) (intake_post x.driver.pipes.rest.input) (outlet_post x.driver.pipes.rest.output) (λ e. d x.driver.pipes.first.input.queue.0 (inl refl) (inl e)) h.0 (λ e. d x.driver.pipes.first.input.queue.0 (inl refl) (inr (inl e))) (λ e. d x.driver.pipes.rest.input.queue.0 (inr (inl refl)) (inl (sym e))) h.1 (λ e. d x.driver.pipes.rest.input.queue.0 (inr (inl refl)) (inr (inl e))) k j p q a b e
 apart_posts (Kinds.BlkVirt x) h d k j p q a b e = virt_apart x.ends h d k j p q a b e
 apart_posts (Kinds.BlkClient x) h d k j p q a b e = two_apart (intake_post x.responses) (outlet_post x.requests) (λ e. d x.responses.queue.0 refl e) k j p q a b e
+apart_posts (Kinds.Rogue x) h d k j p q a b e = cc
 
-pub start_round : (x : Actor) → HasApartEnds x → HasNoLoop x → IsRound (actor_round x)
-start_round x h d = record { some = some_ends x; needs = sizes x; apart = apart_posts x h d }
+pub start_round : (x : Actor) → manner_of (part_of x) ≡ Calm → HasApartEnds x → HasNoLoop x → IsRound (actor_round x)
+start_round x calm h d = record { some = some_ends x calm; needs = sizes x; apart = apart_posts x h d }
 
 -- an actor that is called has a pending end
 
@@ -281,8 +288,8 @@ called_case k n history all (row ∷ rows) journal there h = elim (or_parts (cal
   | inr later ↦ called_case k (n + 1) history all rows journal (λ m r at. let z : n + suc m ≡ (n + 1) + m = omega arith in subst (λ i. slice_get all i ≡ Some r) z (there (suc m) r at)) later
 ]
 
-pub called_end : (k : ℕ) (x : Actor) (history : History) (rows : List QueueRow) (journal : List Entry) → ((n : ℕ) (row : QueueRow) → slice_get rows n ≡ Some row → (r : Role) → owner_of row r ≡ k → ActorEnd x r n) → called_from k 0 history rows journal ≡ true → IsCalled (pendings history journal) (actor_round x).posts
-called_end k x history rows journal ends h =
+pub called_end : (k : ℕ) (x : Actor) (history : History) (rows : List QueueRow) (journal : List Entry) → manner_of (part_of x) ≡ Calm → ((n : ℕ) (row : QueueRow) → slice_get rows n ≡ Some row → (r : Role) → owner_of row r ≡ k → ActorEnd x r n) → called_from k 0 history rows journal ≡ true → IsCalled (pendings history journal) (actor_round x).posts
+called_end k x history rows journal calm ends h =
     let c = called_case k 0 history rows rows journal (λ m row at. let z : m ≡ 0 + m = omega arith in subst (λ i. slice_get rows i ≡ Some row) z at) h in
-    let p = end_post x c.side c.queue (ends c.queue c.row c.there (waiting_role c.side) c.owner) in
+    let p = end_post x c.side c.queue calm (ends c.queue c.row c.there (waiting_role c.side) c.owner) in
     record { place = p.0; post = p.1; there = p.2; pends = subst (λ s. pendings history journal p.1.queue s ≡ true) (sym p.4) (subst (λ n. pendings history journal n c.side ≡ true) (sym p.3) c.pends) }

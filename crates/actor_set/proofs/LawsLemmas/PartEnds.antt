@@ -2,11 +2,11 @@ use Rattle.std.proofs.Common.{◌≡◌, ◌⊎◌, ℕ, Some, List, [], ◌∷�
 use Rattle.wire_core.specs.declared.names.QueueId.{QueueId}
 use Rattle.turn_kit.specs.ManyEnds.{intake_queues, outlet_queues}
 use Rattle.wire_core.specs.Ends.{Role, Consumer, Producer}
-use Rattle.actor_set.specs.Parts.{Part, UartPart, DriverPart, RxPart, TxPart, ClientPart, NetworkPart, SendingPart, BlockPart}
+use Rattle.actor_set.specs.Parts.{Part, UartPart, DriverPart, RxPart, TxPart, ClientPart, NetworkPart, SendingPart, BlockPart, HostilePart}
 use Rattle.eth_driver.specs.Four.{four_pipes}
 use Rattle.device_model.specs.Ethernet.Devices as device
 use Rattle.client_programs.specs.Net.Clients as client
-use Rattle.actor_set.specs.Actors.{ActorEnd, IsWhole, part_of, numbers}
+use Rattle.actor_set.specs.Actors.{ActorEnd, IsWhole, part_anew, part_of, numbers}
 use Rattle.actor_set.specs.declared.actor.Actor.{Actor}
 use Rattle.actor_set.specs.declared.actor.Actor.TheVariants as Kinds
 use Rattle.play_core.specs.Moved.{Seat}
@@ -18,6 +18,7 @@ use Rattle.actor_set.specs.Laws.Kinds.{sheet}
 use Rattle.actor_set.proofs.LawsLemmas.NetEnds.{IsThere, ends_of, ends_same, turns_to, turns_from, twos_to, twos_from, pipes_to, pipes_from, receiver_to, receiver_from}
 use Rattle.actor_set.proofs.LawsLemmas.TxEnds.{sender_to, sender_from}
 use Rattle.actor_set.proofs.LawsLemmas.BlkEnds.{blk_ends, blk_ends_same, ones_to, ones_from, server_to, server_from}
+use Rattle.actor_set.proofs.RogueLemmas.Ends.{RogueAt, rogue_to, rogue_from}
 use Rattle.device_model.specs.Disk.Disks as disk
 use Rattle.client_programs.specs.Blk.Clients as asker
 use Rattle.pipe_driver.specs.Lengths.{two_pipes}
@@ -37,6 +38,7 @@ PartEnd (ClientPart rx tx script) Producer n = n ≡ tx
 PartEnd (NetworkPart p) r n = IsThere (ends_of p) r n
 PartEnd (SendingPart p) r n = IsThere (send_sheet p).ends r n
 PartEnd (BlockPart p) r n = IsThere (blk_ends p) r n
+PartEnd (HostilePart p) r n = RogueAt p.inputs p.outputs r n
 
 pub number_there : (qs : List QueueId) (k : ℕ) (q : QueueId) (n : ℕ) → slice_get qs k ≡ Some q → n ≡ q.0 → slice_get (numbers qs) k ≡ Some n
 number_there [] k q n h e = cc
@@ -79,6 +81,8 @@ to_part (Kinds.BlkDriver x) r n whole h = pipes_to (two_pipes x.driver.pipes) r 
 to_part (Kinds.BlkVirt x) r n whole h = server_to x whole.from_each whole.to_each r n h
 to_part (Kinds.BlkClient x) Consumer n whole h = ones_to (asker.resp_queue x) (asker.req_queue x) Consumer n h
 to_part (Kinds.BlkClient x) Producer n whole h = ones_to (asker.resp_queue x) (asker.req_queue x) Producer n h
+to_part (Kinds.Rogue x) Consumer n whole h = (h.0, number_there x.inputs.items h.0 h.1 n h.2 h.3)
+to_part (Kinds.Rogue x) Producer n whole h = (h.0, number_there x.outputs.items h.0 h.1 n h.2 h.3)
 
 pub from_part : (x : Actor) (r : Role) (n : ℕ) → PartEnd (part_of x) r n → ActorEnd x r n
 from_part (Kinds.UartDevice x) Consumer n h = h
@@ -108,6 +112,28 @@ from_part (Kinds.BlkDriver x) r n h = pipes_from (two_pipes x.driver.pipes) r n 
 from_part (Kinds.BlkVirt x) r n h = server_from x r n h.0 h.1
 from_part (Kinds.BlkClient x) Consumer n h = ones_from (asker.resp_queue x) (asker.req_queue x) Consumer n h.0 h.1
 from_part (Kinds.BlkClient x) Producer n h = ones_from (asker.resp_queue x) (asker.req_queue x) Producer n h.0 h.1
+from_part (Kinds.Rogue x) Consumer n h = let q = queue_there x.inputs.items h.0 n h.1 in (h.0, q.0, q.1, q.2)
+from_part (Kinds.Rogue x) Producer n h = let q = queue_there x.outputs.items h.0 n h.1 in (h.0, q.0, q.1, q.2)
+
+-- of what it is made once it forgot its looks, they are the same
+pub from_anew : (x : Actor) (r : Role) (n : ℕ) → PartEnd (part_anew x) r n → ActorEnd x r n
+from_anew (Kinds.UartDevice x) r n h = from_part (Kinds.UartDevice x) r n h
+from_anew (Kinds.UartDriver x) r n h = from_part (Kinds.UartDriver x) r n h
+from_anew (Kinds.SerialVirtRx x) r n h = from_part (Kinds.SerialVirtRx x) r n h
+from_anew (Kinds.SerialVirtTx x) r n h = from_part (Kinds.SerialVirtTx x) r n h
+from_anew (Kinds.SerialClient x) r n h = from_part (Kinds.SerialClient x) r n h
+from_anew (Kinds.EthDevice x) r n h = from_part (Kinds.EthDevice x) r n h
+from_anew (Kinds.EthDriver x) r n h = from_part (Kinds.EthDriver x) r n h
+from_anew (Kinds.NetVirtRx x) r n h = from_part (Kinds.NetVirtRx x) r n h
+from_anew (Kinds.NetCopier x) r n h = from_part (Kinds.NetCopier x) r n h
+from_anew (Kinds.NetClient x) r n h = from_part (Kinds.NetClient x) r n h
+from_anew (Kinds.NetVirtTx x) r n h = from_part (Kinds.NetVirtTx x) r n h
+from_anew (Kinds.DiskDevice x) r n h = from_part (Kinds.DiskDevice x) r n h
+from_anew (Kinds.BlkDriver x) r n h = from_part (Kinds.BlkDriver x) r n h
+from_anew (Kinds.BlkVirt x) r n h = from_part (Kinds.BlkVirt x) r n h
+from_anew (Kinds.BlkClient x) r n h = from_part (Kinds.BlkClient x) r n h
+from_anew (Kinds.Rogue x) Consumer n h = from_part (Kinds.Rogue x) Consumer n h
+from_anew (Kinds.Rogue x) Producer n h = from_part (Kinds.Rogue x) Producer n h
 
 pub same_part : (x y : Actor) (r : Role) (n : ℕ) → part_of y ≡ part_of x → IsWhole y → ActorEnd y r n → ActorEnd x r n
 same_part x y r n e whole h = from_part x r n (subst (λ p. PartEnd p r n) e (to_part y r n whole h))
@@ -129,6 +155,7 @@ end_seat scene (ClientPart rx tx script) Producer n e = (1, ap (λ m. Some (outl
 end_seat scene (NetworkPart p) r n e = (e.0, ap (λ l. slice_get l e.0) (ends_same scene p) ∙ e.1)
 end_seat scene (SendingPart p) r n e = e
 end_seat scene (BlockPart p) r n e = (e.0, ap (λ l. slice_get l e.0) (blk_ends_same scene p) ∙ e.1)
+end_seat scene (HostilePart p) r n e = rogue_to p.inputs p.outputs r n e
 
 as_end : (p : Part) (a b : Seat) → a ≡ b → PartEnd p a.role a.queue → PartEnd p b.role b.queue
 as_end p a b e h = subst (λ (x : Seat). PartEnd p x.role x.queue) e h
@@ -152,3 +179,4 @@ seat_end scene (ClientPart rx tx script) (suc (suc i)) x at = cc
 seat_end scene (NetworkPart p) i x at = (i, ap (λ l. slice_get l i) (sym (ends_same scene p)) ∙ at)
 seat_end scene (SendingPart p) i x at = (i, at)
 seat_end scene (BlockPart p) i x at = (i, ap (λ l. slice_get l i) (sym (blk_ends_same scene p)) ∙ at)
+seat_end scene (HostilePart p) i x at = rogue_from p.inputs p.outputs i x at

@@ -36,7 +36,8 @@ use Rattle.play_core.specs.Wants.{intake_want, outlet_want, all_settled}
 use Rattle.play_core.specs.Sheets.{Scene}
 use Rattle.serial_law.specs.Bytes.{bytes_in, is_owed}
 use Rattle.serial_law.specs.Table.{some_owed, shares, taken_count, is_held}
-use Rattle.actor_set.specs.Laws.Kinds.{sheet}
+use Rattle.actor_set.specs.Laws.Kinds.{manner_of, sheet}
+use Rattle.play_core.specs.Manners.{Calm}
 use Rattle.actor_set.proofs.LawsLemmas.Rounds.{rests_is}
 use Rattle.actor_set.specs.Actors.{FitsActor, ActorStandsFor, part_of, actor_round, actor_rests, numbers}
 use Rattle.play_core.specs.Rests.Showing.{HaveItems, HaveBells}
@@ -165,25 +166,26 @@ module _ (scene : Scene) (w : List Queue) (passed : Passed) (items : Moved) (h :
 
 -- an actor is at rest where its sheet's wants are settled
 module _ (history : History) (journal : List Entry) (w : List Queue) (bells : HaveBells w history journal) (scene : Scene) (passed : Passed) (has : HaveItems passed (moved history journal)) where
-  settled_so : (x : Actor) → Meet (end_at w) (actor_round x).posts (actor_round x).needs ((sheet scene (part_of x)).wants (moved history journal)) → actor_rests x ≡ all_settled history journal ((sheet scene (part_of x)).wants (moved history journal))
-  settled_so x meet = rests_is x ∙ all_here history journal w bells (actor_round x).posts (actor_round x).needs ((sheet scene (part_of x)).wants (moved history journal)) meet
+  settled_so : (x : Actor) → manner_of (part_of x) ≡ Calm → Meet (end_at w) (actor_round x).posts (actor_round x).needs ((sheet scene (part_of x)).wants (moved history journal)) → actor_rests x ≡ all_settled history journal ((sheet scene (part_of x)).wants (moved history journal))
+  settled_so x calm meet = rests_is x calm ∙ all_here history journal w bells (actor_round x).posts (actor_round x).needs ((sheet scene (part_of x)).wants (moved history journal)) meet
 
-  rest_of : (x : Actor) → InTurn scene x passed → FitsActor (end_at w) x → ActorStandsFor x passed → actor_rests x ≡ all_settled history journal ((sheet scene (part_of x)).wants (moved history journal))
-  rest_of (Kinds.UartDevice x) turn f st = settled_so (Kinds.UartDevice x) (terminal_meets scene w passed (moved history journal) has x.terminal f st)
-  rest_of (Kinds.SerialClient x) turn f st = settled_so (Kinds.SerialClient x) (terminal_meets scene w passed (moved history journal) has x.terminal f st)
-  rest_of (Kinds.SerialVirtRx x) turn f st = settled_so (Kinds.SerialVirtRx x) (rx_meets scene w passed (moved history journal) has x f st)
-  rest_of (Kinds.SerialVirtTx x) turn f st = settled_so (Kinds.SerialVirtTx x) (tx_meets scene w passed (moved history journal) has x f st)
-  rest_of (Kinds.UartDriver x) turn f st = settled_so (Kinds.UartDriver x) (driver_meets scene w passed (moved history journal) has x f st)
-  rest_of (Kinds.EthDevice x) turn f st = device_rest scene history journal w passed has bells x f st
-  rest_of (Kinds.EthDriver x) turn f st = driver_rest scene history journal w passed has bells (four_pipes x.driver.pipes) x.driver.turn.last f st
-  rest_of (Kinds.NetVirtRx x) turn f st = receiver_rest scene history journal w passed has bells x turn f st
-  rest_of (Kinds.NetCopier x) turn f st = copier_rest scene history journal w passed has bells x turn f st
-  rest_of (Kinds.NetClient x) turn f st = client_rest scene history journal w passed has bells x turn.1 f.0 st
-  rest_of (Kinds.NetVirtTx x) turn f st = sender_rest history journal w passed has bells x turn.good turn.in_turn f st
-  rest_of (Kinds.DiskDevice x) turn f st = block.disk_rest scene history journal w passed has bells x.start.value x.device turn f st
-  rest_of (Kinds.BlkDriver x) turn f st = block.driver_rest scene history journal w passed has bells (two_pipes x.driver.pipes) x.driver.turn.last f st
-  rest_of (Kinds.BlkVirt x) turn f st = block.virt_rest scene history journal w passed has bells x turn f.0 st
-  rest_of (Kinds.BlkClient x) turn f st = block.client_rest scene history journal w passed has bells x turn f st
+  rest_of : (x : Actor) → manner_of (part_of x) ≡ Calm → InTurn scene x passed → FitsActor (end_at w) x → ActorStandsFor x passed → actor_rests x ≡ all_settled history journal ((sheet scene (part_of x)).wants (moved history journal))
+  rest_of (Kinds.UartDevice x) calm turn f st = settled_so (Kinds.UartDevice x) calm (terminal_meets scene w passed (moved history journal) has x.terminal f st)
+  rest_of (Kinds.SerialClient x) calm turn f st = settled_so (Kinds.SerialClient x) calm (terminal_meets scene w passed (moved history journal) has x.terminal f st)
+  rest_of (Kinds.SerialVirtRx x) calm turn f st = settled_so (Kinds.SerialVirtRx x) calm (rx_meets scene w passed (moved history journal) has x f st)
+  rest_of (Kinds.SerialVirtTx x) calm turn f st = settled_so (Kinds.SerialVirtTx x) calm (tx_meets scene w passed (moved history journal) has x f st)
+  rest_of (Kinds.UartDriver x) calm turn f st = settled_so (Kinds.UartDriver x) calm (driver_meets scene w passed (moved history journal) has x f st)
+  rest_of (Kinds.EthDevice x) calm turn f st = device_rest scene history journal w passed has bells x f st
+  rest_of (Kinds.EthDriver x) calm turn f st = driver_rest scene history journal w passed has bells (four_pipes x.driver.pipes) x.driver.turn.last f st
+  rest_of (Kinds.NetVirtRx x) calm turn f st = receiver_rest scene history journal w passed has bells x turn f st
+  rest_of (Kinds.NetCopier x) calm turn f st = copier_rest scene history journal w passed has bells x turn f st
+  rest_of (Kinds.NetClient x) calm turn f st = client_rest scene history journal w passed has bells x turn.1 f.0 st
+  rest_of (Kinds.NetVirtTx x) calm turn f st = sender_rest history journal w passed has bells x turn.good turn.in_turn f st
+  rest_of (Kinds.DiskDevice x) calm turn f st = block.disk_rest scene history journal w passed has bells x.start.value x.device turn f st
+  rest_of (Kinds.BlkDriver x) calm turn f st = block.driver_rest scene history journal w passed has bells (two_pipes x.driver.pipes) x.driver.turn.last f st
+  rest_of (Kinds.BlkVirt x) calm turn f st = block.virt_rest scene history journal w passed has bells x turn f.0 st
+  rest_of (Kinds.BlkClient x) calm turn f st = block.client_rest scene history journal w passed has bells x turn f st
+  rest_of (Kinds.Rogue x) calm turn f st = cc
 
-pub rests : (history : History) (journal : List Entry) (w : List Queue) → HaveBells w history journal → (scene : Scene) (x : Actor) (passed : Passed) → InTurn scene x passed → FitsActor (end_at w) x → ActorStandsFor x passed → HaveItems passed (moved history journal) → actor_rests x ≡ all_settled history journal ((sheet scene (part_of x)).wants (moved history journal))
-rests history journal w bells scene x passed turn fits stands has = rest_of history journal w bells scene passed has x turn fits stands
+pub rests : (history : History) (journal : List Entry) (w : List Queue) → HaveBells w history journal → (scene : Scene) (x : Actor) (passed : Passed) → manner_of (part_of x) ≡ Calm → InTurn scene x passed → FitsActor (end_at w) x → ActorStandsFor x passed → HaveItems passed (moved history journal) → actor_rests x ≡ all_settled history journal ((sheet scene (part_of x)).wants (moved history journal))
+rests history journal w bells scene x passed calm turn fits stands has = rest_of history journal w bells scene passed has x calm turn fits stands

@@ -127,6 +127,7 @@ module _ (scene : Scene) (passed : Passed) (items : Moved) (h : HaveItems passed
   actor_row (Kinds.BlkDriver x) turn f = driver_row scene (two_pipes x.driver.pipes) passed items (items_at (blk_sheet scene (blk_driver_part (two_pipes x.driver.pipes))).ends passed items h) (pipes_row_of (two_pipes x.driver.pipes) passed f)
   actor_row (Kinds.BlkVirt x) turn f = virt_row scene x passed items turn (items_at (blk_sheet scene (virt_part x)).ends passed items h) (server_row_of x passed f)
   actor_row (Kinds.BlkClient x) turn f = block.client_row x passed turn (asker_row_of x passed f) scene items (items_at (blk_sheet scene (blk_client_part x)).ends passed items h)
+  actor_row (Kinds.Rogue x) turn f = tt
 
 module _ (passed : Passed) (items : Moved) (h : HaveItems passed items) where
   -- what it recorded is what the items say of its part
@@ -146,6 +147,7 @@ module _ (passed : Passed) (items : Moved) (h : HaveItems passed items) where
   heard_here (Kinds.BlkDriver x) st = refl
   heard_here (Kinds.BlkVirt x) st = refl
   heard_here (Kinds.BlkClient x) st = refl
+  heard_here (Kinds.Rogue x) st = refl
 
 -- the frames that it recorded are those of the entries that it took
 pub frames_here : (passed : Passed) (x : Actor) → ActorStandsFor x passed → frames_got x ≡ frames_by passed (part_of x)
@@ -164,6 +166,7 @@ frames_here passed (Kinds.DiskDevice x) st = refl
 frames_here passed (Kinds.BlkDriver x) st = refl
 frames_here passed (Kinds.BlkVirt x) st = refl
 frames_here passed (Kinds.BlkClient x) st = refl
+frames_here passed (Kinds.Rogue x) st = refl
 
 -- the replies that it recorded are those to the responses that it took
 pub replies_here : (scene : Scene) (passed : Passed) (x : Actor) → InTurn scene x passed → ActorStandsFor x passed → replies_got x ≡ replies_by passed (part_of x)
@@ -183,3 +186,4 @@ replies_here scene passed (Kinds.BlkDriver x) turn st = refl
 replies_here scene passed (Kinds.BlkVirt x) turn st = refl
 replies_here scene passed (Kinds.BlkClient x) turn st =
     st.stands.replied ∙ ap (replies_to x.asking.script.items) (sym (st.taken ∙ (ap (λ o. st.came ++ option_to_list o) turn.free ∙ append-nil st.came)))
+replies_here scene passed (Kinds.Rogue x) turn st = refl

@@ -30,7 +30,7 @@ use Rattle.serial_virt.specs.declared.tx.SerialVirtTx.{SerialVirtTx}
 use Rattle.cargo_core.specs.declared.item.PoolId.{PoolId}
 use Rattle.cargo_core.specs.Bodies.{buffers_of}
 use Rattle.play_core.specs.Sheets.{Scene}
-use Rattle.actor_set.specs.Actors.{FitsActor, ActorStandsFor, ActorEnd, IsWhole, actor_hand, part_of}
+use Rattle.actor_set.specs.Actors.{FitsActor, ActorStandsFor, ActorEnd, IsWhole, actor_hand, part_anew, part_of}
 use Rattle.actor_set.specs.Laws.Kinds.{sheet}
 use Rattle.actor_set.specs.declared.actor.Actor.{Actor}
 use Rattle.actor_set.specs.declared.actor.Actor.TheVariants as Kinds
@@ -38,6 +38,9 @@ use Rattle.actor_set.specs.StartStates.{IsNew, HasApartEnds, HasSeat, kind_at}
 use Rattle.eth_driver.specs.Four.{four_pipes}
 use Rattle.actor_set.proofs.LawsLemmas.NetStarts.{Seated, new_pipes_fit, new_device_fits, new_copier_fits, new_client_fits, new_receiver_fits, new_receiver_whole, new_client_few, new_copier_work, new_pipes_stand, new_device_stands, new_copier_stands, new_client_stands, new_receiver_hand, new_client_hand}
 use Rattle.actor_set.proofs.LawsLemmas.TxStarts.{new_sender_fits, new_sender_whole, new_sender_hand}
+use Rattle.client_programs.specs.Rogue.Clients.{FitsEnd}
+use Rattle.client_programs.proofs.RogueLemmas.Following.{starts_stand}
+use Rattle.actor_set.proofs.RogueLemmas.Ends.{new_rogue_anew, new_rogue_fits, new_rogue_hand}
 use Rattle.actor_set.proofs.LawsLemmas.BlkStarts.{Carried, new_disk_fits, new_blk_driver_fits, new_server_fits, new_asker_fits, new_server_whole, new_disk_stands, new_server_hand, new_asker_hand}
 use Rattle.play_core.proofs.Lists.{there_below, some_is, map_get, map_from}
 
@@ -171,6 +174,7 @@ module _ (rows : List QueueRow) (k : ℕ) where
   new_fits (Kinds.BlkDriver x) new apart seats = new_blk_driver_fits ends x new.0 new.1 apart.0 apart.1 (carried_seats (kind_at (Kinds.BlkDriver x)) (ActorEnd (Kinds.BlkDriver x)) seats)
   new_fits (Kinds.BlkVirt x) new apart seats = (new_server_fits ends x new (new_server_whole x new) apart (carried_seats (kind_at (Kinds.BlkVirt x)) (ActorEnd (Kinds.BlkVirt x)) seats), new.few, new.first)
   new_fits (Kinds.BlkClient x) new apart seats = new_asker_fits ends x new (carried_seats (kind_at (Kinds.BlkClient x)) (ActorEnd (Kinds.BlkClient x)) seats)
+  new_fits (Kinds.Rogue x) new apart seats = new_rogue_fits ends x new (λ n own. let s = seat_end (kind_at (Kinds.Rogue x) Consumer n) Consumer n (seats Consumer n own) in subst FitsEnd (sym s) (record { owned = refl; waiter = refl; ringer = refl })) (λ n own. let s = seat_end (kind_at (Kinds.Rogue x) Producer n) Producer n (seats Producer n own) in (subst FitsEnd (sym s) (record { owned = refl; waiter = refl; ringer = refl }), ap (λ (e : End). e.kind) s))
 
 terminal_stands : (t : Terminal) → IsNewTerminal t.input.queue t.output.queue t.script t → TerminalStandsFor t nothing_passed
 terminal_stands t new = record { sent_is = rw new.next refl; record_is = new.recorded }
@@ -208,6 +212,7 @@ new_stands (Kinds.DiskDevice x) new = new_disk_stands x.start.value x.device new
 new_stands (Kinds.BlkDriver x) new = (pipe_stands x.driver.pipes.first new.0, (pipe_stands x.driver.pipes.rest new.1, tt))
 new_stands (Kinds.BlkVirt x) new = new.stands
 new_stands (Kinds.BlkClient x) new = new.stands
+new_stands (Kinds.Rogue x) new = starts_stand x new.keeps
 
 -- what it keeps fits together
 pub new_whole : (x : Actor) → IsNew x → IsWhole x
@@ -226,6 +231,7 @@ new_whole (Kinds.DiskDevice x) new = tt
 new_whole (Kinds.BlkDriver x) new = tt
 new_whole (Kinds.BlkVirt x) new = new_server_whole x new
 new_whole (Kinds.BlkClient x) new = new.asking
+new_whole (Kinds.Rogue x) new = new.is
 
 -- and what fits its ends does
 pub fits_whole : (ends : Role → ℕ → End) (x : Actor) → FitsActor ends x → IsWhole x
@@ -244,6 +250,7 @@ fits_whole ends (Kinds.DiskDevice x) f = tt
 fits_whole ends (Kinds.BlkDriver x) f = tt
 fits_whole ends (Kinds.BlkVirt x) f = record { few = f.1; first = f.2; from_each = f.0.from_each; to_each = f.0.to_each }
 fits_whole ends (Kinds.BlkClient x) f = f.asking
+fits_whole ends (Kinds.Rogue x) f = f.is
 
 -- its hand is the start hand of its sheet
 pub new_hand : (scene : Scene) (x : Actor) → IsNew x → (pool : PoolId) → buffers_of pool (actor_hand x) ≡ length ((sheet scene (part_of x)).hand pool.0)
@@ -262,3 +269,23 @@ new_hand scene (Kinds.DiskDevice x) new pool = rw (new.load, new.stray) refl
 new_hand scene (Kinds.BlkDriver x) new pool = rw (new.0.load, new.1.load) refl
 new_hand scene (Kinds.BlkVirt x) new pool = new_server_hand scene x new pool
 new_hand scene (Kinds.BlkClient x) new pool = new_asker_hand scene x new pool
+new_hand scene (Kinds.Rogue x) new pool = new_rogue_hand x new pool
+
+-- and nothing to forget
+pub new_anew : (x : Actor) → IsNew x → part_anew x ≡ part_of x
+new_anew (Kinds.UartDevice x) new = refl
+new_anew (Kinds.UartDriver x) new = refl
+new_anew (Kinds.SerialVirtRx x) new = refl
+new_anew (Kinds.SerialVirtTx x) new = refl
+new_anew (Kinds.SerialClient x) new = refl
+new_anew (Kinds.EthDevice x) new = refl
+new_anew (Kinds.EthDriver x) new = refl
+new_anew (Kinds.NetVirtRx x) new = refl
+new_anew (Kinds.NetCopier x) new = refl
+new_anew (Kinds.NetClient x) new = refl
+new_anew (Kinds.NetVirtTx x) new = refl
+new_anew (Kinds.DiskDevice x) new = refl
+new_anew (Kinds.BlkDriver x) new = refl
+new_anew (Kinds.BlkVirt x) new = refl
+new_anew (Kinds.BlkClient x) new = refl
+new_anew (Kinds.Rogue x) new = new_rogue_anew x new

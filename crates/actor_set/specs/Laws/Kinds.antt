@@ -1,6 +1,6 @@
 -- The table of the kinds of actor, of all classes: what is said of each of them, how it goes about,
 -- and what a trace gives them beside what they say.
-use Rattle.std.specs.Prelude.{ℕ, Bool, not, ◌&&◌, List, [], ◌∷◌, flat_map, slice_get}
+use Rattle.std.specs.Prelude.{◌≡◌, ℕ, Bool, not, ◌&&◌, Some, List, [], ◌∷◌, flat_map, slice_get}
 use Rattle.std.specs.Option.{option_map_or}
 use Rattle.cargo_core.specs.declared.item.QueueKind.{QueueKind}
 use Rattle.cargo_core.specs.declared.item.QueueKind.TheVariants as Kind
@@ -18,8 +18,9 @@ use Rattle.net_law.specs.TxParts.Table.{send_sheet}
 use Rattle.blk_law.specs.Sheets.Parts.{BlkPart, DiskDevice, BlkDriver, BlkVirt, BlkClient}
 use Rattle.blk_law.specs.Sheets.Table.{blk_sheet}
 use Rattle.actor_set.specs.Parts.{Part, UartPart, DriverPart, RxPart, TxPart, ClientPart}
-use Rattle.actor_set.specs.Parts.{NetworkPart, SendingPart, BlockPart}
-use Rattle.actor_set.specs.StartStates.{kind_by, kind_of_two}
+use Rattle.actor_set.specs.Parts.{NetworkPart, SendingPart, BlockPart, HostilePart}
+use Rattle.actor_set.specs.Rogues.{rogue_manner, rogue_sheet, pages_in}
+use Rattle.actor_set.specs.StartStates.{kind_by, kind_of_two, taken_kind}
 
 -- an actor of the serial class as one of all
 abbrev pub serial_part : SerialPart → Part
@@ -47,6 +48,7 @@ frames_of (ClientPart rx tx script) = []
 frames_of (NetworkPart p) = net_frames_of p
 frames_of (SendingPart p) = []
 frames_of (BlockPart p) = []
+frames_of (HostilePart p) = []
 
 -- the image that a trace gives an actor of the block class: that of its disk at the start
 abbrev pub blk_image_of : BlkPart → List ℕ
@@ -65,6 +67,7 @@ image_of (ClientPart rx tx script) = []
 image_of (NetworkPart p) = []
 image_of (SendingPart p) = []
 image_of (BlockPart p) = blk_image_of p
+image_of (HostilePart p) = []
 
 -- what a trace gives a cast beside its parts
 abbrev pub scene_of : List Part → Scene
@@ -81,8 +84,9 @@ sheet scene (ClientPart rx tx script) = serial_sheet (SerialClient rx tx script)
 sheet scene (NetworkPart p) = net_sheet scene p
 sheet scene (SendingPart p) = send_sheet p
 sheet scene (BlockPart p) = blk_sheet scene p
+sheet scene (HostilePart p) = rogue_sheet p.inputs p.outputs (pages_in p.pages)
 
--- how a part goes about: all of these are calm
+-- how a part goes about: all are calm but a hostile client
 abbrev pub manner_of : Part → Manner
 manner_of (UartPart rx tx input) = Calm
 manner_of (DriverPart device_rx device_tx rx tx) = Calm
@@ -92,6 +96,7 @@ manner_of (ClientPart rx tx script) = Calm
 manner_of (NetworkPart p) = Calm
 manner_of (SendingPart p) = Calm
 manner_of (BlockPart p) = Calm
+manner_of (HostilePart p) = rogue_manner p.start
 
 -- how each actor of a cast goes about
 abbrev pub manners : List Part → Manners
@@ -122,6 +127,11 @@ part_kind (ClientPart rx tx script) r n = Kind.Byte
 part_kind (NetworkPart p) r n = Kind.Net
 part_kind (SendingPart p) r n = Kind.Net
 part_kind (BlockPart p) r n = blk_kind p r n
+part_kind (HostilePart p) r n = kind_by (taken_kind p.kind) p.kind r
+
+-- nobody of a cast is hostile
+abbrev pub AllCalm : List Part → Type 0
+AllCalm cast = (k : ℕ) (p : Part) → slice_get cast k ≡ Some p → manner_of p ≡ Calm
 
 -- which of them are hostile
 abbrev pub hostiles : List Part → Hostiles

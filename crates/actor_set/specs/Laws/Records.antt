@@ -10,7 +10,7 @@ use Rattle.net_law.specs.Parts.Parts.{NetClient}
 use Rattle.client_programs.specs.Blk.Asking.{replies_to}
 use Rattle.blk_law.specs.Sheets.Parts.{BlkPart, DiskDevice, BlkDriver, BlkVirt, BlkClient}
 use Rattle.actor_set.specs.Parts.{Part, UartPart, DriverPart, RxPart, TxPart, ClientPart}
-use Rattle.actor_set.specs.Parts.{NetworkPart, SendingPart, BlockPart}
+use Rattle.actor_set.specs.Parts.{NetworkPart, SendingPart, BlockPart, HostilePart}
 use Rattle.actor_set.specs.declared.actor.Actor.{Actor}
 use Rattle.actor_set.specs.declared.actor.Actor.TheVariants as Kinds
 
@@ -31,6 +31,7 @@ record_of (Kinds.DiskDevice x) = []
 record_of (Kinds.BlkDriver x) = []
 record_of (Kinds.BlkVirt x) = []
 record_of (Kinds.BlkClient x) = []
+record_of (Kinds.Rogue x) = []
 
 -- the bytes that a part recorded: a device for its line and a client for its record what they took
 abbrev pub record_by : Moved → Part → List ℕ
@@ -42,6 +43,7 @@ record_by m (TxPart tx clients) = []
 record_by m (NetworkPart p) = []
 record_by m (SendingPart p) = []
 record_by m (BlockPart p) = []
+record_by m (HostilePart p) = []
 
 -- the frames that an actor recorded: a device what was sent on its wire, a client what it got
 abbrev pub frames_got : Actor → List (List ℕ)
@@ -60,6 +62,7 @@ frames_got (Kinds.DiskDevice x) = []
 frames_got (Kinds.BlkDriver x) = []
 frames_got (Kinds.BlkVirt x) = []
 frames_got (Kinds.BlkClient x) = []
+frames_got (Kinds.Rogue x) = []
 
 -- the frames that a part of the network class recorded, by the entries that it took with their
 -- bodies: a device for its wire and a client for its record the frames in them
@@ -82,6 +85,7 @@ frames_by passed (ClientPart rx tx script) = []
 frames_by passed (NetworkPart p) = net_frames_by passed p
 frames_by passed (SendingPart p) = []
 frames_by passed (BlockPart p) = []
+frames_by passed (HostilePart p) = []
 
 -- the replies that an actor recorded: a block client what it got
 abbrev pub replies_got : Actor → List Reply
@@ -100,6 +104,7 @@ replies_got (Kinds.DiskDevice x) = []
 replies_got (Kinds.BlkDriver x) = []
 replies_got (Kinds.BlkVirt x) = []
 replies_got (Kinds.BlkClient x) = x.asking.kept.shown
+replies_got (Kinds.Rogue x) = []
 
 -- the replies that a part of the block class recorded, by the entries that it took with their
 -- bodies: a client the responses to what it asks
@@ -119,3 +124,4 @@ replies_by passed (ClientPart rx tx script) = []
 replies_by passed (NetworkPart p) = []
 replies_by passed (SendingPart p) = []
 replies_by passed (BlockPart p) = blk_replies_by passed p
+replies_by passed (HostilePart p) = []

@@ -13,7 +13,7 @@ use Rattle.net_law.specs.TxScene.Table as sending
 use Rattle.blk_law.specs.VirtScene.Playing as serves
 use Rattle.blk_law.specs.VirtScene.Table as block
 use Rattle.actor_set.specs.Parts.{Part, UartPart, DriverPart, RxPart, TxPart, ClientPart}
-use Rattle.actor_set.specs.Parts.{NetworkPart, SendingPart, BlockPart}
+use Rattle.actor_set.specs.Parts.{NetworkPart, SendingPart, BlockPart, HostilePart}
 use Rattle.actor_set.specs.declared.actor.Actor.{Actor}
 use Rattle.actor_set.specs.declared.actor.Actor.TheVariants as Kinds
 use Rattle.actor_set.specs.Laws.Kinds.{sheet}
@@ -31,6 +31,7 @@ told_sheet scene wild names (ClientPart rx tx script) = sheet scene (ClientPart 
 told_sheet scene wild names (NetworkPart p) = sheet scene (NetworkPart p)
 told_sheet scene wild names (SendingPart p) = sending.both_sheet wild names p
 told_sheet scene wild names (BlockPart p) = block.both_sheet scene wild names p
+told_sheet scene wild names (HostilePart p) = sheet scene (HostilePart p)
 
 -- what a part asks the names of has names that are told
 abbrev pub LiesWithin : Wild → Names → Part → Moved → Type 0
@@ -42,6 +43,7 @@ LiesWithin wild names (ClientPart rx tx script) m = Unit {0}
 LiesWithin wild names (NetworkPart p) m = Unit {0}
 LiesWithin wild names (SendingPart p) m = sending.LiesWithin wild names p m
 LiesWithin wild names (BlockPart p) m = block.LiesWithin wild names p m
+LiesWithin wild names (HostilePart p) m = Unit {0}
 
 -- no client of a part is hostile
 abbrev pub NoneWild : Wild → Part → Type 0
@@ -53,6 +55,7 @@ NoneWild wild (ClientPart rx tx script) = Unit {0}
 NoneWild wild (NetworkPart p) = Unit {0}
 NoneWild wild (SendingPart p) = sending.NoneWild wild p
 NoneWild wild (BlockPart p) = block.NoneWild wild p
+NoneWild wild (HostilePart p) = Unit {0}
 
 -- nothing came out of turn at a sending virtualiser of the network: each descriptor that came from
 -- a client that isn't hostile is good, and what came back for a hostile one; and the names of what
@@ -86,3 +89,4 @@ ToldInTurn scene wild names (Kinds.BlkDriver x) passed = InTurn scene (Kinds.Blk
 ToldInTurn scene wild names (Kinds.BlkVirt x) passed =
     serves.BothInTurn wild scene.image x passed × serves.TellsOf wild names x passed
 ToldInTurn scene wild names (Kinds.BlkClient x) passed = InTurn scene (Kinds.BlkClient x) passed
+ToldInTurn scene wild names (Kinds.Rogue x) passed = InTurn scene (Kinds.Rogue x) passed

@@ -35,3 +35,4 @@ InTurn scene (Kinds.DiskDevice x) passed = DiskInTurn x.start.value x.device pas
 InTurn scene (Kinds.BlkDriver x) passed = Unit {0}
 InTurn scene (Kinds.BlkVirt x) passed = VirtInTurn scene.image x passed
 InTurn scene (Kinds.BlkClient x) passed = ClientInTurn x passed
+InTurn scene (Kinds.Rogue x) passed = Unit {0}

@@ -21,8 +21,9 @@ use Rattle.page_law.proofs.ActorsLemmas.Pages.{same_sum, none_sum, first_sum}
 use Rattle.page_law.proofs.LawLemmas.Placing.{below_at}
 use Rattle.net_law.specs.Parts.Parts.{NetDevice, NetDriver, NetReceiver, NetCopier, NetClient}
 use Rattle.blk_law.specs.Sheets.Parts.{DiskDevice, BlkDriver, BlkVirt, BlkClient}
-use Rattle.actor_set.specs.Parts.{Part, UartPart, DriverPart, RxPart, TxPart, ClientPart, NetworkPart, SendingPart, BlockPart}
-use Rattle.actor_set.specs.Laws.Kinds.{sheet, scene_of}
+use Rattle.actor_set.specs.Parts.{HostilePart, Part, UartPart, DriverPart, RxPart, TxPart, ClientPart, NetworkPart, SendingPart, BlockPart}
+use Rattle.actor_set.specs.Laws.Kinds.{manner_of, AllCalm, sheet, scene_of}
+use Rattle.play_core.specs.Manners.{Calm}
 use Rattle.cast_law.specs.Pools.Places.{PoolPlace, IsPlaced, HasPools, place_sizes}
 use Rattle.cast_law.specs.Pools.Pooling.{keepers_at}
 use Rattle.cast_law.specs.Pages.Paging.{part_pools, pool_weighs, pools_weigh}
@@ -59,34 +60,35 @@ module _ (pool number : ℕ) where
   one_count : (p : PoolAt) → sum_by (pool_weighs the) (p ∷ []) ≡ count_by (λ x. x == number) (pool_hand p pool)
   one_count p = omega (arith, sum_by-cons (pool_weighs the) p [], page_count p)
 
-  part_count : (scene : Scene) (p : Part) → sum_by (pool_weighs the) (part_pools p) ≡ at_start (sheet scene p).hand buffer
-  part_count scene (UartPart rx tx input) = refl
-  part_count scene (DriverPart device_rx device_tx rx tx) = refl
-  part_count scene (RxPart rx clients) = refl
-  part_count scene (TxPart tx clients) = refl
-  part_count scene (ClientPart rx tx script) = refl
-  part_count scene (NetworkPart (NetDevice rx_free rx_active tx_active tx_free frames)) = refl
-  part_count scene (NetworkPart (NetDriver ways)) = refl
-  part_count scene (NetworkPart (NetReceiver active free p clients)) = one_count p
-  part_count scene (NetworkPart (NetCopier lease_active lease_free rx_active rx_free)) = refl
-  part_count scene (NetworkPart (NetClient program mac rx_active rx_free tx_active tx_free rx tx)) =
+  part_count : (scene : Scene) (p : Part) → manner_of p ≡ Calm → sum_by (pool_weighs the) (part_pools p) ≡ at_start (sheet scene p).hand buffer
+  part_count scene (UartPart rx tx input) calm = refl
+  part_count scene (DriverPart device_rx device_tx rx tx) calm = refl
+  part_count scene (RxPart rx clients) calm = refl
+  part_count scene (TxPart tx clients) calm = refl
+  part_count scene (ClientPart rx tx script) calm = refl
+  part_count scene (NetworkPart (NetDevice rx_free rx_active tx_active tx_free frames)) calm = refl
+  part_count scene (NetworkPart (NetDriver ways)) calm = refl
+  part_count scene (NetworkPart (NetReceiver active free p clients)) calm = one_count p
+  part_count scene (NetworkPart (NetCopier lease_active lease_free rx_active rx_free)) calm = refl
+  part_count scene (NetworkPart (NetClient program mac rx_active rx_free tx_active tx_free rx tx)) calm =
       let both = sum_by-append (λ x. cond {A = ℕ} (x == number) 1 0) (pool_hand rx pool) (pool_hand tx pool) in
       omega (arith, both, sum_by-cons (pool_weighs the) rx (tx ∷ []), page_count rx, one_count tx)
-  part_count scene (SendingPart p) = refl
-  part_count scene (BlockPart (DiskDevice req resp image)) = refl
-  part_count scene (BlockPart (BlkDriver ways)) = refl
-  part_count scene (BlockPart (BlkVirt req resp sectors p clients)) = one_count p
-  part_count scene (BlockPart (BlkClient req resp asks p)) = one_count p
+  part_count scene (SendingPart p) calm = refl
+  part_count scene (BlockPart (DiskDevice req resp image)) calm = refl
+  part_count scene (BlockPart (BlkDriver ways)) calm = refl
+  part_count scene (BlockPart (BlkVirt req resp sectors p clients)) calm = one_count p
+  part_count scene (BlockPart (BlkClient req resp asks p)) calm = one_count p
+  part_count scene (HostilePart p) calm = absurd cc
 
-  parts_count : (scene : Scene) (cast : List Part) → pools_weigh the cast ≡ sum_by (λ (k : Keeper). at_start k.hand buffer) (map (λ p. keeper_of (sheet scene p)) cast)
-  parts_count scene [] = refl
-  parts_count scene (p ∷ cast) =
+  parts_count : (scene : Scene) (cast : List Part) → AllCalm cast → pools_weigh the cast ≡ sum_by (λ (k : Keeper). at_start k.hand buffer) (map (λ p. keeper_of (sheet scene p)) cast)
+  parts_count scene [] calm = refl
+  parts_count scene (p ∷ cast) calm =
       omega (
         arith,
         sum_by-cons (λ (q : Part). sum_by (pool_weighs the) (part_pools q)) p cast,
         sum_by-cons (λ (k : Keeper). at_start k.hand buffer) (keeper_of (sheet scene p)) (map (λ q. keeper_of (sheet scene q)) cast),
-        part_count scene p,
-        parts_count scene cast,
+        part_count scene p (calm 0 p refl),
+        parts_count scene cast (λ k q at. calm (suc k) q at),
       )
 
 at_least : {X : Type 0} (g : X → ℕ) (xs : List X) (k : ℕ) (x : X) → slice_get xs k ≡ Some x → g x ≤ sum_by g xs
@@ -101,29 +103,29 @@ two_least g (z ∷ xs) zero (suc j) x y at at' ne = omega (arith, sum_by-cons g 
 two_least g (z ∷ xs) (suc i) zero x y at at' ne = omega (arith, sum_by-cons g z xs, ap g (some_is at'), at_least g xs i x at)
 two_least g (z ∷ xs) (suc i) (suc j) x y at at' ne = omega (arith, sum_by-cons g z xs, two_least g xs i j x y at at' (λ e. ne (ap (λ n. suc n) e)))
 
-module _ (rows : List QueueRow) (pools : List PoolRow) (place : PoolPlace) (cast : List Part) (seated : AreSeated (sheet (scene_of cast)) rows cast) (placed : IsPlaced rows place cast) (has : HasPools pools place) where
+module _ (rows : List QueueRow) (pools : List PoolRow) (place : PoolPlace) (cast : List Part) (calm : AllCalm cast) (seated : AreSeated (sheet (scene_of cast)) rows cast) (placed : IsPlaced rows place cast) (has : HasPools pools place) where
   abbrev owns : ℕ → ℕ
-  owns = owner rows cast seated place.net place.blk placed.net placed.blk has.numbered
+  owns = owner rows cast calm seated place.net place.blk placed.net placed.blk has.numbered
 
   -- at most once, whatever the number
   pub few : (pool number : ℕ) → pools_weigh (the_page (record { 0 = pool }) number) cast ≤ 1
   few pool number =
-      let dealt = spread_dealt (place_sizes place) owns (keepers_at cast) (are_spread rows cast seated place.net place.blk placed.net placed.blk has.numbered) (record { pool = pool; no = number }) in
-      omega (arith, parts_count pool number (scene_of cast) cast, dealt)
+      let dealt = spread_dealt (place_sizes place) owns (keepers_at cast) (are_spread rows cast calm seated place.net place.blk placed.net placed.blk has.numbered) (record { pool = pool; no = number }) in
+      omega (arith, parts_count pool number (scene_of cast) cast calm, dealt)
 
   pub pages_once : (pool number : ℕ) → number < place_sizes place pool → pools_weigh (the_page (record { 0 = pool }) number) cast ≡ 1
-  pages_once pool number lt = by (pool_owned rows cast seated place.net place.blk placed.net placed.blk has.numbered pool)
+  pages_once pool number lt = by (pool_owned rows cast calm seated place.net place.blk placed.net placed.blk has.numbered pool)
     where
       by : (owns pool < length cast) ⊎ (place_sizes place pool ≡ 0) → pools_weigh (the_page (record { 0 = pool }) number) cast ≡ 1
       by (inl there) =
           let same : length (keepers_at cast) ≡ length cast = length-map cast (λ p. keeper_of (sheet (scene_of cast) p)) in
           let p = there_is (keepers_at cast) (owns pool) (omega (arith, there, same)) in
-          let spread = are_spread rows cast seated place.net place.blk placed.net placed.blk has.numbered (owns pool) p.0 p.1 pool in
+          let spread = are_spread rows cast calm seated place.net place.blk placed.net placed.blk has.numbered (owns pool) p.0 p.1 pool in
           let hand : p.0.hand pool ≡ numbers_from 0 (place_sizes place pool) = spread ∙ ap (λ t. cond t (numbers_from 0 (place_sizes place pool)) []) (eq-eqb (owns pool) (owns pool) refl) in
           let mine : at_start p.0.hand (record { pool = pool; no = number }) ≡ count_by (λ x. x == number) (numbers_from 0 (place_sizes place pool)) = ap (count_by (λ x. x == number)) hand in
           let some = number_there 0 (place_sizes place pool) number (omega arith) (omega (arith, lt)) in
           let all = at_least (λ (k : Keeper). at_start k.hand (record { pool = pool; no = number })) (keepers_at cast) (owns pool) p.0 p.1 in
-          omega (arith, parts_count pool number (scene_of cast) cast, few pool number, mine, some, all)
+          omega (arith, parts_count pool number (scene_of cast) cast calm, few pool number, mine, some, all)
       by (inr none) = absurd (omega (arith, none, lt))
 
   flat : (f : Count) → sum_by (pool_weighs f) (flat_map part_pools cast) ≡ pools_weigh f cast

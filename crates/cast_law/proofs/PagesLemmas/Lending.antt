@@ -55,3 +55,4 @@ module _ (naming : Naming) (scene : Scene) (m : Moved) (passed : Passed) (f : Co
   kept_lends (Kinds.BlkDriver x) names takes = refl
   kept_lends (Kinds.BlkVirt x) names takes = refl
   kept_lends (Kinds.BlkClient x) names takes = refl
+  kept_lends (Kinds.Rogue x) names takes = refl

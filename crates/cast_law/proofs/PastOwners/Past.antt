@@ -61,10 +61,10 @@ module _ (history : History) (rows : List QueueRow) (pools : List PoolRow) (plac
   m = moved history []
 
   abbrev lender : ℕ
-  lender = lender_at rows cast play.seated place.net placed.net
+  lender = lender_at rows cast play.calm play.seated place.net placed.net
 
   named : IsNaming naming lender hostile rows
-  named = naming_is rows cast play.seated place.net place.blk placed.net placed.blk
+  named = naming_is rows cast play.calm play.seated place.net place.blk placed.net placed.blk
 
   actor_at : (k : ℕ) (p : Part) → slice_get cast k ≡ Some p → (x : Actor) × (slice_get actors k ≡ Some x) × (part_of x ≡ p)
   actor_at k p at = map_from part_of actors k p at
@@ -75,7 +75,7 @@ module _ (history : History) (rows : List QueueRow) (pools : List PoolRow) (plac
   own : (k : ℕ) (p : Part) → slice_get cast k ≡ Some p → PutsItsOwnInOrder naming (sheet scene p)
   own k p at =
       let x = actor_at k p at in
-      subst (λ q. PutsItsOwnInOrder naming (sheet scene q)) x.2 (own_at rows cast play.seated place.net place.blk placed.net placed.blk passed x.0 (names_at rows cast play.seated place.net place.blk placed.net placed.blk k (part_of x.0) (map_get part_of actors k x.0 x.1)) (play.stands k x.0 x.1))
+      subst (λ q. PutsItsOwnInOrder naming (sheet scene q)) x.2 (own_at rows cast play.calm play.seated place.net place.blk placed.net placed.blk passed x.0 (names_at rows cast play.calm play.seated place.net place.blk placed.net placed.blk k (part_of x.0) (map_get part_of actors k x.0 x.1)) (play.stands k x.0 x.1))
 
   kindly : AreKindly history rows []
   kindly = (play_kinds history rows actors [] passed world play).0
@@ -88,13 +88,13 @@ module _ (history : History) (rows : List QueueRow) (pools : List PoolRow) (plac
       by None at kinds = kinds
 
   order : IsInOrder naming m
-  order = in_order rows place.net cast m play.rows_hold.0 over place.blk placed.blk (λ q row at. subst (λ o. IsKindly o (m.sent q) (m.taken q)) at (kindly q))
+  order = in_order rows place.net cast play.calm m play.rows_hold.0 over place.blk placed.blk (λ q row at. subst (λ o. IsKindly o (m.sent q) (m.taken q)) at (kindly q))
 
   -- each actor put only what was in its hand
   keeps : (k : ℕ) (p : Keeper) → slice_get keepers k ≡ Some p → Keeps p.hand (all_taken naming m p.ends) (all_put naming m p.ends)
   keeps k p at =
       let x = map_from (λ y. keeper_of (sheet scene y)) cast k p at in
-      subst (λ (y : Keeper). Keeps y.hand (all_taken naming m y.ends) (all_put naming m y.ends)) x.2 (own k x.0 x.1 m order (apart k x.0 x.1) (play.rows_hold.0 k x.0 (calm_actor cast k) x.1))
+      subst (λ (y : Keeper). Keeps y.hand (all_taken naming m y.ends) (all_put naming m y.ends)) x.2 (own k x.0 x.1 m order (apart k x.0 x.1) (play.rows_hold.0 k x.0 (calm_actor cast play.calm k) x.1))
 
   theirs : KeepTheirs naming lender hostile history rows keepers []
   theirs = record {
@@ -105,16 +105,16 @@ module _ (history : History) (rows : List QueueRow) (pools : List PoolRow) (plac
   }
 
   dealt : AreDealt keepers
-  dealt = spread_dealt (place_sizes place) (owner rows cast play.seated place.net place.blk placed.net placed.blk has.numbered) keepers (are_spread rows cast play.seated place.net place.blk placed.net placed.blk has.numbered)
+  dealt = spread_dealt (place_sizes place) (owner rows cast play.calm play.seated place.net place.blk placed.net placed.blk has.numbered) keepers (are_spread rows cast play.calm play.seated place.net place.blk placed.net placed.blk has.numbered)
 
   same : length keepers ≡ length cast
   same = length-map cast (λ p. keeper_of (sheet scene p))
 
   -- the lender is one of the actors, where there are any
-  nobody : (n : Option NetPlace) (at : HasNetAt rows n cast) → length keepers ≤ lender_at rows cast play.seated n at → length cast ≡ 0
+  nobody : (n : Option NetPlace) (at : HasNetAt rows n cast) → length keepers ≤ lender_at rows cast play.calm play.seated n at → length cast ≡ 0
   nobody None none le = omega (arith, le, same)
   nobody (Some net) net_has le =
-      let receiver = at_receiver rows net cast net_has.0 net_has.1 in
+      let receiver = at_receiver rows net cast play.calm net_has.0 net_has.1 in
       absurd (omega (arith, le, same, there_below cast receiver.0 _ receiver.1))
 
   pub past_owned : HasOwners history rows place cast
@@ -126,7 +126,7 @@ module _ (history : History) (rows : List QueueRow) (pools : List PoolRow) (plac
           record {
             table = shown_table naming lender keepers (length rows) m;
             begins = record { lender = lender; naming_is = named; counted = shows.1; shown = shows.0 };
-            pools = λ k. pools_stay naming lender hostile history rows keepers [] theirs k (place_sizes place k) (all_there rows cast play.seated place placed has.numbered k);
+            pools = λ k. pools_stay naming lender hostile history rows keepers [] theirs k (place_sizes place k) (all_there rows cast play.calm play.seated place placed has.numbered k);
           }
       by (inr le) =
           let empty : length cast ≡ 0 = nobody place.net placed.net le in
@@ -139,5 +139,5 @@ module _ (history : History) (rows : List QueueRow) (pools : List PoolRow) (plac
               counted = start_counted keepers;
               shown = subst (λ ks. IsShownBy naming lender ks m (start_table ks)) (sym none) (nobody_shown naming lender hostile rows m named (subst (IsPeopled rows) empty play.peopled));
             };
-            pools = all_there rows cast play.seated place placed has.numbered;
+            pools = all_there rows cast play.calm play.seated place placed has.numbered;
           }

@@ -1,5 +1,5 @@
 -- No actor has an end twice, where no two of its ends on one side are of one queue.
-use Rattle.std.proofs.Common.{◌≡◌, ◌⊎◌, ℕ, zero, suc, Some, List, [], ◌∷◌, map, flat_map, slice_get, refl, sym, ap, ◌∙◌, arith, inl, inr}
+use Rattle.std.proofs.Common.{◌≡◌, ◌⊎◌, ◌++◌, ℕ, zero, suc, All, Some, List, [], ◌∷◌, map, flat_map, slice_get, refl, sym, ap, ◌∙◌, arith, inl, inr}
 use Rattle.wire_core.specs.declared.names.QueueId.{QueueId}
 use Rattle.wire_core.specs.Ends.{Role, Consumer, Producer, End}
 use Rattle.play_core.specs.Moved.{Seat}
@@ -13,6 +13,7 @@ use Rattle.pipe_driver.specs.Lengths.{two_pipes}
 use Rattle.eth_driver.specs.Four.{four_pipes}
 use Rattle.device_model.specs.Ethernet.Devices as device
 use Rattle.client_programs.specs.Net.Clients as client
+use Rattle.client_programs.specs.Rogue.Clients.{AreApart as NoneTwice}
 use Rattle.buffer_kit.specs.Virtualising.{FitsVirt, from_queues, to_queues}
 use Rattle.net_virt_rx.specs.declared.NetVirtRx.{NetVirtRx}
 use Rattle.net_virt_tx.specs.declared.NetVirtTx.{NetVirtTx}
@@ -117,6 +118,31 @@ outs_apart ns distinct i j s at there =
     let y = map_from outlet ns j s there in
     let same : x.0 ≡ y.0 = ap (λ (z : Seat). z.queue) (x.2 ∙ sym y.2) in
     distinct i j x.0 x.1 (y.1 ∙ ap Some (sym same))
+
+-- many on both sides, the inputs first
+all_away : (n : ℕ) (ns : List ℕ) → All (λ m. n ≡ m → ⊥) ns → (i : ℕ) → slice_get ns i ≡ Some n → ⊥
+all_away n [] all i at = cc
+all_away n (m ∷ ns) all zero at = all 0 m (omega arith) (sym (some_is at))
+all_away n (m ∷ ns) all (suc i) at = all_away n ns (λ k d h. all (suc k) d (omega (arith, h))) i at
+
+all_distinct : (ns : List ℕ) → NoneTwice ns → Distinct ns
+all_distinct [] apart i j n at there = cc
+all_distinct (m ∷ ns) apart zero zero n at there = refl
+all_distinct (m ∷ ns) apart zero (suc j) n at there = absurd (all_away m ns apart.0 j (there ∙ sym at))
+all_distinct (m ∷ ns) apart (suc i) zero n at there = absurd (all_away m ns apart.0 i (at ∙ sym there))
+all_distinct (m ∷ ns) apart (suc i) (suc j) n at there = ap suc (all_distinct ns apart.1 i j n at there)
+
+in_of_both : (a : ℕ) (ins outs : List ℕ) → ((i : ℕ) → slice_get ins i ≡ Some a → ⊥) → IsAway (intake a) (map intake ins ++ map outlet outs)
+in_of_both a [] outs off i at = let x = map_from outlet outs i (intake a) at in out_in x.0 a x.2
+in_of_both a (n ∷ ins) outs off zero at = off 0 (ap (λ (s : Seat). Some s.queue) (some_is at))
+in_of_both a (n ∷ ins) outs off (suc i) at = in_of_both a ins outs (λ k. off (suc k)) i at
+
+both_apart : (ins outs : List ℕ) → Distinct ins → Distinct outs → AreApart (map intake ins ++ map outlet outs)
+both_apart [] outs one two = outs_apart outs two
+both_apart (n ∷ ins) outs one two =
+    apart_more (intake n) (map intake ins ++ map outlet outs)
+    (in_of_both n ins outs (λ i at. let e : suc i ≡ 0 = one (suc i) 0 n at refl in omega (arith, e)))
+    (both_apart ins outs (λ i j m at there. suc_is (one (suc i) (suc j) m at there)) two)
 
 in_of_outs : (a : ℕ) (ns : List ℕ) → IsAway (intake a) (map outlet ns)
 in_of_outs a ns i at = let x = map_from outlet ns i (intake a) at in out_in x.0 a x.2
@@ -299,3 +325,4 @@ ends_apart ends scene (Kinds.DiskDevice x) fits = one_each (disk.req x.device) (
 ends_apart ends scene (Kinds.BlkDriver x) fits = ways_apart (two_pipes x.driver.pipes) fits.inputs fits.outputs
 ends_apart ends scene (Kinds.BlkVirt x) fits = server_apart ends x fits.0.ends_fit
 ends_apart ends scene (Kinds.BlkClient x) fits = one_each (asker.resp_queue x) (asker.req_queue x)
+ends_apart ends scene (Kinds.Rogue x) fits = both_apart (numbers x.inputs.items) (numbers x.outputs.items) (all_distinct (numbers x.inputs.items) fits.is.inputs) (all_distinct (numbers x.outputs.items) fits.is.outputs)

@@ -16,8 +16,8 @@ use Rattle.owner_law.proofs.PoolsLemmas.Spreading.{its_none, its_one}
 use Rattle.blk_law.specs.Sheets.Numbers.{BlkPlace, virt_at, blk_client_at}
 use Rattle.blk_law.specs.Sheets.Parts.{BlkPart}
 use Rattle.blk_quiet.specs.Pools.Naming.{blk_pools}
-use Rattle.actor_set.specs.Parts.{Part, UartPart, DriverPart, RxPart, TxPart, ClientPart, NetworkPart, SendingPart, BlockPart}
-use Rattle.actor_set.specs.Laws.Kinds.{sheet, scene_of}
+use Rattle.actor_set.specs.Parts.{HostilePart, Part, UartPart, DriverPart, RxPart, TxPart, ClientPart, NetworkPart, SendingPart, BlockPart}
+use Rattle.actor_set.specs.Laws.Kinds.{AllCalm, sheet, scene_of}
 use Rattle.wired_law.specs.Wiring.{HasBlk, IsOfBlock}
 use Rattle.cast_law.proofs.PoolsLemmas.Blocks.{at_client}
 use Rattle.cast_law.proofs.PoolsLemmas.Naming.{IsBlock, same_end}
@@ -65,7 +65,7 @@ module _ (who : ℕ → ℕ) (nobody : ℕ) where
       by (inr h) (inl none) = inl (ap (λ t. cond t (who k) (asker_in ps (k + 1) n)) h.0 ∙ none)
       by (inr h) (inr x) = inr (suc x.0, x.1, x.2, x.3, ap (λ t. cond t (who k) (asker_in ps (k + 1) n)) h.0 ∙ (x.4 ∙ ap who (shift x.0)))
 
-module _ (rows : List QueueRow) (blk : BlkPlace) (cast : List Part) (has : HasBlk rows blk cast) (seated : AreSeated (sheet (scene_of cast)) rows cast) (apart : AreNumbered (blk_pools blk)) where
+module _ (rows : List QueueRow) (blk : BlkPlace) (cast : List Part) (calm : AllCalm cast) (has : HasBlk rows blk cast) (seated : AreSeated (sheet (scene_of cast)) rows cast) (apart : AreNumbered (blk_pools blk)) where
   abbrev scene : Scene
   scene = scene_of cast
 
@@ -84,7 +84,7 @@ module _ (rows : List QueueRow) (blk : BlkPlace) (cast : List Part) (has : HasBl
   IsClient k j q = (asks : List Ask) × (slice_get cast k ≡ Some (BlockPart (blk_client_at blk.first j asks q)))
 
   abbrev who_by : (j : ℕ) → (j < length blk.pools) ⊎ (length blk.pools ≤ j) → ℕ
-  who_by j (inl lt) = let q = there_is blk.pools j lt in (at_client rows blk cast has j q.0 q.1).2
+  who_by j (inl lt) = let q = there_is blk.pools j lt in (at_client rows blk cast calm has j q.0 q.1).2
   who_by j (inr le) = length cast
 
   abbrev who : ℕ → ℕ
@@ -96,7 +96,7 @@ module _ (rows : List QueueRow) (blk : BlkPlace) (cast : List Part) (has : HasBl
       by : (d : (j < length blk.pools) ⊎ (length blk.pools ≤ j)) → IsClient (who_by j d) j q
       by (inl lt) =
           let p = there_is blk.pools j lt in
-          let c = at_client rows blk cast has j p.0 p.1 in
+          let c = at_client rows blk cast calm has j p.0 p.1 in
           subst (λ x. IsClient c.2 j x) (some_is (sym p.1 ∙ at)) (c.0, c.3)
       by (inr le) = absurd (omega (arith, le, there_below blk.pools j q at))
 
@@ -214,6 +214,7 @@ module _ (rows : List QueueRow) (blk : BlkPlace) (cast : List Part) (has : HasBl
   part_shares k (NetworkPart p) at is = absurd is
   part_shares k (SendingPart p) at is = absurd is
   part_shares k (BlockPart p) at is = block_shares k p at (has.only k p at)
+  part_shares k (HostilePart p) at is = absurd is
 
   pub blk_deals : Deals scene cast IsBlock (blk_pools blk) owner
   blk_deals = record {

@@ -13,7 +13,7 @@ use Rattle.blk_law.specs.Sheets.Parts.{BlkPart, Sharer}
 use Rattle.blk_law.specs.Sheets.Numbers.{BlkPlace, sharers_from, blk_client_at}
 use Rattle.blk_law.specs.Sheets.Table.{blk_sheet}
 use Rattle.actor_set.specs.Parts.{Part, BlockPart}
-use Rattle.actor_set.specs.Laws.Kinds.{scene_of}
+use Rattle.actor_set.specs.Laws.Kinds.{AllCalm, scene_of}
 use Rattle.actor_set.proofs.LawsLemmas.Told.{none_wild}
 use Rattle.wired_law.specs.Wiring.{HasBlk}
 
@@ -38,7 +38,7 @@ side_of (suc count) (suc (suc m)) lt = next (side_of count m (omega (arith, lt))
     next (k, lt, inl e) = (suc k, omega (arith, lt), inl (omega (arith, e)))
     next (k, lt, inr e) = (suc k, omega (arith, lt), inr (omega (arith, e)))
 
-module _ (rows : List QueueRow) (blk : BlkPlace) (cast : List Part) (has : HasBlk rows blk cast) where
+module _ (rows : List QueueRow) (blk : BlkPlace) (cast : List Part) (calm : AllCalm cast) (has : HasBlk rows blk cast) where
   abbrev scene : Scene
   scene = scene_of cast
 
@@ -52,7 +52,7 @@ module _ (rows : List QueueRow) (blk : BlkPlace) (cast : List Part) (has : HasBl
       let below = there_below blk.pools k p at in
       let entry = there_is blk.entries k (omega (arith, below, has.pools_many)) in
       let asks = there_is blk.asks k (omega (arith, below, has.pools_many, has.asks_many)) in
-      let there = has.client k entry.0 asks.0 p (record { has_entry = entry.1; has_asks = asks.1; has_pool = at }) (none_wild cast rows (blk.first + 4 + 2 * k)) in
+      let there = has.client k entry.0 asks.0 p (record { has_entry = entry.1; has_asks = asks.1; has_pool = at }) (none_wild cast calm rows (blk.first + 4 + 2 * k)) in
       (asks.0, asks.1, there.0, there.1)
 
   -- at the queues of the disk, of the driver and of the virtualiser there

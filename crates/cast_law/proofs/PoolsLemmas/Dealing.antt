@@ -8,8 +8,8 @@ use Rattle.net_law.specs.TxParts.Numbers.{NetPlace}
 use Rattle.owner_law.specs.Pools.Places.{sizes_of, AreNumbered}
 use Rattle.owner_law.specs.Pools.Spread.{AreSpread, share_of}
 use Rattle.blk_law.specs.Sheets.Numbers.{BlkPlace}
-use Rattle.actor_set.specs.Parts.{Part, UartPart, DriverPart, RxPart, TxPart, ClientPart, NetworkPart, SendingPart, BlockPart}
-use Rattle.actor_set.specs.Laws.Kinds.{sheet, scene_of}
+use Rattle.actor_set.specs.Parts.{HostilePart, Part, UartPart, DriverPart, RxPart, TxPart, ClientPart, NetworkPart, SendingPart, BlockPart}
+use Rattle.actor_set.specs.Laws.Kinds.{AllCalm, sheet, scene_of}
 use Rattle.cast_law.specs.Pools.Places.{HasNetAt, HasBlkAt, pools_first, pools_behind}
 use Rattle.cast_law.specs.Pools.Pooling.{keepers_at}
 use Rattle.cast_law.proofs.PoolsLemmas.Table.{IsNetwork}
@@ -18,7 +18,7 @@ use Rattle.cast_law.proofs.PoolsLemmas.Deals.{Deals, no_deals, joined, first_num
 use Rattle.cast_law.proofs.PoolsLemmas.NetDealing.{net_deals, owner as net_owner}
 use Rattle.cast_law.proofs.PoolsLemmas.BlkDealing.{blk_deals, owner as blk_owner}
 
-module _ (rows : List QueueRow) (cast : List Part) (seated : AreSeated (sheet (scene_of cast)) rows cast) where
+module _ (rows : List QueueRow) (cast : List Part) (calm : AllCalm cast) (seated : AreSeated (sheet (scene_of cast)) rows cast) where
   abbrev scene : Scene
   scene = scene_of cast
 
@@ -31,6 +31,7 @@ module _ (rows : List QueueRow) (cast : List Part) (seated : AreSeated (sheet (s
   no_network k (NetworkPart p) none at is = none.none k p at
   no_network k (SendingPart p) none at is = none.no_sender k p at
   no_network k (BlockPart p) none at is = is
+  no_network k (HostilePart p) none at is = is
 
   no_block : (k : ℕ) (p : Part) → HasBlkAt rows None cast → slice_get cast k ≡ Some p → IsBlock p → ⊥
   no_block k (UartPart rx tx input) none at is = is
@@ -41,14 +42,15 @@ module _ (rows : List QueueRow) (cast : List Part) (seated : AreSeated (sheet (s
   no_block k (NetworkPart p) none at is = is
   no_block k (SendingPart p) none at is = is
   no_block k (BlockPart p) none at is = none k p at
+  no_block k (HostilePart p) none at is = is
 
   first_deals : (n : Option NetPlace) → HasNetAt rows n cast → AreNumbered (pools_first n) → (owner : ℕ → ℕ) × Deals scene cast IsNetwork (pools_first n) owner
   first_deals None none apart = (λ i. length cast, no_deals scene cast IsNetwork (λ k p at is. no_network k p none at is))
-  first_deals (Some net) has apart = (net_owner rows net cast has.0 has.1 seated apart, net_deals rows net cast has.0 has.1 seated apart)
+  first_deals (Some net) has apart = (net_owner rows net cast calm has.0 has.1 seated apart, net_deals rows net cast calm has.0 has.1 seated apart)
 
   then_deals : (b : Option BlkPlace) → HasBlkAt rows b cast → AreNumbered (pools_behind b) → (owner : ℕ → ℕ) × Deals scene cast IsBlock (pools_behind b) owner
   then_deals None none apart = (λ i. length cast, no_deals scene cast IsBlock (λ k p at is. no_block k p none at is))
-  then_deals (Some blk) has apart = (blk_owner rows blk cast has.0 seated apart, blk_deals rows blk cast has.0 seated apart)
+  then_deals (Some blk) has apart = (blk_owner rows blk cast calm has.0 seated apart, blk_deals rows blk cast calm has.0 seated apart)
 
   differ : (p : Part) → IsNetwork p → IsBlock p → ⊥
   differ (UartPart rx tx input) one two = one
@@ -59,6 +61,7 @@ module _ (rows : List QueueRow) (cast : List Part) (seated : AreSeated (sheet (s
   differ (NetworkPart p) one two = two
   differ (SendingPart p) one two = two
   differ (BlockPart p) one two = one
+  differ (HostilePart p) one two = one
 
   module _ (n : Option NetPlace) (b : Option BlkPlace) (has_net : HasNetAt rows n cast) (has_blk : HasBlkAt rows b cast) (apart : AreNumbered (pools_first n ++ pools_behind b)) where
     abbrev one : (owner : ℕ → ℕ) × Deals scene cast IsNetwork (pools_first n) owner
@@ -84,6 +87,7 @@ module _ (rows : List QueueRow) (cast : List Part) (seated : AreSeated (sheet (s
     all_share k (NetworkPart p) at = first_share scene cast IsNetwork IsBlock (pools_first n) (pools_behind b) one.0 two.0 one.1 two.1 apart differ k (NetworkPart p) at tt
     all_share k (SendingPart p) at = first_share scene cast IsNetwork IsBlock (pools_first n) (pools_behind b) one.0 two.0 one.1 two.1 apart differ k (SendingPart p) at tt
     all_share k (BlockPart p) at = then_share scene cast IsNetwork IsBlock (pools_first n) (pools_behind b) one.0 two.0 one.1 two.1 apart differ k (BlockPart p) at tt
+    all_share k (HostilePart p) at = absurd (let same = calm k (HostilePart p) at in cc)
 
     -- each actor has its share at the start
     pub are_spread : AreSpread sizes owner (keepers_at cast)

@@ -111,3 +111,4 @@ none_bad scene (Kinds.DiskDevice x) passed turn st = refl
 none_bad scene (Kinds.BlkDriver x) passed turn st = refl
 none_bad scene (Kinds.BlkVirt x) passed turn st = served_good scene.image x passed turn st
 none_bad scene (Kinds.BlkClient x) passed turn st = refl
+none_bad scene (Kinds.Rogue x) passed turn st = refl

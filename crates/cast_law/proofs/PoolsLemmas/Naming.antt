@@ -42,11 +42,12 @@ use Rattle.blk_law.proofs.HopsLemmas.Sharers.{sharer, sharer_there}
 use Rattle.blk_quiet.specs.Pools.Naming.{blk_names, blk_naming, HasApartPools, IsNamedAt, NamesServed}
 use Rattle.blk_quiet.proofs.PoolsLemmas.Naming.{disk_named, driver_named as blk_driver_named, virt_named, client_named as blk_client_named}
 use Rattle.blk_quiet.proofs.PoolsLemmas.Sizing.{blk_past}
-use Rattle.actor_set.specs.Parts.{Part, UartPart, DriverPart, RxPart, TxPart, ClientPart, NetworkPart, SendingPart, BlockPart}
-use Rattle.actor_set.specs.Actors.{ActorStandsFor, part_of}
+use Rattle.actor_set.specs.Parts.{HostilePart, Part, UartPart, DriverPart, RxPart, TxPart, ClientPart, NetworkPart, SendingPart, BlockPart}
+use Rattle.actor_set.specs.Actors.{tags_of, ActorStandsFor, part_of}
 use Rattle.actor_set.specs.declared.actor.Actor.{Actor}
 use Rattle.actor_set.specs.declared.actor.Actor.TheVariants as Kinds
-use Rattle.actor_set.specs.Laws.Kinds.{sheet, scene_of}
+use Rattle.actor_set.specs.Laws.Kinds.{AllCalm, sheet, scene_of}
+use Rattle.actor_set.specs.Rogues.{pages_in}
 use Rattle.wired_law.specs.Wiring.{HasWhole, HasBlk, IsOfNetwork, IsOfBlock, AreOfKind}
 use Rattle.cast_law.specs.Pools.Holders.{NothingAt, NamesAt, IsSized, TakesNet}
 use Rattle.cast_law.specs.Pools.Places.{HasNetAt, HasBlkAt, first_naming, behind, pools_first, pools_behind}
@@ -72,6 +73,7 @@ IsBlock (ClientPart rx tx script) = ⊥
 IsBlock (NetworkPart p) = ⊥
 IsBlock (SendingPart p) = ⊥
 IsBlock (BlockPart p) = Unit {0}
+IsBlock (HostilePart p) = ⊥
 
 -- from the block class's first queue on, and before it
 pub before_is : (naming : Naming) (blk : BlkPlace) (n : ℕ) → n < blk.first → behind naming (Some blk) n ≡ naming n
@@ -92,7 +94,7 @@ block_own naming scene (BlkDriver ways) names = driver_keeps naming scene ways n
 block_own naming scene (BlkVirt req resp sectors pool clients) names = virt_keeps naming scene req resp sectors pool clients names.0 names.1
 block_own naming scene (BlkClient req resp asks pool) names = client_keeps naming scene req resp asks pool names.0
 
-module _ (rows : List QueueRow) (cast : List Part) (seated : AreSeated (sheet (scene_of cast)) rows cast) where
+module _ (rows : List QueueRow) (cast : List Part) (calm : AllCalm cast) (seated : AreSeated (sheet (scene_of cast)) rows cast) where
   abbrev scene : Scene
   scene = scene_of cast
 
@@ -103,7 +105,7 @@ module _ (rows : List QueueRow) (cast : List Part) (seated : AreSeated (sheet (s
       by : (s.queue < 8 + 6 * length net.macs) ⊎ (8 + 6 * length net.macs ≤ s.queue) → 8 + 6 * length net.pools ≤ s.queue
       by (inr le) = omega (arith, le, whole.pools_many)
       by (inl lt) =
-          let x = net_ends rows net cast whole first s.queue s.role lt in
+          let x = net_ends rows net cast calm whole first s.queue s.role lt in
           let same = same_end scene rows cast seated k x.0 p x.1 at x.3 i x.2 s here x.5 in
           let part : p ≡ x.1 = some_is (sym at ∙ (ap (slice_get cast) same ∙ x.3)) in
           absurd (off (subst IsNetwork (sym part) x.4))
@@ -116,7 +118,7 @@ module _ (rows : List QueueRow) (cast : List Part) (seated : AreSeated (sheet (s
       by (inl lt) more = inl lt
       by (inr le) (inr past_) = inr past_
       by (inr le) (inl lt) =
-          let x = blk_ends rows blk cast has s.queue s.role le lt in
+          let x = blk_ends rows blk cast calm has s.queue s.role le lt in
           let same = same_end scene rows cast seated k x.0 p (BlockPart x.1) at x.3 i x.2 s here x.4 in
           let part : p ≡ BlockPart x.1 = some_is (sym at ∙ (ap (slice_get cast) same ∙ x.3)) in
           absurd (off (subst IsBlock (sym part) tt))
@@ -191,6 +193,7 @@ module _ (rows : List QueueRow) (cast : List Part) (seated : AreSeated (sheet (s
     names_at k (NetworkPart p) at = net_names_at n has_net k p at
     names_at k (SendingPart p) at = send_names_at n has_net k p at
     names_at k (BlockPart p) at = blk_names_at b has_blk k p at
+    names_at k (HostilePart p) at = nothing_at k (HostilePart p) at (λ h. h) (λ h. h)
 
     -- the pool that is lent has its size by its number
     network_sized : (net : NetPlace) → AreNumbered (pools_first (Some net) ++ pools_behind b) → (p : Part) → IsOfNetwork net scene.frames p → IsSized (sizes_of (pools_first (Some net) ++ pools_behind b)) p
@@ -214,6 +217,7 @@ module _ (rows : List QueueRow) (cast : List Part) (seated : AreSeated (sheet (s
     sized_at apart k (NetworkPart p) at = net_sized_at n has_net apart k p at
     sized_at apart k (SendingPart p) at = tt
     sized_at apart k (BlockPart p) at = tt
+    sized_at apart k (HostilePart p) at = tt
 
     -- an actor may put only what was in its hand
     pub own_at : (passed : Passed) (x : Actor) → NamesAt naming scene (part_of x) → ActorStandsFor x passed → PutsItsOwnInOrder naming (sheet scene (part_of x))
@@ -232,6 +236,7 @@ module _ (rows : List QueueRow) (cast : List Part) (seated : AreSeated (sheet (s
     own_at passed (Kinds.BlkDriver x) names st = block_own naming scene (blk_driver_part (two_pipes x.driver.pipes)) names
     own_at passed (Kinds.BlkVirt x) names st = block_own naming scene (virt_part x) names
     own_at passed (Kinds.BlkClient x) names st = block_own naming scene (blk_client_part x) names
+    own_at passed (Kinds.Rogue x) names st = λ m order apart row. nothing_kept naming (pages_in (tags_of x.start.value.items)) (sheet scene (part_of (Kinds.Rogue x))).ends names m
 
     -- entries of the network's queues are of the network
     module _ (passed : Passed) (kinds : AreOfKind rows passed) (begins : (q : ℕ) → IsPrefix (passed.taken q) (passed.sent q)) where
@@ -270,3 +275,4 @@ module _ (rows : List QueueRow) (cast : List Part) (seated : AreSeated (sheet (s
       takes_net k (Kinds.BlkDriver x) at = tt
       takes_net k (Kinds.BlkVirt x) at = tt
       takes_net k (Kinds.BlkClient x) at = tt
+      takes_net k (Kinds.Rogue x) at = tt

@@ -19,8 +19,8 @@ use Rattle.net_quiet.specs.Pools.Sizes.{net_pools}
 use Rattle.owner_law.specs.Pools.Spread.{share_of}
 use Rattle.owner_law.proofs.PoolsLemmas.Sizing.{size_there}
 use Rattle.owner_law.proofs.PoolsLemmas.Spreading.{its_none, its_one, its_two}
-use Rattle.actor_set.specs.Parts.{Part, UartPart, DriverPart, RxPart, TxPart, ClientPart, NetworkPart, SendingPart, BlockPart}
-use Rattle.actor_set.specs.Laws.Kinds.{sheet, scene_of}
+use Rattle.actor_set.specs.Parts.{HostilePart, Part, UartPart, DriverPart, RxPart, TxPart, ClientPart, NetworkPart, SendingPart, BlockPart}
+use Rattle.actor_set.specs.Laws.Kinds.{AllCalm, sheet, scene_of}
 use Rattle.wired_law.specs.Wiring.{HasWhole, IsOfNetwork}
 use Rattle.cast_law.proofs.PoolsLemmas.Table.{IsNetwork, at_receiver, at_client}
 use Rattle.cast_law.proofs.PoolsLemmas.Naming.{same_end}
@@ -92,7 +92,7 @@ module _ (who : ℕ → ℕ) (nobody : ℕ) where
       by (inr h) (inl none) = inl (ap (λ t. cond t (who k) (owner_in qs (k + 1) n)) h.0 ∙ none)
       by (inr h) (inr x) = inr (suc x.0, x.1, x.2, x.3, ap (λ t. cond t (who k) (owner_in qs (k + 1) n)) h.0 ∙ (x.4 ∙ ap who (shift x.0)))
 
-module _ (rows : List QueueRow) (net : NetPlace) (cast : List Part) (whole : HasWhole rows net cast) (first : net.first ≡ 0) (seated : AreSeated (sheet (scene_of cast)) rows cast) (apart : AreNumbered (net_pools net.pool net.pools)) where
+module _ (rows : List QueueRow) (net : NetPlace) (cast : List Part) (calm : AllCalm cast) (whole : HasWhole rows net cast) (first : net.first ≡ 0) (seated : AreSeated (sheet (scene_of cast)) rows cast) (apart : AreNumbered (net_pools net.pool net.pools)) where
   abbrev scene : Scene
   scene = scene_of cast
 
@@ -129,10 +129,10 @@ module _ (rows : List QueueRow) (net : NetPlace) (cast : List Part) (whole : Has
 
   -- the actors that have pools
   abbrev lender : ℕ
-  lender = (at_receiver rows net cast whole first).0
+  lender = (at_receiver rows net cast calm whole first).0
 
   abbrev who_by : (j : ℕ) → (j < length net.pools) ⊎ (length net.pools ≤ j) → ℕ
-  who_by j (inl lt) = let q = there_is net.pools j lt in (at_client rows net cast whole first j q.0 q.1).2.0
+  who_by j (inl lt) = let q = there_is net.pools j lt in (at_client rows net cast calm whole first j q.0 q.1).2.0
   who_by j (inr le) = length cast
 
   abbrev who : ℕ → ℕ
@@ -148,7 +148,7 @@ module _ (rows : List QueueRow) (net : NetPlace) (cast : List Part) (whole : Has
       by : (d : (j < length net.pools) ⊎ (length net.pools ≤ j)) → IsClient (who_by j d) j q
       by (inl lt) =
           let p = there_is net.pools j lt in
-          let c = at_client rows net cast whole first j p.0 p.1 in
+          let c = at_client rows net cast calm whole first j p.0 p.1 in
           subst (λ x. IsClient c.2.0 j x) (some_is (sym p.1 ∙ at)) (c.0, c.1, c.2.1)
       by (inr le) = absurd (omega (arith, le, there_below net.pools j q at))
 
@@ -181,7 +181,7 @@ module _ (rows : List QueueRow) (net : NetPlace) (cast : List Part) (whole : Has
       by : ((eqb net.pool.number n ≡ true) × (net.pool.number ≡ n)) ⊎ ((eqb net.pool.number n ≡ false) × (net.pool.number ≢ n)) → (owner_in who (length cast) net.pools 0 n ≡ length cast) ⊎ ((j : ℕ) × (q : ClientPools) × (slice_get net.pools j ≡ Some q) × IsOfPools q n × (owner_in who (length cast) net.pools 0 n ≡ who (0 + j))) → cond (net.pool.number == n) lender (owner_in who (length cast) net.pools 0 n) ≡ k → IsOwner n k
       by (inl h) x e =
           let is_lender : lender ≡ k = sym (ap (λ t. cond t lender (owner_in who (length cast) net.pools 0 n)) h.0) ∙ e in
-          inl (sym h.1, subst (λ i. slice_get cast i ≡ Some (NetworkPart (receiver_at 0 net.pool net.macs))) is_lender (at_receiver rows net cast whole first).1)
+          inl (sym h.1, subst (λ i. slice_get cast i ≡ Some (NetworkPart (receiver_at 0 net.pool net.macs))) is_lender (at_receiver rows net cast calm whole first).1)
       by (inr h) (inl none) e = absurd (omega (arith, lt, none, sym (ap (λ t. cond t lender (owner_in who (length cast) net.pools 0 n)) h.0) ∙ e))
       by (inr h) (inr x) e =
           let is_who : who x.0 ≡ k = ap who (sym (plus x.0)) ∙ (sym x.4 ∙ (sym (ap (λ t. cond t lender (owner_in who (length cast) net.pools 0 n)) h.0) ∙ e)) in
@@ -205,7 +205,7 @@ module _ (rows : List QueueRow) (net : NetPlace) (cast : List Part) (whole : Has
   lender_shares : (k : ℕ) → slice_get cast k ≡ Some (NetworkPart (receiver_at 0 net.pool net.macs)) → Shares k (NetworkPart (receiver_at 0 net.pool net.macs))
   lender_shares k at =
       its_one sizes owner k net.pool (size_there all_pools 0 net.pool apart refl)
-      (owner_device ∙ same_end scene rows cast seated lender k (NetworkPart (receiver_at 0 net.pool net.macs)) (NetworkPart (receiver_at 0 net.pool net.macs)) (at_receiver rows net cast whole first).1 at 0 0 (intake 4) refl refl)
+      (owner_device ∙ same_end scene rows cast seated lender k (NetworkPart (receiver_at 0 net.pool net.macs)) (NetworkPart (receiver_at 0 net.pool net.macs)) (at_receiver rows net cast calm whole first).1 at 0 0 (intake 4) refl refl)
       (λ n is. by n (owner_is n k (there_below cast k (NetworkPart (receiver_at 0 net.pool net.macs)) at) is))
     where
       by : (n : ℕ) → IsOwner n k → n ≡ net.pool.number
@@ -255,7 +255,7 @@ module _ (rows : List QueueRow) (net : NetPlace) (cast : List Part) (whole : Has
   at_place zero p at =
       let same : net.pool ≡ p = some_is at in
       let is = ap (λ (x : PoolAt). owner x.number) (sym same) ∙ owner_device in
-      omega (arith, is, there_below cast lender _ (at_receiver rows net cast whole first).1)
+      omega (arith, is, there_below cast lender _ (at_receiver rows net cast calm whole first).1)
   at_place (suc i) p at =
       let x = pool_from net.pools i p at in
       let is = owner_client x.0 p.number x.1 x.2 x.3 in
@@ -283,6 +283,7 @@ module _ (rows : List QueueRow) (net : NetPlace) (cast : List Part) (whole : Has
   part_shares k (NetworkPart p) at is = network_shares k (NetworkPart p) at (whole.only k p at)
   part_shares k (SendingPart p) at is = network_shares k (SendingPart p) at (whole.only_sender k p at)
   part_shares k (BlockPart p) at is = absurd is
+  part_shares k (HostilePart p) at is = absurd is
 
   pub net_deals : Deals scene cast IsNetwork all_pools owner
   net_deals = record {

@@ -28,7 +28,7 @@ use Rattle.blk_law.proofs.OwnersLemmas.Serving.{fewer_answers}
 use Rattle.blk_quiet.specs.Pools.Naming.{blk_naming}
 use Rattle.blk_quiet.proofs.PoolsLemmas.Sizing.{IsAnswer, blk_answers}
 use Rattle.actor_set.specs.Parts.{Part, BlockPart}
-use Rattle.actor_set.specs.Laws.Kinds.{sheet, scene_of, hostiles}
+use Rattle.actor_set.specs.Laws.Kinds.{AllCalm, sheet, scene_of, hostiles}
 use Rattle.actor_set.proofs.LawsLemmas.Calm.{calm_actor}
 use Rattle.wired_law.specs.Wiring.{HasBlk}
 use Rattle.cast_law.specs.Pools.Places.{HasBlkAt, first_naming, behind}
@@ -58,23 +58,23 @@ asked_kind id used hand buffers size (a ∷ asks) j i at = by (needs_buffer a.co
     by false u zero e one two = ap kind_of (sym (some_is e))
     by false u (suc h) e one two = two h e
 
-module _ (rows : List QueueRow) (blk : BlkPlace) (cast : List Part) (has : HasBlk rows blk cast) (m : Moved) (holds : RowsHold (sheet (scene_of cast)) (hostiles cast) cast m) (over : (n : ℕ) → IsPrefix (m.taken n) (m.sent n)) where
+module _ (rows : List QueueRow) (blk : BlkPlace) (cast : List Part) (calm : AllCalm cast) (has : HasBlk rows blk cast) (m : Moved) (holds : RowsHold (sheet (scene_of cast)) (hostiles cast) cast m) (over : (n : ℕ) → IsPrefix (m.taken n) (m.sent n)) where
   abbrev scene : Scene
   scene = scene_of cast
 
   disk_row : IsPrefix (m.sent (blk.first + 1)) (map answer_item (m.taken blk.first))
-  disk_row = holds has.disk.0 (BlockPart (disk_at blk)) (calm_actor cast has.disk.0) has.disk.1
+  disk_row = holds has.disk.0 (BlockPart (disk_at blk)) (calm_actor cast calm has.disk.0) has.disk.1
 
   driver_copies : (k : ℕ) (w : Way) → slice_get (record { input = blk.first + 2; output = blk.first } ∷ record { input = blk.first + 1; output = blk.first + 3 } ∷ []) k ≡ Some w → IsPrefix (m.sent w.output) (m.taken w.input)
-  driver_copies = holds has.driver.0 (BlockPart (blk_driver_at blk.first)) (calm_actor cast has.driver.0) has.driver.1
+  driver_copies = holds has.driver.0 (BlockPart (blk_driver_at blk.first)) (calm_actor cast calm has.driver.0) has.driver.1
 
   virt_row : ServesRequests scene.image (blk.first + 2) (blk.first + 3) blk.pool (sharers_from blk.first 0 blk.entries blk.pools) m
-  virt_row = holds has.virt.0 (BlockPart (virt_at blk)) (calm_actor cast has.virt.0) has.virt.1
+  virt_row = holds has.virt.0 (BlockPart (virt_at blk)) (calm_actor cast calm has.virt.0) has.virt.1
 
-  client_row : (k : ℕ) (p : PoolAt) (at : slice_get blk.pools k ≡ Some p) → AsksInOrder (at_client rows blk cast has k p at).0 (own_pool p) (m.taken (blk.first + 5 + 2 * k)) (m.sent (blk.first + 4 + 2 * k))
+  client_row : (k : ℕ) (p : PoolAt) (at : slice_get blk.pools k ≡ Some p) → AsksInOrder (at_client rows blk cast calm has k p at).0 (own_pool p) (m.taken (blk.first + 5 + 2 * k)) (m.sent (blk.first + 4 + 2 * k))
   client_row k p at =
-      let c = at_client rows blk cast has k p at in
-      holds c.2 (BlockPart (blk_client_at blk.first k c.0 p)) (calm_actor cast c.2) c.3
+      let c = at_client rows blk cast calm has k p at in
+      holds c.2 (BlockPart (blk_client_at blk.first k c.0 p)) (calm_actor cast calm c.2) c.3
 
   -- the requests at the disk are those that the driver took
   req_few : (n : ℕ) → length (m.taken n) ≤ length (m.sent n)
@@ -103,7 +103,7 @@ module _ (rows : List QueueRow) (blk : BlkPlace) (cast : List Part) (has : HasBl
       omega (arith, a, b, c, d, e, f, g)
   answered_at i q (inr (inr x)) =
       let k = x.0 in
-      let s = served rows blk cast has k x.1 in
+      let s = served rows blk cast calm has k x.1 in
       let given = begins_few (m.sent s.0.resp) (answers_due scene.image (blk.first + 2) (blk.first + 3) m s.0) (virt_row.gives k s.0 s.1) in
       let most = fewer_answers (partition_in scene.image s.0.entry) (m.taken s.0.req) (items_back s.0.pool (drop 1 (m.sent (blk.first + 2))) (drop 1 (m.taken (blk.first + 3)))) in
       let came = req_few s.0.req in
@@ -123,9 +123,9 @@ module _ (rows : List QueueRow) (blk : BlkPlace) (cast : List Part) (has : HasBl
       let p = there_is blk.pools y.0 y.1 in
       let row = client_row y.0 p.0 p.1 in
       let there : slice_get (m.sent (blk.first + 4 + 2 * y.0)) j ≡ Some x = ap (λ r. slice_get (m.sent r) j) (sym y.3) ∙ at in
-      asked_kind 0 0 _ (own_pool p.0).buffers (own_pool p.0).size (at_client rows blk cast has y.0 p.0 p.1).0 j x (prefix_get (m.sent (blk.first + 4 + 2 * y.0)) _ row.begins j x there)
+      asked_kind 0 0 _ (own_pool p.0).buffers (own_pool p.0).size (at_client rows blk cast calm has y.0 p.0 p.1).0 j x (prefix_get (m.sent (blk.first + 4 + 2 * y.0)) _ row.begins j x there)
 
-module _ (rows : List QueueRow) (n : Option NetPlace) (cast : List Part) (m : Moved) (holds : RowsHold (sheet (scene_of cast)) (hostiles cast) cast m) (over : (q : ℕ) → IsPrefix (m.taken q) (m.sent q)) where
+module _ (rows : List QueueRow) (n : Option NetPlace) (cast : List Part) (calm : AllCalm cast) (m : Moved) (holds : RowsHold (sheet (scene_of cast)) (hostiles cast) cast m) (over : (q : ℕ) → IsPrefix (m.taken q) (m.sent q)) where
   abbrev scene_ : Scene
   scene_ = scene_of cast
 
@@ -134,7 +134,7 @@ module _ (rows : List QueueRow) (n : Option NetPlace) (cast : List Part) (m : Mo
   answers_few None none q r ws is = absurd (no_answer scene_ n q r ws is)
   answers_few (Some blk) has q r ws is =
       let x = answers_behind (first_naming scene_ n) blk q r ws (no_answer scene_ n) is in
-      let few = answered_at rows blk cast has.0 m holds over x.0 r x.2 in
+      let few = answered_at rows blk cast calm has.0 m holds over x.0 r x.2 in
       let same = ap (λ j. length (m.sent j)) x.1 in
       omega (arith, few, same)
 
@@ -147,4 +147,4 @@ module _ (rows : List QueueRow) (n : Option NetPlace) (cast : List Part) (m : Mo
       by (Some blk) is_there q r ws is =
           let x = answers_behind (first_naming scene_ n) blk q r ws (no_answer scene_ n) is in
           let row = is_there.0.requests in
-          requests_at rows blk cast is_there.0 m holds over (λ j i at. kinds (blk.first + 2) row.0 row.1 j i at ∙ row.2) x.0 r x.2
+          requests_at rows blk cast calm is_there.0 m holds over (λ j i at. kinds (blk.first + 2) row.0 row.1 j i at ∙ row.2) x.0 r x.2

@@ -27,7 +27,7 @@ use Rattle.blk_law.specs.Sheets.Numbers.{BlkPlace}
 use Rattle.blk_law.specs.Owners.Answering.{IsInOrder, PutsItsOwnInOrder}
 use Rattle.blk_quiet.proofs.PoolsLemmas.Sizing.{IsAnswer, blk_past, blk_keeps}
 use Rattle.actor_set.specs.Parts.{Part}
-use Rattle.actor_set.specs.Laws.Kinds.{sheet, scene_of, hostiles}
+use Rattle.actor_set.specs.Laws.Kinds.{AllCalm, sheet, scene_of, hostiles}
 use Rattle.actor_set.proofs.LawsLemmas.Calm.{calm_row}
 use Rattle.wired_law.specs.Wiring.{HasBlk}
 use Rattle.cast_law.specs.Pools.Places.{HasNetAt, HasBlkAt, first_naming, behind, pools_first, pools_behind}
@@ -38,7 +38,7 @@ use Rattle.cast_law.proofs.PoolsLemmas.Naming.{before_is, from_is}
 use Rattle.cast_law.proofs.PoolsLemmas.Ordering.{no_answer, answers_behind, in_order}
 use Rattle.cast_law.proofs.PoolsLemmas.Dealing.{owner, are_spread}
 
-module _ (rows : List QueueRow) (cast : List Part) (seated : AreSeated (sheet (scene_of cast)) rows cast) where
+module _ (rows : List QueueRow) (cast : List Part) (calm : AllCalm cast) (seated : AreSeated (sheet (scene_of cast)) rows cast) where
   abbrev scene : Scene
   scene = scene_of cast
 
@@ -48,7 +48,7 @@ module _ (rows : List QueueRow) (cast : List Part) (seated : AreSeated (sheet (s
   -- the actor that lends: the receiving virtualiser
   abbrev pub lender_at : (n : Option NetPlace) → HasNetAt rows n cast → ℕ
   lender_at None none = 0
-  lender_at (Some net) has = (at_receiver rows net cast has.0 has.1).0
+  lender_at (Some net) has = (at_receiver rows net cast calm has.0 has.1).0
 
   pub net_many : (net : NetPlace) → HasNetAt rows (Some net) cast → 8 + 6 * length net.pools ≤ length rows
   net_many net has =
@@ -59,7 +59,7 @@ module _ (rows : List QueueRow) (cast : List Part) (seated : AreSeated (sheet (s
   pub blk_many : (blk : BlkPlace) → HasBlk rows blk cast → blk.first + 4 + 2 * length blk.pools ≤ length rows
   blk_many blk has =
       let n = blk.first + 3 + 2 * length blk.pools in
-      let x = blk_ends rows blk cast has n Consumer (omega arith) (omega arith) in
+      let x = blk_ends rows blk cast calm has n Consumer (omega arith) (omega arith) in
       let seat = seated x.0 _ x.3 x.2 (intake n) x.4 in
       let below = there_below rows n seat.0 seat.1 in
       omega (arith, below)
@@ -67,14 +67,14 @@ module _ (rows : List QueueRow) (cast : List Part) (seated : AreSeated (sheet (s
   net_is : (net : NetPlace) (has : HasNetAt rows (Some net) cast) → IsNaming (first_naming scene (Some net)) (lender_at (Some net) has) hostile rows
   net_is net has =
       layout_names scene net.pool net.macs net.pools (lender_at (Some net) has) hostile rows (net_many net has)
-      (λ q row at. calm_row cast row)
-      (λ row at. let seat = seated (lender_at (Some net) has) _ (at_receiver rows net cast has.0 has.1).1 0 (intake 4) refl in ap (λ r. owner_of r Consumer) (some_is (sym at ∙ seat.1)) ∙ seat.2)
+      (λ q row at. calm_row cast calm row)
+      (λ row at. let seat = seated (lender_at (Some net) has) _ (at_receiver rows net cast calm has.0 has.1).1 0 (intake 4) refl in ap (λ r. owner_of r Consumer) (some_is (sym at ∙ seat.1)) ∙ seat.2)
       (λ k row lt at. back k row (omega (arith, lt, has.0.pools_many)) at)
     where
       back : (k : ℕ) (row : QueueRow) → k < length net.macs → slice_get rows (client_first 0 k + 1) ≡ Some row → owner_of row Consumer ≡ lender_at (Some net) has
       back k row lt at =
-          let e = lease_back rows net cast has.0 has.1 k lt in
-          let seat = seated (lender_at (Some net) has) _ (at_receiver rows net cast has.0 has.1).1 e.0 (intake (client_first 0 k + 1)) e.1 in
+          let e = lease_back rows net cast calm has.0 has.1 k lt in
+          let seat = seated (lender_at (Some net) has) _ (at_receiver rows net cast calm has.0 has.1).1 e.0 (intake (client_first 0 k + 1)) e.1 in
           ap (λ r. owner_of r Consumer) (some_is (sym at ∙ seat.1)) ∙ seat.2
 
   module _ (n : Option NetPlace) (b : Option BlkPlace) (has_net : HasNetAt rows n cast) (has_blk : HasBlkAt rows b cast) where
@@ -126,7 +126,7 @@ module _ (rows : List QueueRow) (cast : List Part) (seated : AreSeated (sheet (s
         here : (q : ℕ) → (q < length rows) ⊎ (length rows ≤ q) → (naming q ≡ NoBuffers) ⊎ Holds hostile rows q 0
         here q (inl lt) =
             let row = there_is rows q lt in
-            inr (record { row = row.0; there = row.1; calm = calm_row cast row.0; enough = omega arith })
+            inr (record { row = row.0; there = row.1; calm = calm_row cast calm row.0; enough = omega arith })
         here q (inr le) = inl (all_past b has_blk q le)
 
     -- a journal of actors that may put only what was in their hands
@@ -142,7 +142,7 @@ module _ (rows : List QueueRow) (cast : List Part) (seated : AreSeated (sheet (s
       kept_at : (j : List Entry) → RowsHold (sheet scene) hostile cast (moved history j) → QueuesFlow history rows j × AreKindly history rows j → IsKept naming hostile history rows (keepers_at cast) j
       kept_at j hold both =
           let m : Moved = moved history j in
-          let order : IsInOrder naming m = in_order rows n cast m hold (over j both.0 both.1) b has_blk (λ q row at. subst (λ o. IsKindly o (m.sent q) (m.taken q)) at (both.1 q)) in
+          let order : IsInOrder naming m = in_order rows n cast calm m hold (over j both.0 both.1) b has_blk (λ q row at. subst (λ o. IsKindly o (m.sent q) (m.taken q)) at (both.1 q)) in
           record {
             keeps = λ k p calm at.
                 let x = map_from (λ y. keeper_of (sheet scene y)) cast k p at in
@@ -164,4 +164,4 @@ module _ (rows : List QueueRow) (cast : List Part) (seated : AreSeated (sheet (s
 
     -- at the start state, where each pool's buffers are in its owner's hand, the lists show that
     pub shown_anew : AreNumbered (pools_first n ++ pools_behind b) → IsShownBy naming (lender_at n has_net) (keepers_at cast) (moved (start_history rows) []) (start_table (keepers_at cast))
-    shown_anew numbered = start_shown naming (lender_at n has_net) rows (keepers_at cast) (spread_dealt _ (owner rows cast seated n b has_net has_blk numbered) (keepers_at cast) (are_spread rows cast seated n b has_net has_blk numbered))
+    shown_anew numbered = start_shown naming (lender_at n has_net) rows (keepers_at cast) (spread_dealt _ (owner rows cast calm seated n b has_net has_blk numbered) (keepers_at cast) (are_spread rows cast calm seated n b has_net has_blk numbered))

@@ -39,7 +39,7 @@ use Rattle.blk_law.specs.Owners.Answering.{IsInOrder, PutsItsOwnInOrder}
 use Rattle.actor_set.specs.Parts.{Part}
 use Rattle.actor_set.specs.Actors.{ActorStandsFor, part_of}
 use Rattle.actor_set.specs.declared.actor.Actor.{Actor}
-use Rattle.actor_set.specs.Laws.Kinds.{sheet, scene_of, hostiles}
+use Rattle.actor_set.specs.Laws.Kinds.{AllCalm, sheet, scene_of, hostiles}
 use Rattle.actor_set.specs.Laws.Turning.{InTurn}
 use Rattle.actor_set.proofs.LawsLemmas.PartEnds.{to_part, end_seat}
 use Rattle.actor_set.proofs.LawsLemmas.Rows.{actor_row}
@@ -89,7 +89,7 @@ carry_call rows place cast m m' passed d k x call =
     let ends : List Seat = (sheet scene (part_of x)).ends in
     let was : (q : ℕ) → IsPrefix (m.taken q) (m.sent q) = λ q. begins_too (m.taken q) (m.sent q) (passed.taken q) (passed.sent q) (call.carried.taken q) (call.carried.sent q) (call.began q) in
     let now : (q : ℕ) → IsPrefix (m'.taken q) (m'.sent q) = λ q. begins_too (m'.taken q) (m'.sent q) ((with_deed passed d).taken q) ((with_deed passed d).sent q) (sym (call.items.taken q)) (sym (call.items.sent q)) (call.begins q) in
-    let order : IsInOrder naming m' = in_order rows place.net cast m' call.rows_after now place.blk call.placed.blk (λ q row at j i i_at.
+    let order : IsInOrder naming m' = in_order rows place.net cast call.calm m' call.rows_after now place.blk call.placed.blk (λ q row at j i i_at.
     let c = map_from (λ (y : Cargo). y.0) ((with_deed passed d).sent q) j i (ap (λ l. slice_get l j) (call.items.sent q) ∙ i_at) in
     ap kind_of (sym c.2) ∙ call.kinds q row at j c.0 c.1) in
     carry_step naming m m' passed d ends (record {
@@ -97,23 +97,23 @@ carry_call rows place cast m m' passed d k x call =
       sent = λ q. sym (call.items.sent q);
       taken = λ q. sym (call.items.taken q);
       begins = call.begins;
-      asked = answers_few rows place.net cast m call.rows_before was place.blk call.placed.blk;
+      asked = answers_few rows place.net cast call.calm m call.rows_before was place.blk call.placed.blk;
       own = end_seat scene (part_of x) (role_of d.event.op) d.event.queue.0 (to_part x (role_of d.event.op) d.event.queue.0 call.fits call.own);
       split = λ i j q ins outs.
           let a = call.seated k (part_of x) call.here i (intake q) ins in
           let b = call.seated k (part_of x) call.here j (outlet q) outs in
           let same : a.0 ≡ b.0 = some_is (sym a.1 ∙ b.1) in
           call.split q b.0 b.1 (b.2 ∙ (sym a.2 ∙ ap (λ r. owner_of r Consumer) same));
-      hands_on = actor_on naming scene (with_deed passed d) m' call.items order x (names_at rows cast call.seated place.net place.blk call.placed.net call.placed.blk k (part_of x) call.here) (takes_net rows cast call.seated place.net place.blk call.placed.net call.placed.blk (with_deed passed d) call.kinds call.begins k x call.here) call.fits call.in_turn call.stands;
+      hands_on = actor_on naming scene (with_deed passed d) m' call.items order x (call.calm k (part_of x) call.here) (names_at rows cast call.calm call.seated place.net place.blk call.placed.net call.placed.blk k (part_of x) call.here) (takes_net rows cast call.calm call.seated place.net place.blk call.placed.net call.placed.blk (with_deed passed d) call.kinds call.begins k x call.here) call.fits call.in_turn call.stands;
     })
 
 -- with its buffers in their owners' hands a cast begins at the start state
-pub begins_anew : (rows : List QueueRow) (cast : List Part) (seated : AreSeated (sheet (scene_of cast)) rows cast) (place : PoolPlace) → IsPlaced rows place cast → AreNumbered (place_pools place) → BeginsWith (start_history rows) rows place cast (start_table (keepers_at cast))
-begins_anew rows cast seated place placed numbered = record {
-  lender = lender_at rows cast seated place.net placed.net;
-  naming_is = naming_is rows cast seated place.net place.blk placed.net placed.blk;
+pub begins_anew : (rows : List QueueRow) (cast : List Part) → AllCalm cast → (seated : AreSeated (sheet (scene_of cast)) rows cast) (place : PoolPlace) → IsPlaced rows place cast → AreNumbered (place_pools place) → BeginsWith (start_history rows) rows place cast (start_table (keepers_at cast))
+begins_anew rows cast calm seated place placed numbered = record {
+  lender = lender_at rows cast calm seated place.net placed.net;
+  naming_is = naming_is rows cast calm seated place.net place.blk placed.net placed.blk;
   counted = start_counted (keepers_at cast);
-  shown = shown_anew rows cast seated place.net place.blk placed.net placed.blk numbered;
+  shown = shown_anew rows cast calm seated place.net place.blk placed.net placed.blk numbered;
 }
 
 -- at the end of a journal queues have what is of their kind
@@ -154,7 +154,7 @@ module _ (history : History) (rows : List QueueRow) (pools : List PoolRow) (plac
   lender = begin.lender
 
   abbrev owner_ : ℕ → ℕ
-  owner_ = owner rows cast play.seated place.net place.blk placed.net placed.blk has.numbered
+  owner_ = owner rows cast play.calm play.seated place.net place.blk placed.net placed.blk has.numbered
 
   begins : (n : ℕ) → IsPrefix (passed.taken n) (passed.sent n)
   begins n = ((queue_at world n).entries, sym (play.stands_there n))
@@ -163,11 +163,11 @@ module _ (history : History) (rows : List QueueRow) (pools : List PoolRow) (plac
   actor_at k p at = map_from part_of actors k p at
 
   owned : IsOwned naming lender hostile history rows (keepers_at cast) start journal
-  owned = owned_by rows cast play.seated place.net place.blk placed.net placed.blk lender begin.naming_is history start journal play.filled play.peopled
+  owned = owned_by rows cast play.calm play.seated place.net place.blk placed.net placed.blk lender begin.naming_is history start journal play.filled play.peopled
       (λ k p at. let x = actor_at k p at in subst (λ q. AreApart (sheet scene q).ends) x.2 (ends_apart (end_at world) scene x.0 (play.fits k x.0 x.1)))
       (λ k p at.
       let x = actor_at k p at in
-      subst (λ q. PutsItsOwnInOrder naming (sheet scene q)) x.2 (own_at rows cast play.seated place.net place.blk placed.net placed.blk passed x.0 (names_at rows cast play.seated place.net place.blk placed.net placed.blk k (part_of x.0) (map_get part_of actors k x.0 x.1)) (play.stands k x.0 x.1)))
+      subst (λ q. PutsItsOwnInOrder naming (sheet scene q)) x.2 (own_at rows cast play.calm play.seated place.net place.blk placed.net placed.blk passed x.0 (names_at rows cast play.calm play.seated place.net place.blk placed.net placed.blk k (part_of x.0) (map_get part_of actors k x.0 x.1)) (play.stands k x.0 x.1)))
       play.legal play.flows play.rows_hold (play_kinds history rows actors journal passed world play) begin.counted begin.shown
 
   -- each actor has what the table says
@@ -176,13 +176,13 @@ module _ (history : History) (rows : List QueueRow) (pools : List PoolRow) (plac
       let x = map_from (actor_holder scene) actors k h at in
       let here = map_get part_of actors k x.0 x.1 in
       subst (HoldsIts naming sizes m passed) x.2
-      (actor_holds naming scene passed m play.items sizes x.0 (names_at rows cast play.seated place.net place.blk placed.net placed.blk k (part_of x.0) here) (sized_at rows cast play.seated place.net place.blk placed.net placed.blk has.numbered k (part_of x.0) here) (fits_whole (end_at world) x.0 (play.fits k x.0 x.1)) (play.in_turn k x.0 x.1) (play.stands k x.0 x.1)
+      (actor_holds naming scene passed m play.items sizes x.0 (play.calm k (part_of x.0) here) (names_at rows cast play.calm play.seated place.net place.blk placed.net placed.blk k (part_of x.0) here) (sized_at rows cast play.calm play.seated place.net place.blk placed.net placed.blk has.numbered k (part_of x.0) here) (fits_whole (end_at world) x.0 (play.fits k x.0 x.1)) (play.in_turn k x.0 x.1) (play.stands k x.0 x.1)
       (carry_takes naming m passed (sheet scene (part_of x.0)).ends carry begins))
 
   starts_at : (k : ℕ) (h : Holder) → slice_get (holders_of actors) k ≡ Some h → HandWithin sizes h.keeper
   starts_at k h at =
       let there : slice_get (keepers_at cast) k ≡ Some h.keeper = ap (λ ks. slice_get ks k) (sym (keepers_same scene actors)) ∙ map_get (λ (y : Holder). y.keeper) (holders_of actors) k h at in
-      spread_within sizes owner_ (keepers_at cast) (are_spread rows cast play.seated place.net place.blk placed.net placed.blk has.numbered) k h.keeper there
+      spread_within sizes owner_ (keepers_at cast) (are_spread rows cast play.calm play.seated place.net place.blk placed.net placed.blk has.numbered) k h.keeper there
 
   lines : AreLines naming lender hostile history rows sizes (holders_of actors) start journal passed world
   lines = record {
@@ -213,21 +213,21 @@ pub play_whole : (history : History) (rows : List QueueRow) (pools : List PoolRo
 play_whole history rows pools place actors journal passed world placed has play owners carry = line_whole history rows pools place actors owners.table journal passed world placed has play owners.begins carry owners.pools
 
 -- each pool of a cast has all its buffers at the start
-pub all_there : (rows : List QueueRow) (cast : List Part) (seated : AreSeated (sheet (scene_of cast)) rows cast) (place : PoolPlace) → IsPlaced rows place cast → AreNumbered (place_pools place) → (k : ℕ) → IsPool (start_table (keepers_at cast)) k (place_sizes place k)
-all_there rows cast seated place placed numbered k = by (pool_owned rows cast seated place.net place.blk placed.net placed.blk numbered k)
+pub all_there : (rows : List QueueRow) (cast : List Part) → AllCalm cast → (seated : AreSeated (sheet (scene_of cast)) rows cast) (place : PoolPlace) → IsPlaced rows place cast → AreNumbered (place_pools place) → (k : ℕ) → IsPool (start_table (keepers_at cast)) k (place_sizes place k)
+all_there rows cast calm seated place placed numbered k = by (pool_owned rows cast calm seated place.net place.blk placed.net placed.blk numbered k)
   where
-    by : (owner rows cast seated place.net place.blk placed.net placed.blk numbered k < length cast) ⊎ (place_sizes place k ≡ 0) → IsPool (start_table (keepers_at cast)) k (place_sizes place k)
+    by : (owner rows cast calm seated place.net place.blk placed.net placed.blk numbered k < length cast) ⊎ (place_sizes place k ≡ 0) → IsPool (start_table (keepers_at cast)) k (place_sizes place k)
     by (inl lt) =
         let same : length (keepers_at cast) ≡ length cast = length-map cast (λ p. keeper_of (sheet (scene_of cast) p)) in
-        spread_pools (place_sizes place) (owner rows cast seated place.net place.blk placed.net placed.blk numbered) (keepers_at cast) (are_spread rows cast seated place.net place.blk placed.net placed.blk numbered) k (omega (arith, lt, same))
+        spread_pools (place_sizes place) (owner rows cast calm seated place.net place.blk placed.net placed.blk numbered) (keepers_at cast) (are_spread rows cast calm seated place.net place.blk placed.net placed.blk numbered) k (omega (arith, lt, same))
     by (inr none) = λ no lt is. absurd (omega (arith, lt, none))
 
 -- so at the start state it has owners
-pub owners_anew : (rows : List QueueRow) (cast : List Part) (seated : AreSeated (sheet (scene_of cast)) rows cast) (place : PoolPlace) → IsPlaced rows place cast → AreNumbered (place_pools place) → HasOwners (start_history rows) rows place cast
-owners_anew rows cast seated place placed numbered = record {
+pub owners_anew : (rows : List QueueRow) (cast : List Part) → AllCalm cast → (seated : AreSeated (sheet (scene_of cast)) rows cast) (place : PoolPlace) → IsPlaced rows place cast → AreNumbered (place_pools place) → HasOwners (start_history rows) rows place cast
+owners_anew rows cast calm seated place placed numbered = record {
   table = start_table (keepers_at cast);
-  begins = begins_anew rows cast seated place placed numbered;
-  pools = all_there rows cast seated place placed numbered;
+  begins = begins_anew rows cast calm seated place placed numbered;
+  pools = all_there rows cast calm seated place placed numbered;
 }
 
 pairs_many : (qs : List ClientPools) → length (flat_map (λ (q : ClientPools). q.rx ∷ q.tx ∷ []) qs) ≡ 2 * length qs
@@ -235,16 +235,16 @@ pairs_many [] = refl
 pairs_many (q ∷ qs) = let rest = pairs_many qs in omega (arith, rest)
 
 -- fewer pools than queues
-pub pools_few : (rows : List QueueRow) (pools : List PoolRow) (cast : List Part) → ArePooled rows pools cast → AreSeated (sheet (scene_of cast)) rows cast → length rows ≤ 65536 → length pools ≤ 65536
-pools_few rows pools cast (place, placed, has) seated few = by place.net place.blk placed.net placed.blk (has.many ∙ length-append (pools_first place.net) (pools_behind place.blk))
+pub pools_few : (rows : List QueueRow) (pools : List PoolRow) (cast : List Part) → AllCalm cast → ArePooled rows pools cast → AreSeated (sheet (scene_of cast)) rows cast → length rows ≤ 65536 → length pools ≤ 65536
+pools_few rows pools cast calm (place, placed, has) seated few = by place.net place.blk placed.net placed.blk (has.many ∙ length-append (pools_first place.net) (pools_behind place.blk))
   where
     by : (n : Option NetPlace) (b : Option BlkPlace) → HasNetAt rows n cast → HasBlkAt rows b cast → length pools ≡ length (pools_first n) + length (pools_behind b) → length pools ≤ 65536
     by None None net blk many = omega (arith, many)
-    by (Some net) None has_net blk many = let room = net_many rows cast seated net has_net in omega (arith, many, room, few, pairs_many net.pools)
-    by None (Some blk) net has_blk many = let room = blk_many rows cast seated blk has_blk.0 in omega (arith, many, room, few)
+    by (Some net) None has_net blk many = let room = net_many rows cast calm seated net has_net in omega (arith, many, room, few, pairs_many net.pools)
+    by None (Some blk) net has_blk many = let room = blk_many rows cast calm seated blk has_blk.0 in omega (arith, many, room, few)
     by (Some net) (Some blk) has_net has_blk many =
-        let room = blk_many rows cast seated blk has_blk.0 in
-        let behind = blk_behind rows cast seated net has_net.0 has_net.1 blk has_blk.0 in
+        let room = blk_many rows cast calm seated blk has_blk.0 in
+        let behind = blk_behind rows cast calm seated net has_net.0 has_net.1 blk has_blk.0 in
         omega (arith, many, room, behind, few, pairs_many net.pools)
 
 -- without a class that has pools there are none

@@ -15,8 +15,8 @@ use Rattle.net_law.specs.Parts.Table.{net_sheet}
 use Rattle.net_law.proofs.PartsLemmas.Pairs.{twice, pair_first, pair_second}
 use Rattle.net_law.specs.TxParts.Parts.{Shipper}
 use Rattle.net_law.specs.TxParts.Numbers.{NetPlace, own_pools, shippers_from, sender_at}
-use Rattle.actor_set.specs.Parts.{Part, UartPart, DriverPart, RxPart, TxPart, ClientPart, NetworkPart, SendingPart, BlockPart}
-use Rattle.actor_set.specs.Laws.Kinds.{sheet, scene_of}
+use Rattle.actor_set.specs.Parts.{HostilePart, Part, UartPart, DriverPart, RxPart, TxPart, ClientPart, NetworkPart, SendingPart, BlockPart}
+use Rattle.actor_set.specs.Laws.Kinds.{AllCalm, sheet, scene_of}
 use Rattle.actor_set.proofs.LawsLemmas.Told.{none_wild}
 use Rattle.wired_law.specs.Wiring.{HasPart, HasWhole}
 
@@ -57,8 +57,9 @@ IsNetwork (ClientPart rx tx script) = ⊥
 IsNetwork (NetworkPart p) = Unit {0}
 IsNetwork (SendingPart p) = Unit {0}
 IsNetwork (BlockPart p) = ⊥
+IsNetwork (HostilePart p) = ⊥
 
-module _ (rows : List QueueRow) (net : NetPlace) (cast : List Part) (whole : HasWhole rows net cast) (first : net.first ≡ 0) where
+module _ (rows : List QueueRow) (net : NetPlace) (cast : List Part) (calm : AllCalm cast) (whole : HasWhole rows net cast) (first : net.first ≡ 0) where
   abbrev pub scene : Scene
   scene = scene_of cast
 
@@ -85,7 +86,7 @@ module _ (rows : List QueueRow) (net : NetPlace) (cast : List Part) (whole : Has
       let program = there_is net.programs k (omega (arith, below, whole.pools_many, whole.programs_many)) in (
         program.0,
         mac.0,
-        subst (λ n. HasPart cast (NetworkPart (client_at n k program.0 mac.0 (own_pools q)))) first (whole.client k program.0 mac.0 q (record { address = mac.1; pools = at; plays = program.1 }) (none_wild cast rows (client_first net.first k + 4))),
+        subst (λ n. HasPart cast (NetworkPart (client_at n k program.0 mac.0 (own_pools q)))) first (whole.client k program.0 mac.0 q (record { address = mac.1; pools = at; plays = program.1 }) (none_wild cast calm rows (client_first net.first k + 4))),
       )
 
   -- an actor of the network has this end

@@ -21,7 +21,7 @@ use Rattle.blk_law.specs.Sheets.Numbers.{BlkPlace}
 use Rattle.blk_law.specs.Owners.Answering.{TakesBlocks}
 use Rattle.blk_quiet.specs.Still.{HasClientPools, HasBlkRooms, range_of}
 use Rattle.actor_set.specs.Parts.{Part}
-use Rattle.actor_set.specs.Laws.Kinds.{hostiles}
+use Rattle.actor_set.specs.Laws.Kinds.{AllCalm, hostiles}
 use Rattle.actor_set.proofs.LawsLemmas.Calm.{calm_row}
 use Rattle.cast_core.specs.Casts.{blk_place, client_pool}
 use Rattle.cast_core.specs.Making.{HasPool, HasBlkPools, blk_ends, blk_range}
@@ -101,7 +101,7 @@ module _ (plan : Plan) (trace : Trace) (valid : Valid plan) (blk : Blk) (is : pl
   }
 
   -- each queue is there, and can hold an entry
-  module _ (cast : List Part) where
+  module _ (cast : List Part) (calm : AllCalm cast) where
     pub blk_rooms_are : HasBlkRooms (hostiles cast) (queues_of plan) place
     blk_rooms_are i lt =
         let all = (has_rows plan valid).blk blk is in
@@ -109,4 +109,4 @@ module _ (plan : Plan) (trace : Trace) (valid : Valid plan) (blk : Blk) (is : pl
         let clients = counted in
         let row = there_is (queues_of plan) (place.first + i) (omega (arith, lt, all, many, clients)) in
         let sound = all-at (IsSoundQueue plan) (queues_of plan) (queues_sound plan valid) (place.first + i) row.0 row.1 in
-        record { row = row.0; there = row.1; calm = calm_row cast row.0; enough = capacity_some row.0.capacity sound.capacity }
+        record { row = row.0; there = row.1; calm = calm_row cast calm row.0; enough = capacity_some row.0.capacity sound.capacity }

@@ -23,7 +23,7 @@ use Rattle.net_law.specs.Parts.Numbers.{client_first}
 use Rattle.net_law.specs.TxParts.Numbers.{NetPlace}
 use Rattle.net_quiet.specs.Still.{HasPools, HasRooms, SendApart, range_of}
 use Rattle.actor_set.specs.Parts.{Part}
-use Rattle.actor_set.specs.Laws.Kinds.{hostiles}
+use Rattle.actor_set.specs.Laws.Kinds.{AllCalm, hostiles}
 use Rattle.actor_set.proofs.LawsLemmas.Calm.{calm_row}
 use Rattle.wired_law.specs.Wiring.{HasWhole}
 use Rattle.cast_core.specs.Casts.{client_pools, net_place}
@@ -110,9 +110,9 @@ module _ (plan : Plan) (trace : Trace) where
         apart = send_apart;
       }
 
-      module _ (cast : List Part) (whole : HasWhole (queues_of plan) place cast) where
+      module _ (cast : List Part) (calm : AllCalm cast) (whole : HasWhole (queues_of plan) place cast) where
         held : (n least : ℕ) (row : QueueRow) → slice_get (queues_of plan) n ≡ Some row → least ≤ row.capacity → Holds (hostiles cast) (queues_of plan) n least
-        held n least row at enough = record { row = row; there = at; calm = calm_row cast row; enough = enough }
+        held n least row at enough = record { row = row; there = at; calm = calm_row cast calm row; enough = enough }
 
         -- a queue that can hold a pool holds as many entries as the pool has buffers
         holds_pool : (n m pool : ℕ) → HoldsPool plan n pool → n ≡ m → Holds (hostiles cast) (queues_of plan) m (pool_at (pools_of plan) pool).buffers

@@ -25,6 +25,7 @@ use Rattle.actor_set.specs.Laws.Kinds.{sheet, scene_of, hostiles}
 use Rattle.actor_set.specs.Laws.Turning.{InTurn}
 use Rattle.actor_set.proofs.LawsLemmas.Beside.{fits_beside, stands_beside}
 use Rattle.actor_set.proofs.LawsLemmas.PartEnds.{to_part, end_seat, same_part}
+use Rattle.actor_set.proofs.LawsLemmas.Rounds.{own_is}
 use Rattle.actor_set.proofs.LawsLemmas.Starts.{fits_whole}
 use Rattle.wired_law.specs.Wiring.{IsWired, AreAtWork, AreOfKind, ClientsSend}
 use Rattle.wired_law.proofs.Wiring.{sends_on, nothing_sent}
@@ -110,6 +111,10 @@ module _ (rows : List QueueRow) (pools : List PoolRow) (cast : List Part) (in_pl
     abbrev x : Actor
     x = turn.old
 
+    -- nobody is hostile, so its call is at one of its ends
+    own_there : ActorEnd x (role_of t.deed.event.op) t.deed.event.queue.0
+    own_there = own_is x t.deed.event (in_place.calm k (part_of x) (ap (λ (c : List Part). slice_get c k) (sym st.parts) ∙ map_get part_of actors k x turn.there)) turn.own
+
     abbrev actors' : List Actor
     actors' = slice_set actors k t.actor
 
@@ -135,7 +140,7 @@ module _ (rows : List QueueRow) (pools : List PoolRow) (cast : List Part) (in_pl
         (eqb_tells j k)
 
     beside : (j : ℕ) (y : Actor) → j ≢ k → slice_get actors j ≡ Some y → (r : Role) (n : ℕ) → ActorEnd y r n → moved_by t.deed r n ≡ []
-    beside j y ne at r n own = moved_else t.deed r n (λ same there. apart actors passed st j k y x at turn.there ne r n own (subst (λ (z : Role × ℕ). ActorEnd x z.0 z.1) (λ i. (sym same i, sym there i)) turn.own))
+    beside j y ne at r n own = moved_else t.deed r n (λ same there. apart actors passed st j k y x at turn.there ne r n own (subst (λ (z : Role × ℕ). ActorEnd x z.0 z.1) (λ i. (sym same i, sym there i)) own_there))
 
     stands' : (j : ℕ) (y : Actor) → slice_get actors' j ≡ Some y → ActorStandsFor y passed'
     stands' j y at = dite (ℕ_discrete j k)
@@ -174,6 +179,7 @@ module _ (rows : List QueueRow) (pools : List PoolRow) (cast : List Part) (in_pl
 
     carry' : (place : PoolPlace) → IsPlaced rows place cast → CarryPages (cast_naming (scene_of cast) place) (moved_of passed') passed'
     carry' place placed = carry_call rows place cast (moved_of passed) (moved_of passed') passed t.deed k t.actor (record {
+      calm = in_place.calm;
       placed = placed;
       seated = seated;
       split = split;
@@ -188,7 +194,7 @@ module _ (rows : List QueueRow) (pools : List PoolRow) (cast : List Part) (in_pl
       in_turn = turns' k t.actor (set_there actors k x t.actor turn.there);
       stands = stands' k t.actor (set_there actors k x t.actor turn.there);
       fits = fits_whole turn.ends t.actor turn.fits;
-      own = same_part t.actor x (role_of t.deed.event.op) t.deed.event.queue.0 (sym turn.part) (fits_whole (st.each k) x (st.fits k x turn.there)) turn.own;
+      own = same_part t.actor x (role_of t.deed.event.op) t.deed.event.queue.0 (sym turn.part) (fits_whole (st.each k) x (st.fits k x turn.there)) own_there;
     })
 
     -- all goes on to hold after the turn

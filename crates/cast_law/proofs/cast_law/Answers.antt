@@ -1,3 +1,4 @@
+use Rattle.cast_law.proofs.Calming.{all_calm}
 use Rattle.cast_law.proofs.Seated.{part_there}
 use Rattle.cast_law.proofs.Joined.{all_seated, whole_network, whole_block, scene_of_plan}
 use Rattle.cast_law.proofs.Blocks.{no_block}
@@ -7,6 +8,9 @@ use Rattle.cast_law.proofs.cast_law.Goals as goal
 
 pub returns-clause-seated : goal.returns-clause-seated
 returns-clause-seated c = all_seated
+
+pub returns-clause-calm : goal.returns-clause-calm
+returns-clause-calm c = all_calm
 
 pub returns-clause-parts : goal.returns-clause-parts
 returns-clause-parts c = part_there

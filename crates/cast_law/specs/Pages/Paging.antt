@@ -18,7 +18,7 @@ use Rattle.net_law.specs.Parts.Parts.{NetClient}
 use Rattle.blk_law.specs.Sheets.Parts.{BlkPart, DiskDevice, BlkDriver, BlkVirt, BlkClient}
 use Rattle.page_law.specs.Holders.{PageHolder}
 use Rattle.actor_set.specs.Parts.{Part, UartPart, DriverPart, RxPart, TxPart, ClientPart}
-use Rattle.actor_set.specs.Parts.{NetworkPart, SendingPart, BlockPart}
+use Rattle.actor_set.specs.Parts.{HostilePart, NetworkPart, SendingPart, BlockPart}
 use Rattle.actor_set.specs.Actors.{ActorStandsFor, actor_hand, part_of}
 use Rattle.actor_set.specs.declared.actor.Actor.{Actor}
 use Rattle.actor_set.specs.declared.actor.Actor.TheVariants as Kinds
@@ -42,6 +42,7 @@ actor_kept (Kinds.DiskDevice x) passed = []
 actor_kept (Kinds.BlkDriver x) passed = []
 actor_kept (Kinds.BlkVirt x) passed = []
 actor_kept (Kinds.BlkClient x) passed = []
+actor_kept (Kinds.Rogue x) passed = []
 
 -- what an actor has lent: the network's receiving virtualiser alone lends
 abbrev pub actor_lends : Actor → List Body
@@ -60,6 +61,7 @@ actor_lends (Kinds.DiskDevice x) = []
 actor_lends (Kinds.BlkDriver x) = []
 actor_lends (Kinds.BlkVirt x) = []
 actor_lends (Kinds.BlkClient x) = []
+actor_lends (Kinds.Rogue x) = []
 
 -- the bodies that it had at the start, by what it stands for
 abbrev pub actor_start : (x : Actor) (passed : Passed) → ActorStandsFor x passed → List Body
@@ -78,6 +80,7 @@ actor_start (Kinds.DiskDevice x) passed st = []
 actor_start (Kinds.BlkDriver x) passed st = []
 actor_start (Kinds.BlkVirt x) passed st = Carried.Page st.start ∷ []
 actor_start (Kinds.BlkClient x) passed st = page_bodies st.start
+actor_start (Kinds.Rogue x) passed st = page_bodies x.start.value.items
 
 -- an actor with its buffers
 abbrev pub page_holder : Scene → (x : Actor) (passed : Passed) → ActorStandsFor x passed
@@ -117,7 +120,8 @@ blk_part_pools (BlkDriver ways) = []
 blk_part_pools (BlkVirt req resp sectors pool clients) = pool ∷ []
 blk_part_pools (BlkClient req resp asks pool) = pool ∷ []
 
--- the pools whose buffers a part has at the start
+-- the pools whose buffers a part has at the start; of a hostile client's pages its part tells the
+-- names alone
 abbrev pub part_pools : Part → List PoolAt
 part_pools (UartPart rx tx input) = []
 part_pools (DriverPart device_rx device_tx rx tx) = []
@@ -127,6 +131,7 @@ part_pools (ClientPart rx tx script) = []
 part_pools (NetworkPart p) = net_part_pools p
 part_pools (SendingPart p) = []
 part_pools (BlockPart p) = blk_part_pools p
+part_pools (HostilePart p) = []
 
 -- what all buffers of a pool weigh, each of its pool's length
 abbrev pub pool_weighs : Count → PoolAt → ℕ

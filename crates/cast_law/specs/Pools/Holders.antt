@@ -13,7 +13,7 @@ use Rattle.owner_law.specs.Pools.Handing.{NameNothing}
 use Rattle.owner_law.specs.Pools.Lines.{Holder}
 use Rattle.net_quiet.specs.Pools.Holders.{holder_of}
 use Rattle.actor_set.specs.Parts.{Part, UartPart, DriverPart, RxPart, TxPart, ClientPart}
-use Rattle.actor_set.specs.Parts.{NetworkPart, SendingPart, BlockPart}
+use Rattle.actor_set.specs.Parts.{HostilePart, NetworkPart, SendingPart, BlockPart}
 use Rattle.actor_set.specs.Actors.{part_of, actor_hand, actor_lent}
 use Rattle.actor_set.specs.declared.actor.Actor.{Actor}
 use Rattle.actor_set.specs.declared.actor.Actor.TheVariants as Kinds
@@ -32,7 +32,7 @@ abbrev pub NothingAt : Naming → Scene → Part → Type 0
 NothingAt naming scene p = NameNothing naming (sheet scene p).ends
 
 -- what items name at a part's queues: at those of the serial class nothing, at those of the network
--- buffers and leases, and at those of the block class buffers
+-- buffers and leases, and at those of the block class buffers; at a hostile client's nothing
 abbrev pub NamesAt : Naming → Scene → Part → Type 0
 NamesAt naming scene (UartPart rx tx input) = NothingAt naming scene (UartPart rx tx input)
 NamesAt naming scene (DriverPart device_rx device_tx rx tx) =
@@ -43,6 +43,7 @@ NamesAt naming scene (ClientPart rx tx script) = NothingAt naming scene (ClientP
 NamesAt naming scene (NetworkPart p) = NamesPart naming scene p
 NamesAt naming scene (SendingPart p) = NamesSend naming p
 NamesAt naming scene (BlockPart p) = NamesServed naming p
+NamesAt naming scene (HostilePart p) = NothingAt naming scene (HostilePart p)
 
 -- the pool that a part of the network lends has its size by its number
 abbrev pub LendsSized : (ℕ → ℕ) → NetPart → Type 0
@@ -62,6 +63,7 @@ IsSized sizes (ClientPart rx tx script) = Unit {0}
 IsSized sizes (NetworkPart p) = LendsSized sizes p
 IsSized sizes (SendingPart p) = Unit {0}
 IsSized sizes (BlockPart p) = Unit {0}
+IsSized sizes (HostilePart p) = Unit {0}
 
 -- a sending virtualiser took entries of the network alone from the driver; of other kinds nothing
 -- is asked
@@ -81,3 +83,4 @@ TakesNet (Kinds.DiskDevice x) passed = Unit {0}
 TakesNet (Kinds.BlkDriver x) passed = Unit {0}
 TakesNet (Kinds.BlkVirt x) passed = Unit {0}
 TakesNet (Kinds.BlkClient x) passed = Unit {0}
+TakesNet (Kinds.Rogue x) passed = Unit {0}

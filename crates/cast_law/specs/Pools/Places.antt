@@ -14,7 +14,7 @@ use Rattle.net_law.specs.TxParts.Numbers.{NetPlace}
 use Rattle.net_quiet.specs.Pools.Sizes.{net_pools}
 use Rattle.blk_law.specs.Sheets.Numbers.{BlkPlace}
 use Rattle.blk_quiet.specs.Pools.Naming.{blk_naming, blk_pools, HasApartPools}
-use Rattle.actor_set.specs.Laws.Kinds.{scene_of, sheet}
+use Rattle.actor_set.specs.Laws.Kinds.{AllCalm, scene_of, sheet}
 use Rattle.actor_set.specs.Parts.{Part}
 use Rattle.wired_law.specs.Wiring.{HasWhole, HasNoNetwork, HasBlk, HasNoBlock}
 
@@ -83,10 +83,11 @@ abbrev pub ArePooled : List QueueRow → List PoolRow → List Part → Type 0
 ArePooled rows pools cast =
     (place : PoolPlace) × IsPlaced rows place cast × HasPools pools place
 
--- a cast is in place: the owners of all queues are among its actors, each has just the ends that
--- the rows give it, and these are its pools
+-- a cast is in place: nobody of it is hostile, the owners of all queues are among its actors, each
+-- has just the ends that the rows give it, and these are its pools
 pub record IsInPlace (rows : List QueueRow) (pools : List PoolRow) (cast : List Part) :
     Type 0 where
+  pub calm : AllCalm cast
   pub peopled : IsPeopled rows (length cast)
   pub seated : AreSeated (sheet (scene_of cast)) rows cast
   pub filled : AreFilled (sheet (scene_of cast)) rows cast

@@ -25,7 +25,7 @@ use Rattle.cast_law.specs.PoolLines.PoolLines.{counted}
 use Rattle.actor_set.specs.Parts.{Part}
 use Rattle.actor_set.specs.Actors.{FitsActor, ActorStandsFor, ActorEnd, IsWhole, part_of}
 use Rattle.actor_set.specs.declared.actor.Actor.{Actor}
-use Rattle.actor_set.specs.Laws.Kinds.{sheet, scene_of, hostiles}
+use Rattle.actor_set.specs.Laws.Kinds.{AllCalm, sheet, scene_of, hostiles}
 use Rattle.actor_set.specs.Laws.Turning.{InTurn}
 use Rattle.wired_law.specs.Wiring.{AreOfKind}
 use Rattle.cast_law.specs.Pools.Places.{PoolPlace, IsPlaced, cast_naming, place_sizes}
@@ -42,12 +42,13 @@ AddUp world holders pools = (k : ℕ) (row : PoolRow) → slice_get pools k ≡ 
     + (counted world holders (record { 0 = k })).hands
     + (counted world holders (record { 0 = k })).lent ≡ row.buffers
 
--- a cast at play whose queues had this before its journal begins: each actor has just the ends that
--- the rows give it, fits them and stands for what passed there, of which nothing came out of turn;
--- the journal is legal, at each moment queues hand over and rows hold; and in each queue stands
--- what was put there and not taken
+-- a cast at play whose queues had this before its journal begins: no actor is hostile, and each has
+-- just the ends that the rows give it, fits them and stands for what passed there, of which nothing
+-- came out of turn; the journal is legal, at each moment queues hand over and rows hold; and in
+-- each queue stands what was put there and not taken
 pub record AreAtPlay (history : History) (rows : List QueueRow) (actors : List Actor)
     (journal : List Entry) (passed : Passed) (world : List Queue) : Type 0 where
+  pub calm : AllCalm (map part_of actors)
   pub peopled : IsPeopled rows (length (map part_of actors))
   pub seated : AreSeated (sheet (scene_of (map part_of actors))) rows (map part_of actors)
   pub filled : AreFilled (sheet (scene_of (map part_of actors))) rows (map part_of actors)
@@ -93,11 +94,12 @@ abbrev pub AreKindly : History → List QueueRow → (journal : List Entry) → 
 AreKindly history rows journal =
     (n : ℕ) → IsKindly (slice_get rows n) (sent history n journal) (taken history n journal)
 
--- entries carried what their items name, and actor k of a cast made a call on an end of its own,
--- and is then x; it stands for what passed by then, of which nothing came out of turn; queues hand
--- over what is of their kind, and rows hold, before the call and after it
+-- entries carried what their items name, and actor k of a cast without a hostile client made a call
+-- on an end of its own, and is then x; it stands for what passed by then, of which nothing came out
+-- of turn; queues hand over what is of their kind, and rows hold, before the call and after it
 pub record IsCall (rows : List QueueRow) (place : PoolPlace) (cast : List Part) (m m' : Moved)
     (passed : Passed) (d : Deed) (k : ℕ) (x : Actor) : Type 0 where
+  pub calm : AllCalm cast
   pub placed : IsPlaced rows place cast
   pub seated : AreSeated (sheet (scene_of cast)) rows cast
   pub split : (n : ℕ) (row : QueueRow) → slice_get rows n ≡ Some row

@@ -1,8 +1,8 @@
 -- Acts that are left out because they give what isn't kept.
-use Rattle.std.proofs.Common.{◌≡◌, ◌<◌, ◌≤◌, ◌+◌, ◌-◌, ℕ, Bool, true, false, List, [], ◌∷◌, length, drop, get_or, refl, sym, ap, ◌∙◌, subst, arith, suc, nat_eq, eq-eqb, drop-cons, length-drop}
+use Rattle.std.proofs.Common.{◌≡◌, ◌<◌, ◌≤◌, ◌+◌, ◌-◌, ℕ, Bool, true, false, List, [], ◌∷◌, length, drop, get_or, refl, sym, ap, ◌∙◌, subst, arith, suc, nat_le, drop-cons, length-drop}
 use native.Mathlib.Numerals.{unary_clauses}
-use Rattle.std.proofs.Math.Seq.{drop-length}
-use Rattle.wire_core.proofs.Sinces.{eqb_apart}
+use Rattle.std.proofs.lemmas.Bool.{le-leb, lt-leb}
+use Rattle.std.proofs.lemmas.List.{drop_all}
 use Rattle.cargo_core.specs.declared.act.Act.{Act}
 use Rattle.client_programs.specs.Rogue.Acts.{makes_call, next_acts, is_none_left}
 
@@ -20,8 +20,8 @@ skip_at kept acts i d h n = simp unary_clauses (ap (next_acts kept) (drop-cons a
 pub stay_at : (kept : ℕ) (acts : List Act) (i : ℕ) (d : Act) → i < length acts → makes_call kept (get_or acts i d) ≡ true → next_acts kept (drop i acts) ≡ drop i acts
 stay_at kept acts i d h y = ap (next_acts kept) (drop-cons acts i d h) ∙ (stays kept (get_or acts i d) (drop (suc i) acts) y ∙ sym (drop-cons acts i d h))
 
-pub end_at : (kept : ℕ) (acts : List Act) (i : ℕ) → i ≡ length acts → next_acts kept (drop i acts) ≡ drop i acts
-end_at kept acts i e = rw (e, drop-length acts) refl
+pub end_at : (kept : ℕ) (acts : List Act) (i : ℕ) → length acts ≤ i → next_acts kept (drop i acts) ≡ drop i acts
+end_at kept acts i le = rw (drop_all i acts le) refl
 
 -- the first of the acts that are left makes a call
 pub heads_call : (kept : ℕ) (ys : List Act) (x : Act) (xs : List Act) → next_acts kept ys ≡ x ∷ xs → makes_call kept x ≡ true
@@ -40,9 +40,9 @@ none_at acts i le h = done (drop i acts) refl h
     done [] e t = let l : length acts - i ≡ 0 = sym (length-drop i acts) ∙ ap length e in omega (arith, l, le)
     done (x ∷ xs) e t = cc
 
-pub rest_is : (acts : List Act) (i n : ℕ) → n ≡ length acts → i ≤ length acts → nat_eq i n ≡ is_none_left (drop i acts)
-rest_is acts i n many le = rw many (done (drop i acts) refl)
+pub rest_is : (acts : List Act) (i n : ℕ) → n ≡ length acts → nat_le n i ≡ is_none_left (drop i acts)
+rest_is acts i n many = rw many (done (drop i acts) refl)
   where
-    done : (rest : List Act) → drop i acts ≡ rest → nat_eq i (length acts) ≡ is_none_left rest
-    done [] e = let l : length acts - i ≡ 0 = sym (length-drop i acts) ∙ ap length e in let s : i ≡ length acts = omega (arith, l, le) in eq-eqb i (length acts) s
-    done (x ∷ xs) e = eqb_apart i (length acts) (λ s. let none : drop i acts ≡ [] = ap (λ n. drop n acts) s ∙ drop-length acts in cc)
+    done : (rest : List Act) → drop i acts ≡ rest → nat_le (length acts) i ≡ is_none_left (drop i acts)
+    done [] e = let l : length acts - i ≡ 0 = sym (length-drop i acts) ∙ ap length e in le-leb (length acts) i (omega (arith, l)) ∙ ap is_none_left (sym e)
+    done (x ∷ xs) e = let l : length acts - i ≡ suc (length xs) = sym (length-drop i acts) ∙ ap length e in lt-leb (length acts) i (omega (arith, l)) ∙ ap is_none_left (sym e)

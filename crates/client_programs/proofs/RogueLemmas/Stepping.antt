@@ -30,7 +30,7 @@ use Rattle.buffer_kit.specs.Conserving.{Count, weight, counted}
 use Rattle.buffer_kit.proofs.Conserving.{counted-append}
 use Rattle.buffer_kit.proofs.ManyClients.{none_if}
 use Rattle.client_programs.specs.Rogue.Acts.{makes_call, next_acts, after_act, after_look, act_op, act_end, ItemFits, after_first, left_after, queue_of, is_done, is_none_left, IsNext, IsNextOf, IsCall, item_for}
-use Rattle.client_programs.specs.Rogue.Clients.{FitsEnd, FitsRogue, IsActOf, HasLook, IsRogueOp, RogueStandsFor, RogueStepped, SameRogue, IsAt, can_put, puts_at, left_of, ends_of, numbers, takes}
+use Rattle.client_programs.specs.Rogue.Clients.{Keeps, FitsEnd, FitsRogue, IsActOf, HasLook, IsRogueOp, RogueStandsFor, RogueStepped, SameRogue, IsAt, can_put, puts_at, left_of, ends_of, numbers, takes}
 use Rattle.client_programs.proofs.RogueLemmas.Skipping.{stays, heads_call}
 use Rattle.client_programs.proofs.RogueLemmas.Fitting.{inputs_fit, outputs_fit, at_input, at_output, not_clear}
 use Rattle.client_programs.proofs.RogueLemmas.Counting.{at-with, at-none, at-one}
@@ -150,6 +150,7 @@ module _ {W : Type 0} (ends : W → Role → ℕ → End) (did : W → Deed → 
       acted = record { next = next_after new (look_deed q o b).event same moves op (rw fresh (record { queue = queue; op = sym is_op; item = refl })); after = plan_is new (look_deed q o b).event same moves op (rw (looked, fresh) (plan_here b refl next ∙ sym (plans (answer_of b)))); op = op };
       same = same;
       stepped = record { body = None; happened = happened; kept = λ p h. silent r new (look_deed q o b) p (no_take (cargo_of (look_deed q o b))) (no_put (cargo_of (look_deed q o b))) same (ap (λ (v : Vec Body). v.items) kept) h };
+      keeps = subst (λ t. Keeps t (next_acts (length r.kept.items) (drop r.next r.acts.items)) r.kept.items None new.kept.items) (sym fresh) (ap (λ (v : Vec Body). v.items) kept);
     }
 
   -- where an end stands among the inputs, and among the outputs
@@ -172,7 +173,7 @@ module _ {W : Type 0} (ends : W → Role → ℕ → End) (did : W → Deed → 
       (same : SameRogue r new) (looked : new.looked ≡ false) (next : new.next ≡ i + 1)
       (counts : (f : Count) → counted f r.kept.items ≡ weight f c.1 + counted f new.kept.items) (len : vec_len new.kept ≤ vec_len r.kept) (cap : vec_capacity r.kept ≤ vec_capacity new.kept)
       (plans : after_act true x (drop (i + 1) r.acts.items) (length r.kept.items) Done ≡ record { acts = drop (i + 1) r.acts.items; looked = false; kept = length new.kept.items })
-      (fewer : takes (drop (i + 1) r.acts.items) ≤ takes (x ∷ drop (i + 1) r.acts.items)) where
+      (fewer : takes (drop (i + 1) r.acts.items) ≤ takes (x ∷ drop (i + 1) r.acts.items)) (moved : Keeps true (x ∷ drop (i + 1) r.acts.items) r.kept.items (Some c.1) new.kept.items) where
     put_stands : (p : Passed) → RogueStandsFor r p → RogueStandsFor new (with_deed p (move_deed q Do.Put c))
     put_stands p h f =
         let d = move_deed q Do.Put c in
@@ -190,6 +191,7 @@ module _ {W : Type 0} (ends : W → Role → ℕ → End) (did : W → Deed → 
       acted = record { next = next_after new (move_deed q Do.Put c).event same moves tt (rw used (record { queue = queue; op = sym is_op; item = item })); after = plan_is new (move_deed q Do.Put c).event same moves tt (rw (looked, next, used) (sym plans)); op = tt };
       same = same;
       stepped = record { body = Some c.1; happened = happened; kept = put_stands };
+      keeps = subst (λ t. Keeps t (next_acts (length r.kept.items) (drop r.next r.acts.items)) r.kept.items (Some c.1) new.kept.items) (sym used) (subst (λ xs. Keeps true xs r.kept.items (Some c.1) new.kept.items) (sym next_is) moved);
     }
 
 -- an entry is taken
@@ -218,6 +220,7 @@ module _ {W : Type 0} (ends : W → Role → ℕ → End) (did : W → Deed → 
     acted = record { next = next_after ends did w w' r i (Acts.Take k) fits at new (move_deed q Do.Take c).event same moves tt (rw used (record { queue = queue; op = refl; item = tt })); after = plan_is ends did w w' r i (Acts.Take k) fits at new (move_deed q Do.Take c).event same moves tt (rw (looked, next, used, items, length-append r.kept.items (c.1 ∷ [])) refl); op = tt };
     same = same;
     stepped = record { body = Some c.1; happened = happened; kept = take_stands };
+    keeps = subst (λ t. Keeps t (next_acts (length r.kept.items) (drop r.next r.acts.items)) r.kept.items (Some c.1) new.kept.items) (sym used) (subst (λ xs. Keeps true xs r.kept.items (Some c.1) new.kept.items) (sym (next_is ends did w w' r i (Acts.Take k) fits at)) items);
   }
 
 -- a word is stored
@@ -246,6 +249,7 @@ module _ {W : Type 0} (ends : W → Role → ℕ → End) (did : W → Deed → 
     acted = record { next = next_after ends did w w' r i (Acts.Store k word v) fits at new (plain_deed q (Do.Store word v)).event same moves tt (record { queue = queue; op = refl; item = item_none r.looked }); after = plan_is ends did w w' r i (Acts.Store k word v) fits at new (plain_deed q (Do.Store word v)).event same moves tt (rw (looked, next, kept) (sym (plan_kept r.looked))); op = tt };
     same = same;
     stepped = record { body = None; happened = happened; kept = λ p h. silent r new (plain_deed q (Do.Store word v)) p refl refl same (ap (λ (z : Vec Body). z.items) kept) h };
+    keeps = subst (λ t. Keeps t (next_acts (length r.kept.items) (drop r.next r.acts.items)) r.kept.items None new.kept.items) (sym fresh) (ap (λ (z : Vec Body). z.items) kept);
   }
 
 -- a look that answers yes stands at its end

@@ -1,9 +1,11 @@
 -- The hostile client: what it must fit, what it stands for, and its row.
 use Rattle.std.specs.Prelude.{◌≡◌, ◌<◌, ◌≤◌, ◌+◌, ◌^◌, ◌++◌, ℕ, Bool, true, false, List, [], ◌∷◌}
 use Rattle.std.specs.Prelude.{length, drop, map, All, vec_len, vec_capacity, Some, slice_get, ◌⊎◌}
+use Rattle.std.specs.Prelude.{Option, option_to_list, remove}
 use Rattle.cargo_core.specs.declared.act.Act.{Act}
 use Rattle.cargo_core.specs.declared.act.Act.TheVariants as Acts
 use Rattle.cargo_core.specs.declared.item.Body.{Body}
+use Rattle.cargo_core.specs.declared.item.Body.TheVariants as Carried
 use Rattle.cargo_core.specs.declared.item.QueueKind.{QueueKind}
 use Rattle.cargo_core.specs.declared.item.QueueKind.TheVariants as Kind
 use Rattle.cargo_core.specs.Pages.{Paged}
@@ -162,6 +164,16 @@ pub record Acted (old : Rogue) (e : Event) (new : Rogue) : Type 0 where
   pub after : left_of new ≡ left_after (left_of old) e.answer
   pub op : IsRogueOp e.op
 
+-- what is kept after the next call, by the body that it moved: what is taken stands behind the
+-- others; a give puts what stands at its place, which is gone; no other call changes what is kept
+abbrev pub Keeps : Bool → List Act → (old : List Body) → Option Body → (new : List Body) → Type 0
+Keeps false acts old body new = new ≡ old
+Keeps true [] old body new = new ≡ old
+Keeps true (Acts.Take k ∷ xs) old body new = new ≡ old ++ option_to_list body
+Keeps true (Acts.Put k a l ∷ xs) old body new = (body ≡ Some Carried.Empty) × (new ≡ old)
+Keeps true (Acts.Give k p a l ∷ xs) old body new = (slice_get old p ≡ body) × (new ≡ remove old p)
+Keeps true (Acts.Store k w v ∷ xs) old body new = new ≡ old
+
 -- one step: the next call was made and nothing else, and what it stands for has this call's entry
 -- more
 pub record RogueStepped {W : Type 0} (ends : W → Role → ℕ → End) (did : W → Deed → W → Type 0)
@@ -170,6 +182,8 @@ pub record RogueStepped {W : Type 0} (ends : W → Role → ℕ → End) (did : 
   pub acted : Acted old event new
   pub same : SameRogue old new
   pub stepped : Stepped RogueStandsFor did wires wires' old new event
+  pub keeps : Keeps old.looked (next_acts (length old.kept.items) (drop old.next old.acts.items))
+      old.kept.items stepped.body new.kept.items
 
 -- it has all its acts before it, and its pages
 pub record IsNewRogue (kind : QueueKind) (inputs outputs : List QueueId) (pages : List Paged)

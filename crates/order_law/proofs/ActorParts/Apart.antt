@@ -14,12 +14,14 @@ use Rattle.wire_core.specs.Queues.{Queue, starts, start_queue, no_queue, queue_a
 use Rattle.spsc_queue.specs.Known.Ends.{EndIs, RingIs}
 use Rattle.seat_wires.specs.Places.{end_known, entries_known}
 use Rattle.seat_wires.specs.Times.{times_known}
-use Rattle.actor_set.specs.Actors.{ActorEnd, IsWhole, part_of}
+use Rattle.actor_set.specs.Actors.{ActorEnd, IsWhole, part_anew, part_of}
 use Rattle.actor_set.specs.Parts.{Part}
 use Rattle.actor_set.specs.declared.actor.Actor.{Actor}
+use Rattle.actor_set.specs.Laws.Kinds.{manner_of}
 use Rattle.actor_set.proofs.LawsLemmas.Beside.{stands_beside}
+use Rattle.actor_set.proofs.LawsLemmas.Rounds.{anew_is}
 use Rattle.actor_set.proofs.LawsLemmas.Starts.{fits_whole}
-use Rattle.actor_set.proofs.LawsLemmas.PartEnds.{PartEnd, to_part, from_part}
+use Rattle.actor_set.proofs.LawsLemmas.PartEnds.{PartEnd, to_part, from_anew}
 use Rattle.actor_set.specs.Adopting.Looks.{SameButLook}
 use Rattle.actor_set.proofs.AdoptingLemmas.Looks.{fits_anew}
 use Rattle.order_law.specs.ActorParts.Parting.{Apart, ends_at, end_in, apart_end, apart_passed, StandsApart, HasItsEnds, AreApart}
@@ -68,18 +70,18 @@ module _ (rows : List QueueRow) (actors : List Actor) (rings : List RingIs) (par
       let z = zip_there rows rings x.0.0 c.pair (ap (slice_get (zip rows rings)) e ∙ c.there) in
       (c.pair.0, z.0, ap (λ (y : EndIs). y.knows) c.is)
 
-  pub same_cast : map (λ (p : Kept). part_of p.0.actor) parts ≡ map part_of actors
+  pub same_cast : map (λ (p : Kept). part_of p.0.actor) parts ≡ map part_anew actors
   same_cast = alike actors parts opened.many (λ k p at. let x = opened.actors_are k p at in (x.0, x.1, x.2.part))
     where
-      alike : (actors : List Actor) (parts : List Kept) → length parts ≡ length actors → ((k : ℕ) (p : Kept) → slice_get parts k ≡ Some p → (x : Actor) × (slice_get actors k ≡ Some x) × (part_of p.0.actor ≡ part_of x)) → map (λ (p : Kept). part_of p.0.actor) parts ≡ map part_of actors
+      alike : (actors : List Actor) (parts : List Kept) → length parts ≡ length actors → ((k : ℕ) (p : Kept) → slice_get parts k ≡ Some p → (x : Actor) × (slice_get actors k ≡ Some x) × (part_of p.0.actor ≡ part_anew x)) → map (λ (p : Kept). part_of p.0.actor) parts ≡ map part_anew actors
       alike [] [] many each = refl
       alike [] (p ∷ parts) many each = absurd (omega (arith, many))
       alike (x ∷ actors) [] many each = absurd (omega (arith, many))
       alike (x ∷ actors) (p ∷ parts) many each =
           let first = each 0 p refl in
           let is : x ≡ first.0 = same_actor x first.0 first.1 in
-          let head : part_of p.0.actor ≡ part_of x = first.2 ∙ ap part_of (sym is) in
-          ap (λ (q : Part). q ∷ map (λ (p : Kept). part_of p.0.actor) parts) head ∙ ap (λ (l : List Part). part_of x ∷ l) (alike actors parts (omega (arith, many)) (λ k q at. each (suc k) q at))
+          let head : part_of p.0.actor ≡ part_anew x = first.2 ∙ ap part_anew (sym is) in
+          ap (λ (q : Part). q ∷ map (λ (p : Kept). part_of p.0.actor) parts) head ∙ ap (λ (l : List Part). part_anew x ∷ l) (alike actors parts (omega (arith, many)) (λ k q at. each (suc k) q at))
 
 module _ (rows : List QueueRow) (actors : List Actor) (rings : List RingIs) (parts : List Kept) (opened : AreOpened rows actors rings parts) (ready : AreReady rows actors) where
   module _ (k : ℕ) (p : Kept) (at : slice_get parts k ≡ Some p) where
@@ -118,7 +120,7 @@ module _ (rows : List QueueRow) (actors : List Actor) (rings : List RingIs) (par
 
     -- one of its ends is one that it had
     owned : (r : Role) (n : ℕ) → ActorEnd p.0.actor r n → (row : QueueRow) × (slice_get rows n ≡ Some row) × (owner_of row r ≡ k)
-    owned r n e = ready.owners k was.0 was.1 r n (from_part was.0 r n (subst (λ (q : Part). PartEnd q r n) was.2.part (to_part p.0.actor r n whole e)))
+    owned r n e = ready.owners k was.0 was.1 r n (from_anew was.0 r n (subst (λ (q : Part). PartEnd q r n) was.2.part (to_part p.0.actor r n whole e)))
 
     nothing_known : (r : Role) (n : ℕ) → ActorEnd p.0.actor r n → entries_known (end_in (ends_at a r) n) ≡ []
     nothing_known r n e = let o = owned r n e in let x = end_there r n o.0 o.1 o.2 in ap entries_known x.1 ∙ empty r o.0 x.0
@@ -136,6 +138,7 @@ module _ (rows : List QueueRow) (actors : List Actor) (rings : List RingIs) (par
       once = λ r i j x y h g same. opened_once r k 0 pairs i j x y (ap (λ (l : List (QueueId × EndIs)). slice_get l i) (sym (ends_are r)) ∙ h) (ap (λ (l : List (QueueId × EndIs)). slice_get l j) (sym (ends_are r)) ∙ g) same;
       on = λ r i x h. let c = from r i x h in let z = zip_there rows rings x.0.0 c.pair (number r i x h) in (c.pair.1, z.1, ap (λ (e : EndIs). e.ring) c.is);
       plain = λ r i x h. let c = from r i x h in ap (λ (e : EndIs). e.knows.wild) c.is ∙ first_sort r c.pair.0.kind;
+      calm = ap manner_of (was.2.part ∙ anew_is was.0 (ready.calm k was.0 was.1)) ∙ ready.calm k was.0 was.1;
       fits = fits_anew (end_at (starts rows)) (apart_end a) was.0 p.0.actor was.2.forgot
           (λ r n e. let o = owned r n e in let x = end_there r n o.0 o.1 o.2 in subst (λ (y : Option EndIs). SameButLook (end_at (starts rows) r n) (end_known y)) (sym x.1) (fresh_end rows n o.0 x.0 r o.1))
           (was.2.fits (end_at (starts rows)) (ready.fits k was.0 was.1));

@@ -10,8 +10,9 @@ use Rattle.play_core.specs.Moved.{Moved, moved}
 use Rattle.play_core.specs.Sheets.{Scene}
 use Rattle.play_core.specs.Wants.{Want, all_settled, bells_settled, end_settled}
 use Rattle.play_core.specs.Rests.Showing.{HaveItems, HaveBells}
+use Rattle.play_core.specs.Manners.{Calm}
 use Rattle.actor_set.specs.Actors.{FitsActor, ActorStandsFor, ActorEnd, part_of, actor_rests}
-use Rattle.actor_set.specs.Laws.Kinds.{sheet}
+use Rattle.actor_set.specs.Laws.Kinds.{manner_of, sheet}
 use Rattle.actor_set.specs.Laws.Turning.{InTurn}
 use Rattle.actor_set.proofs.LawsLemmas.Beside.{fits_beside}
 use Rattle.actor_set.proofs.LawsLemmas.Rests.{rests}
@@ -107,12 +108,12 @@ same_looked e e' same = λ i. record { owned = same.owned i; kind = same.kind i;
 
 -- where an actor's ends were those of these queues, but for its looks, it was at rest where the
 -- tracks say so
-pub rests_left : (w : List Queue) (ts : History) → length ts ≡ length w → HaveBells w ts [] → (scene : Scene) (p : Apart) (passed : Passed) → ((r : Role) (n : ℕ) → ActorEnd p.actor r n → (n < length w) × SameButLook (apart_end p r n) (end_at w r n)) → FitsActor (apart_end p) p.actor → InTurn scene p.actor passed → ActorStandsFor p.actor passed → HaveItems passed (moved ts []) → actor_rests p.actor ≡ all_settled ts [] ((sheet scene (part_of p.actor)).wants (moved ts []))
-rests_left w ts long have scene p passed same fits turn stands items =
+pub rests_left : (w : List Queue) (ts : History) → length ts ≡ length w → HaveBells w ts [] → (scene : Scene) (p : Apart) (passed : Passed) → ((r : Role) (n : ℕ) → ActorEnd p.actor r n → (n < length w) × SameButLook (apart_end p r n) (end_at w r n)) → FitsActor (apart_end p) p.actor → manner_of (part_of p.actor) ≡ Calm → InTurn scene p.actor passed → ActorStandsFor p.actor passed → HaveItems passed (moved ts []) → actor_rests p.actor ≡ all_settled ts [] ((sheet scene (part_of p.actor)).wants (moved ts []))
+rests_left w ts long have scene p passed same fits calm turn stands items =
     let looks : Role → ℕ → Bool = λ r n. (apart_end p r n).looked in
     let w' : List Queue = looked_from looks 0 w in
     let ts' : History = told_from looks 0 ts in
     let m : moved ts' [] ≡ moved ts [] = moved_stays looks ts in
     let fits' : FitsActor (end_at w') p.actor = fits_beside (apart_end p) (end_at w') p.actor (λ r n own. (let s = same r n own in end_looked looks w r n s.0 ∙ same_looked (apart_end p r n) (end_at w r n) s.1)) fits in
-    rests ts' [] w' (bells_stay looks w ts long have) scene p.actor passed turn fits' stands (subst (HaveItems passed) (sym m) items)
+    rests ts' [] w' (bells_stay looks w ts long have) scene p.actor passed calm turn fits' stands (subst (HaveItems passed) (sym m) items)
     ∙ (settled_stays looks ts ((sheet scene (part_of p.actor)).wants (moved ts' [])) ∙ ap (λ (z : Moved). all_settled ts [] ((sheet scene (part_of p.actor)).wants z)) m)

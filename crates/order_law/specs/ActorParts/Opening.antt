@@ -9,7 +9,7 @@ use Rattle.wire_core.specs.Lists.{Passed}
 use Rattle.spsc_queue.specs.declared.view.Half.{Half}
 use Rattle.spsc_queue.specs.Known.Ends.{EndIs, RingIs}
 use Rattle.spsc_queue.specs.Rule.{first_producer, first_consumer}
-use Rattle.actor_set.specs.Actors.{FitsActor, ActorStandsFor, Forgot, part_of}
+use Rattle.actor_set.specs.Actors.{FitsActor, ActorStandsFor, Forgot, part_anew, part_of}
 use Rattle.actor_set.specs.declared.actor.Actor.{Actor}
 
 -- what the end of a new ring knows
@@ -31,6 +31,6 @@ opened_from r k n (x ∷ xs) = opened_at r k n x ++ opened_from r k (n + 1) xs
 -- the same actor without its last looks: of the same part, it fits and stands for what it did
 pub record IsForgotten (x y : Actor) : Type 0 where
   pub forgot : Forgot x y
-  pub part : part_of y ≡ part_of x
+  pub part : part_of y ≡ part_anew x
   pub fits : (ends : Role → ℕ → End) → FitsActor ends x → FitsActor ends y
   pub stands : (passed : Passed) → ActorStandsFor x passed → ActorStandsFor y passed

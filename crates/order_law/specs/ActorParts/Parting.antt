@@ -11,7 +11,9 @@ use Rattle.wire_core.specs.Journal.{owner_of}
 use Rattle.wire_core.specs.Lists.{Passed}
 use Rattle.spsc_queue.specs.Known.Ends.{EndIs, RingIs}
 use Rattle.seat_wires.specs.Places.{end_known, entries_known}
-use Rattle.actor_set.specs.Actors.{FitsActor, ActorStandsFor}
+use Rattle.play_core.specs.Manners.{Calm}
+use Rattle.actor_set.specs.Actors.{FitsActor, ActorStandsFor, part_of}
+use Rattle.actor_set.specs.Laws.Kinds.{manner_of}
 use Rattle.actor_set.specs.declared.actor.Actor.{Actor}
 
 -- an actor, the want of memory that a step of it met since it was set apart, if one did, and its
@@ -45,8 +47,8 @@ apart_passed p calls = record {
 }
 
 -- no two of an actor's ends on one side are of one queue, and each is of the ring at its queue's
--- place and knows that the ring isn't wild; the actor fits them and stands for what passed there by
--- some calls, and no step of it wanted memory
+-- place and knows that the ring isn't wild; the actor isn't hostile, fits them and stands for what
+-- passed there by some calls, and no step of it wanted memory
 pub record StandsApart (rings : List RingIs) (p : Apart) : Type 0 where
   pub once : (r : Role) (i j : ℕ) (x y : QueueId × EndIs) → slice_get (ends_at p r) i ≡ Some x
       → slice_get (ends_at p r) j ≡ Some y → x.0.0 ≡ y.0.0 → i ≡ j
@@ -54,6 +56,7 @@ pub record StandsApart (rings : List RingIs) (p : Apart) : Type 0 where
       → (ring : RingIs) × (slice_get rings x.0.0 ≡ Some ring) × (x.1.ring ≡ ring.id)
   pub plain : (r : Role) (i : ℕ) (x : QueueId × EndIs) → slice_get (ends_at p r) i ≡ Some x
       → x.1.knows.wild ≡ false
+  pub calm : manner_of (part_of p.actor) ≡ Calm
   pub fits : FitsActor (apart_end p) p.actor
   pub stands : (calls : List Event) × ActorStandsFor p.actor (apart_passed p calls)
   pub fine : p.wanted ≡ None

@@ -1,16 +1,15 @@
 //! An actor at work apart from its system.
 
 ghost use Rattle.std.specs.Prelude.{◌≡◌, IfOk, IfErr, OnErr, Some, None, true};
-ghost use Rattle.wire_core.specs.Ends.{role_of};
 ghost use Rattle.wire_core.specs.Lists.{Stepped};
-ghost use Rattle.actor_set.specs.Actors.{FitsActor, ActorStandsFor, ActorEnd};
+ghost use Rattle.actor_set.specs.Actors.{FitsActor, ActorStandsFor, IsActorCall, MayStep};
 ghost use Rattle.actor_set.specs.Actors.{actor_rests, part_of, record_length};
 ghost use Rattle.order_law.specs.Tales.{is_waiting};
 
 use actor_set::Actor;
 use actor_set::laws::turn_law;
 use cargo_core::Memory;
-use wire_core::{Event, Wires};
+use wire_core::{Event, WildWires};
 
 /// An actor at work apart from its system. It is stepped by its own call alone, which keeps the
 /// want of memory that a step met; nothing takes that back. It is made where a system is taken
@@ -62,14 +61,16 @@ impl Worker {
         self.wanted
     }
 
-    /// Makes one call on one of its ends. At rest it only looks whether a notification is pending
-    /// there, or waives one. After want of memory no call was made, the actor is as it was, and no
+    /// Makes one call on one of its ends; a hostile client, which makes none at rest, may store a
+    /// word of one of its queues. At rest it only looks whether a notification is pending there, or
+    /// waives one. After want of memory no call was made, the actor is as it was, and no
     /// further step may be made.
-    pub fn step<W: Wires>(&mut self, wires: &mut W) -> Result<Event, Memory>
+    pub fn step<W: WildWires>(&mut self, wires: &mut W) -> Result<Event, Memory>
         requires fits { FitsActor (W.ends wires.old) self.old.actor }
+        requires may { MayStep (W.wild wires.old) self.old.actor }
         requires fine { self.old.wanted ≡ None }
         ensures fits { FitsActor (W.ends wires.new) self.new.actor }
-        ensures own { IfOk result (λ e. ActorEnd self.old.actor (role_of e.op) e.queue.0) }
+        ensures own { IfOk result (λ e. IsActorCall self.old.actor e) }
         ensures part { part_of self.new.actor ≡ part_of self.old.actor }
         ensures stepped { IfOk result (λ e. Stepped ActorStandsFor W.did wires.old wires.new
             self.old.actor self.new.actor e) }

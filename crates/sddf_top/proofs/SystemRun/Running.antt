@@ -26,7 +26,7 @@ use Rattle.order_law.specs.Ended.Tracks.{TellsEnds}
 use Rattle.pd_runner.specs.Facing.{CameApart, CameWithin, HasSpent, IsResting}
 use Rattle.sdf_plan.specs.declared.plan.Plan.{Plan}
 use Rattle.trace_text.specs.declared.trace.Trace.{Trace}
-use Rattle.system_core.proofs.Telling.{keeps_rests, keeps_spent}
+use Rattle.system_core.proofs.Telling.{keeps_rests, keeps_spent, was_calm}
 use Rattle.system_core.specs.Shows.{Setting, Shown}
 use Rattle.sdf_check.specs.Valid.{Valid}
 use Rattle.system_core.specs.Lawful.{StandsLawful}
@@ -162,5 +162,5 @@ is_ran plan trace limit s parts t new adopted first played system = record {
 }
   where
     goes_on : AllRest t.setting ⊎ OneSpent t.setting limit → AllRest new.setting ⊎ OneSpent new.setting limit
-    goes_on (inl rest) = inl (keeps_rests t.setting new.setting played.setting rest)
+    goes_on (inl rest) = inl (keeps_rests t.setting new.setting (was_calm t.setting new.setting played.setting system.stands.fitted.calm) played.setting rest)
     goes_on (inr spent) = inr (keeps_spent t.setting new.setting limit played.setting spent)

@@ -22,8 +22,9 @@ use Rattle.sdf_check.specs.Valid.{Valid}
 use Rattle.region_layout.specs.Rows.{pools_of}
 use Rattle.trace_text.specs.declared.trace.Trace.{Trace}
 use Rattle.trace_text.specs.Events.{net_clients}
-use Rattle.actor_set.specs.Parts.{Part, UartPart, DriverPart, RxPart, TxPart, ClientPart, NetworkPart, SendingPart, BlockPart}
+use Rattle.actor_set.specs.Parts.{HostilePart, Part, UartPart, DriverPart, RxPart, TxPart, ClientPart, NetworkPart, SendingPart, BlockPart}
 use Rattle.actor_set.specs.Laws.Kinds.{sheet, scene_of, hostiles}
+use Rattle.actor_set.specs.Rogues.{pages_in}
 use Rattle.std.proofs.Math.Nat.{mul_comm}
 use Rattle.cast_core.specs.Casts.{client_pools, net_place}
 use Rattle.cast_core.specs.Sources.{pool_at, first_blk_pool}
@@ -173,7 +174,7 @@ module _ (plan : Plan) (trace : Trace) (s : Shown) (valid : Valid plan) (cast_is
   filled = subst (λ z. AreFilled (sheet z) rows cast) scene_is stands.fitted.ends
 
   rows_hold : EachMoment (λ j. RowsHold (sheet scene) hostile cast (moved s.setting.history j)) s.journal
-  rows_hold = subst (λ z. EachMoment (λ j. RowsHold (sheet z) hostile cast (moved s.setting.history j)) s.journal) scene_is (each_plain s.setting s.journal stands.lawful.rows_hold)
+  rows_hold = subst (λ z. EachMoment (λ j. RowsHold (sheet z) hostile cast (moved s.setting.history j)) s.journal) scene_is (each_plain s.setting stands.fitted.calm s.journal stands.lawful.rows_hold)
 
   -- each part is that of a job
   ends_apart : (k : ℕ) (p : Part) → slice_get cast k ≡ Some p → AreApart (sheet scene p).ends
@@ -201,12 +202,13 @@ module _ (plan : Plan) (trace : Trace) (s : Shown) (valid : Valid plan) (cast_is
   puts_own k (NetworkPart p) at names = λ m order. net_puts naming scene p names m
   puts_own k (SendingPart p) at names = λ m order. send_own naming p names (send_apart plan.net here.net k p at) m
   puts_own k (BlockPart p) at names = block_own naming scene p names
+  puts_own k (HostilePart p) at names = λ m order apart row. nothing_kept naming (pages_in p.pages) (sheet scene (HostilePart p)).ends names m
 
   -- each move finds its buffer in the place that it leaves
   moves : (first : Table) → BeginsWith s.setting.history rows place cast first → EachMoment (OneOwner naming s.setting.history first) s.journal
   moves first is = owners_hold naming is.lender hostile s.setting.history rows (keepers_at cast) first s.journal
-      (owned rows cast seated place.net place.blk here.net here.blk is.lender is.naming_is s.setting.history first s.journal filled stands.fitted.peopled ends_apart
-      (λ k p at. puts_own k p at (names_at rows cast seated place.net place.blk here.net here.blk k p at))
+      (owned rows cast stands.fitted.calm seated place.net place.blk here.net here.blk is.lender is.naming_is s.setting.history first s.journal filled stands.fitted.peopled ends_apart
+      (λ k p at. puts_own k p at (names_at rows cast stands.fitted.calm seated place.net place.blk here.net here.blk k p at))
       stands.lawful.legal stands.lawful.flows rows_hold stands.lawful.kinds is.counted is.shown)
 
   -- from a table on with which it begins

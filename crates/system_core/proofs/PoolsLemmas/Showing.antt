@@ -63,8 +63,8 @@ module _ (plan : Plan) (trace : Trace) (s : Shown) (valid : Valid plan) (cast_is
   -- at the start state with the one in which each pool's buffers are in its owner's hand
   first_anew : BeginsAnew s.setting → IsFirstTable place s (owners_table s)
   first_anew anew = record {
-    begins = subst (λ h. BeginsWith h s.setting.rows place s.setting.cast (owners_table s)) (sym anew) (begins_anew s.setting.rows s.setting.cast seated place here pools.numbered);
-    pools = all_there s.setting.rows s.setting.cast seated place here pools.numbered;
+    begins = subst (λ h. BeginsWith h s.setting.rows place s.setting.cast (owners_table s)) (sym anew) (begins_anew s.setting.rows s.setting.cast stands.fitted.calm seated place here pools.numbered);
+    pools = all_there s.setting.rows s.setting.cast stands.fitted.calm seated place here pools.numbered;
   }
 
   shows_lines : (first : Table) → IsFirstTable place s first → s.state.pools ≡ table_lines (table_after place first s s.journal) 0 (pools_of plan)

@@ -29,7 +29,7 @@ use Rattle.blk_quiet.proofs.Answering.{answers_all}
 use Rattle.actor_set.specs.Parts.{Part, BlockPart}
 use Rattle.actor_set.specs.Actors.{part_of}
 use Rattle.actor_set.specs.declared.actor.Actor.{Actor}
-use Rattle.actor_set.specs.Laws.Kinds.{sheet, hostiles}
+use Rattle.actor_set.specs.Laws.Kinds.{AllCalm, sheet, hostiles}
 use Rattle.actor_set.specs.Laws.Records.{replies_got, replies_by}
 use Rattle.actor_set.proofs.LawsLemmas.Calm.{calm_actor}
 use Rattle.actor_set.proofs.LawsLemmas.Rows.{replies_here}
@@ -55,12 +55,12 @@ pub told_long : (asks : List Ask) (came : List Cargo) → length came ≡ length
 told_long asks came same = replies_long asks came (omega (arith, same)) ∙ same
 
 -- the block class among a cast's actors
-module _ (scene : Scene) (rows : List QueueRow) (cast : List Part) (m : Moved) (place : BlkPlace) (has : HasBlkIn scene rows place cast) (pools : HasClientPools place) (rooms : HasBlkRooms (hostiles cast) rows place) (holds : RowsHold (sheet scene) (hostiles cast) cast m) where
+module _ (scene : Scene) (rows : List QueueRow) (cast : List Part) (m : Moved) (place : BlkPlace) (calm : AllCalm cast) (has : HasBlkIn scene rows place cast) (pools : HasClientPools place) (rooms : HasBlkRooms (hostiles cast) rows place) (holds : RowsHold (sheet scene) (hostiles cast) cast m) where
   abbrev all : Needful
   all = needful (sheet scene) cast m
 
   plays : (p : Part) → HasPart cast p → Plays (hostiles cast) all m (sheet scene p)
-  plays p there = plays_there (sheet scene) (hostiles cast) cast m holds there.0 p (calm_actor cast there.0) there.1
+  plays p there = plays_there (sheet scene) (hostiles cast) cast m holds there.0 p (calm_actor cast calm there.0) there.1
 
   block_in : IsBlock (hostiles cast) scene rows all place m
   block_in = record {
@@ -69,27 +69,27 @@ module _ (scene : Scene) (rows : List QueueRow) (cast : List Part) (m : Moved) (
     disk = plays (BlockPart (disk_at place)) has.disk;
     driver = plays (BlockPart (blk_driver_at place.first)) has.driver;
     virt = plays (BlockPart (virt_at place)) has.virt;
-    client = λ k entry asks pool of. plays (BlockPart (blk_client_at place.first k asks pool)) (has.client k entry asks pool of (none_wild cast rows (place.first + 4 + 2 * k)));
+    client = λ k entry asks pool of. plays (BlockPart (blk_client_at place.first k asks pool)) (has.client k entry asks pool of (none_wild cast calm rows (place.first + 4 + 2 * k)));
   }
 
-pub block_there : {scene : Scene} (rows : List QueueRow) (cast : List Part) (m : Moved) (place : BlkPlace) → HasBlkIn scene rows place cast → HasClientPools place → HasBlkRooms (hostiles cast) rows place → RowsHold (sheet scene) (hostiles cast) cast m → IsBlock (hostiles cast) scene rows (needful (sheet scene) cast m) place m
-block_there {scene} rows cast m place has pools rooms holds = block_in scene rows cast m place has pools rooms holds
+pub block_there : {scene : Scene} (rows : List QueueRow) (cast : List Part) (m : Moved) (place : BlkPlace) → AllCalm cast → HasBlkIn scene rows place cast → HasClientPools place → HasBlkRooms (hostiles cast) rows place → RowsHold (sheet scene) (hostiles cast) cast m → IsBlock (hostiles cast) scene rows (needful (sheet scene) cast m) place m
+block_there {scene} rows cast m place calm has pools rooms holds = block_in scene rows cast m place calm has pools rooms holds
 
 -- clients that stand for what passed
-module _ (scene : Scene) (ends : Role → ℕ → End) (history : History) (rows : List QueueRow) (actors : List Actor) (journal : List Entry) (passed : Passed) (place : BlkPlace) (has : HasBlkIn scene rows place (map part_of actors)) (wired : IsWiredIn scene rows (map part_of actors)) (pools : HasClientPools place) (rooms : HasBlkRooms (hostiles (map part_of actors)) rows place) (work : AreAtWork ends rows actors passed) (send : ClientsSendIn scene rows (map part_of actors) passed) (items : HaveItems passed (moved history journal))
+module _ (scene : Scene) (ends : Role → ℕ → End) (history : History) (rows : List QueueRow) (actors : List Actor) (journal : List Entry) (passed : Passed) (place : BlkPlace) (calm : AllCalm (map part_of actors)) (has : HasBlkIn scene rows place (map part_of actors)) (wired : IsWiredIn scene rows (map part_of actors)) (pools : HasClientPools place) (rooms : HasBlkRooms (hostiles (map part_of actors)) rows place) (work : AreAtWork ends rows actors passed) (send : ClientsSendIn scene rows (map part_of actors) passed) (items : HaveItems passed (moved history journal))
     (still : IsStill (hostiles (map part_of actors)) history rows (needful (sheet scene) (map part_of actors) (moved history journal)) journal) where
   abbrev cast : List Part
   cast = map part_of actors
 
   answers : AnswersAll scene place (moved history journal)
   answers = answers_all (hostiles cast) history rows (needful (sheet scene) cast (moved history journal)) journal scene place still
-      (block_in scene rows cast (moved history journal) place has pools rooms (rows_hold scene ends history rows actors journal passed wired work send items))
+      (block_in scene rows cast (moved history journal) place calm has pools rooms (rows_hold scene ends history rows actors journal passed calm wired work send items))
 
   pub replied_whole : (k c : ℕ) (x : Actor) (entry : ℕ) (asks : List Ask) (pool : PoolAt) → slice_get actors k ≡ Some x → IsBlkClientOf place c entry asks pool → part_of x ≡ BlockPart (blk_client_at place.first c asks pool) → replies_got x ≡ replies_of place.image entry asks
   replied_whole k c x entry asks pool at of part =
       let resp = place.first + 5 + 2 * c in
       let begun = replied ends rows actors passed place has work send k c x asks pool entry at part of.has_entry of.has_asks in
-      let turn = in_turn ends rows actors passed wired work send k x at in
+      let turn = in_turn ends rows actors passed calm wired work send k x at in
       let got : replies_got x ≡ replies_to asks (passed.taken resp) = replies_here scene passed x turn (work.stands k x at) ∙ ap (replies_by passed) part in
       let came : length (passed.taken resp) ≡ length asks =
       sym (length-map (passed.taken resp) (λ (y : Cargo). y.0)) ∙ (ap length (items.taken resp) ∙ answers.answered c asks of.has_asks) in

@@ -14,7 +14,7 @@ pub returns-clause-record : goal.returns-clause-record
 returns-clause-record c = λ a passed m stands has. heard_here passed m has a stands
 
 pub returns-clause-rests : goal.returns-clause-rests
-returns-clause-rests c = λ scene history journal world a passed turn fits stands has bells. rests history journal world bells scene a passed turn fits stands has
+returns-clause-rests c = λ scene history journal world a passed calm turn fits stands has bells. rests history journal world bells scene a passed calm turn fits stands has
 
 pub returns-clause-frames : goal.returns-clause-frames
 returns-clause-frames c = λ a passed stands. frames_here passed a stands

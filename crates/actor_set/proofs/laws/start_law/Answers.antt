@@ -1,5 +1,5 @@
 use Rattle.actor_set.proofs.LawsLemmas.Paces.{start_round}
-use Rattle.actor_set.proofs.LawsLemmas.Starts.{new_stands, new_whole, new_hand, new_fits}
+use Rattle.actor_set.proofs.LawsLemmas.Starts.{new_anew, new_stands, new_whole, new_hand, new_fits}
 use Rattle.actor_set.proofs.LawsLemmas.Seating.{apart_ends, kind_is}
 use Rattle.actor_set.proofs.laws.start_law.Goals as goal
 
@@ -8,6 +8,9 @@ returns-clause-stands c = new_stands
 
 pub returns-clause-whole : goal.returns-clause-whole
 returns-clause-whole c = new_whole
+
+pub returns-clause-anew : goal.returns-clause-anew
+returns-clause-anew c = new_anew
 
 pub returns-clause-hand : goal.returns-clause-hand
 returns-clause-hand c = new_hand

@@ -5,4 +5,4 @@ pub returns-clause-row : goal.returns-clause-row
 returns-clause-row c = λ scene wild names a passed m turn stands has. told_row scene wild names passed m has a turn stands
 
 pub returns-clause-rests : goal.returns-clause-rests
-returns-clause-rests c = λ scene wild names history journal world a passed turn fits stands has bells. told_rests scene wild names passed history journal world bells has a turn fits stands
+returns-clause-rests c = λ scene wild names history journal world a passed calm turn fits stands has bells. told_rests scene wild names passed history journal world bells has a calm turn fits stands

@@ -11,7 +11,7 @@ pub returns-clause-whole : goal.returns-clause-whole
 returns-clause-whole c = play_whole
 
 pub returns-clause-anew : goal.returns-clause-anew
-returns-clause-anew c = λ rows pools place cast placed has seated. (begins_anew rows cast seated place placed has.numbered, all_there rows cast seated place placed has.numbered)
+returns-clause-anew c = λ rows pools place cast calm placed has seated. (begins_anew rows cast calm seated place placed has.numbered, all_there rows cast calm seated place placed has.numbered)
 
 pub returns-clause-few : goal.returns-clause-few
 returns-clause-few c = pools_few

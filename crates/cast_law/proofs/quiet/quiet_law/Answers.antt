@@ -6,7 +6,7 @@ pub returns-clause-pools : goal.returns-clause-pools
 returns-clause-pools c = λ plan trace valid net is. pools_are plan trace net is valid
 
 pub returns-clause-rooms : goal.returns-clause-rooms
-returns-clause-rooms c = λ plan trace cast valid net is whole. rooms_are plan trace net is valid cast whole
+returns-clause-rooms c = λ plan trace cast valid net is calm whole. rooms_are plan trace net is valid cast calm whole
 
 pub returns-clause-blk_pools : goal.returns-clause-blk_pools
 returns-clause-blk_pools c = blk_pools_are

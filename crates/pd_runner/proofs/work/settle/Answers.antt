@@ -1,4 +1,7 @@
-use Rattle.std.proofs.Common.{arith, rules, refl, ◌+◌}
+use Rattle.std.proofs.Common.{arith, rules, refl, ap, ◌+◌, ◌∙◌}
+use Rattle.seat_wires.specs.Places.{IsWildSeat}
+use Rattle.actor_set.specs.Laws.Kinds.{manner_of}
+use Rattle.actor_set.proofs.LawsLemmas.Rounds.{may_is}
 use Rattle.pd_runner.proofs.Stepping.{worked_none, worked_on, worked_of}
 use Rattle.pd_runner.specs.Running.{part_seats}
 use Rattle.pd_runner.proofs.work.settle.Goals as goal
@@ -11,6 +14,9 @@ loop-worker-init g c = record {
   fine = c.requires.ready.fine;
   within = c.requires.within;
 }
+
+pub step-requires-clause-may : goal.step-requires-clause-may
+step-requires-clause-may g c = may_is (IsWildSeat c.loop-worker.seats) c.loop-worker.worker.actor (ap manner_of c.loop-worker.invariant.worked.comes.same ∙ c.requires.ready.calm)
 
 pub loop-worker-preserved : goal.loop-worker-preserved
 loop-worker-preserved g c = let was = c.loop-worker.invariant in record {

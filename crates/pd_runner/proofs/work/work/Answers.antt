@@ -1,9 +1,15 @@
 use Rattle.std.proofs.Common.{arith, ap, ◌∙◌}
 use Rattle.order_law.specs.declared.actor_parts.worker.Worker.{Worker}
+use Rattle.seat_wires.specs.Places.{IsWildSeat}
+use Rattle.actor_set.specs.Laws.Kinds.{manner_of}
+use Rattle.actor_set.proofs.LawsLemmas.Rounds.{may_is}
 use Rattle.pd_runner.specs.Running.{Comes, part_seats}
 use Rattle.pd_runner.proofs.Stepping.{comes_on, comes_same, came_of}
 use Rattle.pd_runner.proofs.work.work.Goals.{in-None, in-Some+then-is_unmanned, in-Some+else-is_unmanned+else-is_over+then-made-limit, in-Some+else-is_unmanned+else-is_over+else-made-limit+else-calm-ends+in-Err}
 use Rattle.pd_runner.proofs.work.work.Goals as goal
+
+pub step-requires-clause-may : goal.step-requires-clause-may
+step-requires-clause-may g c = may_is (IsWildSeat c.loop.seats) c.loop.worker.actor (ap manner_of c.loop.invariant.comes.same ∙ c.requires.calm)
 
 pub loop-preserved : goal.loop-preserved
 loop-preserved g c = let was = c.loop.invariant in record {

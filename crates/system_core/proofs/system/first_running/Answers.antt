@@ -23,4 +23,4 @@ loop-k-preserved c =
     ]
 
 pub returns-clause-list : goal.returns-clause-list
-returns-clause-list c = let n = flags_many (history_of c.args.rows.now c.args.past.now.value.items) c.args.rows.now c.args.actors.now (scene_of (map part_of c.args.actors.now)) in list_whole _ c.loop-k.k c.loop-k.running.list (omega arith) c.loop-k.invariant.list ∙ sym (runs_plain (begun (history_of c.args.rows.now c.args.past.now.value.items) c.args.rows.now [] c.args.actors.now nobody nobody nobody) [])
+returns-clause-list c = let n = flags_many (history_of c.args.rows.now c.args.past.now.value.items) c.args.rows.now c.args.actors.now (scene_of (map part_of c.args.actors.now)) in list_whole _ c.loop-k.k c.loop-k.running.list (omega arith) c.loop-k.invariant.list ∙ sym (runs_plain (begun (history_of c.args.rows.now c.args.past.now.value.items) c.args.rows.now [] c.args.actors.now nobody nobody nobody) c.requires.calm [])

@@ -1,9 +1,10 @@
-use Rattle.std.proofs.Common.{◌∙◌, sym, ap, subst, length}
+use Rattle.std.proofs.Common.{◌≡◌, ◌∙◌, sym, ap, subst, length}
 use Rattle.device_model.specs.SerialTerminal.Terminals.{terminal_forgotten}
 use Rattle.actor_set.specs.declared.actor.Actor.TheVariants as Kinds
 use Rattle.net_virt_rx.specs.Sharing.{IsSharer}
 use Rattle.net_virt_tx.specs.Traffics.{IsTraffic}
-use Rattle.actor_set.specs.Actors.{FitsActor, IsWhole, IsWholeReceiver, IsWholeSender, IsWholeServer, Forgot}
+use Rattle.actor_set.specs.Actors.{FitsActor, ActorStandsFor, IsWhole, IsWholeReceiver, IsWholeSender, IsWholeServer, Forgot, part_of, part_anew}
+use Rattle.actor_set.proofs.RogueLemmas.Ends.{anew_rogue_part}
 use Rattle.actor_set.proofs.Casting.{few_still, first_still}
 use Rattle.actor_set.proofs.actor.Actor.forget.Goals as goal
 
@@ -68,3 +69,18 @@ returns-in-BlkVirt-clause-whole c = λ h.
       from_each = ap (λ qs. length qs) same.ends.from_clients ∙ (was.from_each ∙ sym (ap (λ hs. length hs) same.work.clients));
       to_each = ap (λ qs. length qs) same.ends.to_clients ∙ (was.to_each ∙ sym (ap (λ hs. length hs) same.work.clients));
     }
+
+pub returns-in-Rogue-clause-after : goal.returns-in-Rogue-clause-after
+returns-in-Rogue-clause-after c = subst (λ a. Forgot a (Kinds.Rogue c.forget-in-Rogue.new.self)) (sym c.in-Rogue.is) c.forget-in-Rogue.ensures.after
+
+pub returns-in-Rogue-clause-part : goal.returns-in-Rogue-clause-part
+returns-in-Rogue-clause-part c = subst (λ a. part_of (Kinds.Rogue c.forget-in-Rogue.new.self) ≡ part_anew a) (sym c.in-Rogue.is) (anew_rogue_part c.in-Rogue.client c.forget-in-Rogue.new.self c.forget-in-Rogue.ensures.after)
+
+pub returns-in-Rogue-clause-whole : goal.returns-in-Rogue-clause-whole
+returns-in-Rogue-clause-whole c = λ h. c.forget-in-Rogue.ensures.whole (subst IsWhole c.in-Rogue.is h)
+
+pub returns-in-Rogue-clause-fits : goal.returns-in-Rogue-clause-fits
+returns-in-Rogue-clause-fits c = λ ends h. c.forget-in-Rogue.ensures.fits ends (subst (FitsActor ends) c.in-Rogue.is h)
+
+pub returns-in-Rogue-clause-lists : goal.returns-in-Rogue-clause-lists
+returns-in-Rogue-clause-lists c = λ passed h. c.forget-in-Rogue.ensures.lists passed (subst (λ a. ActorStandsFor a passed) c.in-Rogue.is h)

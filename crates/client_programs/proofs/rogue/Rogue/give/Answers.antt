@@ -1,5 +1,6 @@
 use Rattle.std.proofs.Common.{rules, drop, vec_len, Some, length, ◌≡◌, ◌<◌, ◌+◌, refl, sym, ap, ◌∙◌, arith}
 use Rattle.std.proofs.lemmas.Bool.{ltb-true}
+use Rattle.std.proofs.lemmas.Option.{slice_get-get_or}
 use Rattle.cargo_core.specs.Items.{kind_of}
 use Rattle.cargo_core.specs.declared.act.Act.TheVariants as Acts
 use Rattle.client_programs.proofs.RogueLemmas.Counting.{given_weight}
@@ -31,3 +32,4 @@ returns g c =
     (c.item_for-item.result, c.remove-body.result) c.queue-queue.result _ c.requires.used c.queue-queue.ensures refl (named_at _ c.args.self.now c.args.place x c.requires.fits c.requires.at) (ap Some c.item_for-item.ensures)
     c.put.ensures.did c.put.ensures.ends (record { kind = refl; inputs = refl; outputs = refl; acts = refl; first = refl; had = refl; start = refl }) refl refl
     (λ f. given_weight f _ _ c.args.at c.remove-body.result c.remove-body.ensures.value p c.remove-body.ensures.items) (omega (arith, c.remove-body.ensures.len)) (omega (arith, c.remove-body.ensures.capacity)) (given_plan c.args.end c.args.at c.args.addr c.args.length (drop (c.args.place + 1) c.args.self.now.acts.items) c.args.self.now.kept.items _ p c.remove-body.ensures.items) (omega arith)
+    (slice_get-get_or c.args.self.now.kept.items c.args.at c.remove-body.result p ∙ ap Some (sym c.remove-body.ensures.value), c.remove-body.ensures.items)

@@ -20,4 +20,4 @@ returns g c =
     let x = Acts.Put c.args.end c.args.addr c.args.length in
     put_steps g.W.Wires.ends g.W.Wires.did c.args.wires.now c.put.new.self c.args.self.now c.args.place x c.requires.fits c.requires.at
     (c.item_for-item.result, Carried.Empty) c.queue-queue.result _ c.requires.used c.queue-queue.ensures refl (named_at _ c.args.self.now c.args.place x c.requires.fits c.requires.at) (ap Some c.item_for-item.ensures)
-    c.put.ensures.did c.put.ensures.ends (record { kind = refl; inputs = refl; outputs = refl; acts = refl; first = refl; had = refl; start = refl }) refl refl (λ f. omega arith) (omega arith) (omega arith) refl (omega arith)
+    c.put.ensures.did c.put.ensures.ends (record { kind = refl; inputs = refl; outputs = refl; acts = refl; first = refl; had = refl; start = refl }) refl refl (λ f. omega arith) (omega arith) (omega arith) refl (omega arith) (refl, refl)

@@ -15,7 +15,7 @@ invariant_of-system c = record {
   fitted = c.requires.fitted;
   before = c.requires.before;
   holds = rw c.new.ensures.items c.requires.holds;
-  rows_hold = rw c.new.ensures.items (rows_told (begun (history_of c.args.rows.items c.args.past.value.items) c.args.rows.items c.args.pools.items c.args.actors.items c.args.net c.args.serial c.args.blk) [] (rows_now (scene_of (map part_of c.args.actors.items)) (history_of c.args.rows.items c.args.past.value.items) c.args.rows.items c.args.world c.args.actors.items [] c.requires.holds refl (hostiles (map part_of c.args.actors.items))), tt);
+  rows_hold = rw c.new.ensures.items (rows_told (begun (history_of c.args.rows.items c.args.past.value.items) c.args.rows.items c.args.pools.items c.args.actors.items c.args.net c.args.serial c.args.blk) c.requires.fitted.calm [] (rows_now (scene_of (map part_of c.args.actors.items)) (history_of c.args.rows.items c.args.past.value.items) c.args.rows.items c.args.world c.args.actors.items [] c.requires.holds refl (hostiles (map part_of c.args.actors.items))), tt);
   brisk = rw c.new.ensures.items ((λ a calm r n. omega arith), tt);
   running = rw c.new.ensures.items (c.in_ok-running.ensures.list
       ∙ (ap (λ rs. runs (begun (history_of rs c.args.past.value.items) rs [] c.deref-2.result.now nobody nobody nobody) []) c.deref.ensures.value

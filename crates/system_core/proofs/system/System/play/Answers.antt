@@ -6,4 +6,4 @@ pub returns-clause-system : goal.returns-clause-system
 returns-clause-system c = stays_of_plan _ _ c.args.seed c.args.limit c.play_on-ending.ensures.played c.stand.ensures.of_plan
 
 pub returns-clause-rests : goal.returns-clause-rests
-returns-clause-rests c = rests _ _ c.args.seed c.args.limit c.play_on-ending.ensures.played
+returns-clause-rests c = rests _ _ c.args.seed c.args.limit c.stand.ensures.stands.fitted.calm c.play_on-ending.ensures.played

@@ -3,7 +3,10 @@ use Rattle.std.specs.Vec.{vec_len}
 use Rattle.std.proofs.lemmas.Option.{slice_get_read, slice_get_within}
 use Rattle.wire_core.specs.Journal.{EachMoment}
 use Rattle.wire_core.specs.Marks.{no_drops, Brisk}
+use Rattle.play_core.proofs.Lists.{map_get}
+use Rattle.actor_set.specs.Actors.{part_of}
 use Rattle.actor_set.specs.Laws.Kinds.{scene_of}
+use Rattle.actor_set.proofs.LawsLemmas.Rounds.{may_is}
 use Rattle.system_core.specs.Shows.{Shown, hostile_in, runs, RowsStand}
 use Rattle.system_core.specs.States.{history_of, begun}
 use Rattle.system_core.specs.Lawful.{IsFitted}
@@ -39,10 +42,16 @@ index_mut-actor-requires c =
     let v : vec_len c.self.inside.actors ≡ length c.self.inside.actors.items = c.self.inside.actors.ok.0 in
     omega arith
 
-pub step-requires : goal.step-requires
-step-requires c =
+pub step-requires-clause-fits : goal.step-requires-clause-fits
+step-requires-clause-fits c =
     let lt : c.at-number.result < length c.self.inside.actors.items = runner_there c.self.inside c.self.invariant c.args.place c.at-number.result c.at-number.ensures in
     c.self.invariant.holds.fits c.at-number.result c.index_mut-actor.result.now (slice_get_read c.self.inside.actors.items _ c.at-number.result c.index_mut-actor.result.now refl lt c.index_mut-actor.ensures.value)
+
+pub step-requires-clause-may : goal.step-requires-clause-may
+step-requires-clause-may c =
+    let lt : c.at-number.result < length c.self.inside.actors.items = runner_there c.self.inside c.self.invariant c.args.place c.at-number.result c.at-number.ensures in
+    let here : slice_get c.self.inside.actors.items c.at-number.result ≡ Some c.index_mut-actor.result.now = slice_get_read c.self.inside.actors.items _ c.at-number.result c.index_mut-actor.result.now refl lt c.index_mut-actor.ensures.value in
+    may_is (λ n. n < length c.self.inside.world) c.index_mut-actor.result.now (c.self.invariant.holds.calm c.at-number.result (part_of c.index_mut-actor.result.now) (map_get part_of c.self.inside.actors.items c.at-number.result c.index_mut-actor.result.now here))
 
 pub index-actor-requires : goal.index-actor-requires
 index-actor-requires c =

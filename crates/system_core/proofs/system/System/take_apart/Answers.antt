@@ -7,7 +7,7 @@ use Rattle.order_law.specs.ActorParts.Parting.{AreApart}
 use Rattle.order_law.specs.ActorParts.Ready.{AreReady}
 use Rattle.system_core.specs.Builds.{BeginsAnew}
 use Rattle.system_core.specs.Shows.{Shown}
-use Rattle.system_core.proofs.Parting.{are_ready, rings_fit}
+use Rattle.system_core.proofs.Parting.{all_anew, are_ready, rings_fit}
 use Rattle.system_core.proofs.system.System.take_apart.Goals as goal
 
 pub open_apart-requires-clause-sized : goal.open_apart-requires-clause-sized
@@ -30,4 +30,4 @@ pub returns-clause-opened : goal.returns-clause-opened
 returns-clause-opened c = IfOk-weaker c.open_apart.result _ _ (λ p opened. subst (λ (rows : List QueueRow). AreAsOpened rows (map apart_of p.actors.items)) (c.deref.ensures.value ∙ ap (λ (s : Shown). s.setting.rows) c.self.view_is) (c.opened_law.ensures.opened c.deref.result.now c.self.inside.actors.items p.rings.items p.actors.items opened)) c.open_apart.ensures
 
 pub returns-clause-cast : goal.returns-clause-cast
-returns-clause-cast c = IfOk-weaker c.open_apart.result _ _ (λ p opened. c.opened_law.ensures.cast c.deref.result.now c.self.inside.actors.items p.rings.items p.actors.items opened ∙ ap (λ (s : Shown). s.setting.cast) c.self.view_is) c.open_apart.ensures
+returns-clause-cast c = IfOk-weaker c.open_apart.result _ _ (λ p opened. c.opened_law.ensures.cast c.deref.result.now c.self.inside.actors.items p.rings.items p.actors.items opened ∙ (all_anew c.self.inside.actors.items c.self.invariant.fitted.calm ∙ ap (λ (s : Shown). s.setting.cast) c.self.view_is)) c.open_apart.ensures

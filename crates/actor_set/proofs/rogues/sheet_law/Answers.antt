@@ -1,0 +1,8 @@
+use Rattle.actor_set.proofs.RogueLemmas.Sheeting.{own_sheet, needs_sheet}
+use Rattle.actor_set.proofs.rogues.sheet_law.Goals as goal
+
+pub returns-clause-own : goal.returns-clause-own
+returns-clause-own c = own_sheet
+
+pub returns-clause-needs : goal.returns-clause-needs
+returns-clause-needs c = needs_sheet

@@ -1,0 +1,2 @@
+-- The lemmas of this room.
+pub mod Rounds

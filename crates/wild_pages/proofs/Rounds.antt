@@ -1,0 +1,4 @@
+pub mod Going
+pub mod Serving
+pub mod Asking
+pub mod Writing
