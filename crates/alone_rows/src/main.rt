@@ -4,8 +4,10 @@
 
 mod bus_plays;
 mod bus_texts;
+mod i2c_rows;
 mod port_plays;
 mod port_texts;
+mod switch_rows;
 
 use bus_plays::bus_lines;
 use port_plays::port_lines;

@@ -8,7 +8,7 @@ use Rattle.cargo_core.specs.declared.item.Code.{Code}
 use Rattle.cargo_core.specs.declared.item.Code.TheVariants as Asked
 use Rattle.cargo_core.specs.declared.item.BlkStatus.{BlkStatus}
 use Rattle.cargo_core.specs.declared.item.BlkStatus.TheVariants as Answered
-use Rattle.blk_kit.specs.Blocks.{has_blocks, blocks_at, with_blocks, moved_blocks}
+use Rattle.blk_expect.specs.BlkKit.Blocks.{has_blocks, blocks_at, with_blocks, moved_blocks}
 use Rattle.blk_mbr.specs.declared.part.Part.{Part}
 use Rattle.blk_mbr.specs.Partitions.{part_of}
 use Rattle.blk_expect.specs.Judging.{status_of}

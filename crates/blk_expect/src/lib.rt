@@ -3,8 +3,10 @@
 //! virtualiser.
 #![tactic(auto)]
 
+pub mod blk_kit;
 mod judging;
 mod replies;
 
+pub use blk_kit::{blocks_at, carried_blocks, fill, has_blocks, has_room, moved_blocks};
 pub use judging::judge;
 pub use replies::replies_of;

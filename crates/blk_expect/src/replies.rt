@@ -4,8 +4,8 @@ ghost use Rattle.cargo_core.specs.Blocks.{sector_bytes};
 ghost use Rattle.blk_expect.specs.Replies.{HasBytes, has_partition, partition_in, partition_bytes};
 ghost use Rattle.blk_expect.specs.Replies.{status_to, reply_of, left_by, replies_from, replies_of};
 
+use crate::blk_kit::{blocks_at, moved_blocks};
 use crate::judge;
-use blk_kit::{blocks_at, moved_blocks};
 use blk_mbr::{Part, partition_law, read_mbr};
 use cargo_core::{Ask, BLOCK_BYTES, BlkResp, BlkStatus, Bytes, Code, Memory, Reply, SECTOR_BYTES};
 use std::alloc::Global;

@@ -14,8 +14,8 @@ use Rattle.cargo_core.specs.declared.item.Item.TheVariants as ItemOf
 use Rattle.cargo_core.specs.declared.item.Reply.{Reply}
 use Rattle.cargo_core.specs.Lists.{IsPrefix, replaced}
 use Rattle.wire_core.specs.Deeds.{Cargo}
-use Rattle.blk_kit.specs.Blocks.{blocks_at, moved_blocks, with_blocks}
-use Rattle.blk_kit.specs.Pages.{carried_blocks, filled_body, has_room}
+use Rattle.blk_expect.specs.BlkKit.Blocks.{blocks_at, moved_blocks, with_blocks}
+use Rattle.blk_expect.specs.BlkKit.Pages.{carried_blocks, filled_body, has_room}
 use Rattle.blk_mbr.specs.declared.part.Part.{Part}
 use Rattle.blk_expect.specs.Judging.{can_move, status_of}
 use Rattle.blk_expect.specs.Replies.{HasBytes, bytes_left, bytes_read, left_by, replies_from, reply_of, status_to}

@@ -14,7 +14,7 @@ use Rattle.cargo_core.specs.declared.item.Item.TheVariants as ItemOf
 use Rattle.cargo_core.specs.Lists.{IsPrefix}
 use Rattle.cargo_core.specs.Pages.{Paged}
 use Rattle.wire_core.specs.Deeds.{Cargo}
-use Rattle.blk_kit.specs.Pages.{has_room, carried_blocks}
+use Rattle.blk_expect.specs.BlkKit.Pages.{has_room, carried_blocks}
 use Rattle.blk_mbr.specs.declared.part.Part.{Part}
 use Rattle.blk_expect.specs.Judging.{status_of}
 use Rattle.blk_expect.specs.Replies.{partition_bytes, partition_in, replies_of}

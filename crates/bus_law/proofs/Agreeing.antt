@@ -5,11 +5,11 @@ use Rattle.wire_core.specs.declared.names.Entry.{Entry}
 use Rattle.i2c_text.specs.declared.bus.Bus.{Bus}
 use Rattle.i2c_text.specs.declared.bus.BusAsk.{BusAsk}
 use Rattle.i2c_text.specs.declared.report.BusReply.{BusReply}
-use Rattle.i2c_kit.specs.declared.alone.Request.{Request}
-use Rattle.i2c_kit.specs.declared.device.Device.{Device}
-use Rattle.i2c_kit.specs.Devices.{address_of, new_devices}
-use Rattle.i2c_kit.specs.Grants.{is_claim, claims, owner_after, IsGranted, is_owner, granted_to}
-use Rattle.i2c_kit.specs.Replies.{reply_to, reached_after, alone_from, replies_alone}
+use Rattle.i2c_virt.specs.declared.i2c_kit.alone.Request.{Request}
+use Rattle.i2c_virt.specs.declared.i2c_kit.device.Device.{Device}
+use Rattle.i2c_virt.specs.I2cKit.Devices.{address_of, new_devices}
+use Rattle.i2c_virt.specs.I2cKit.Grants.{is_claim, claims, owner_after, IsGranted, is_owner, granted_to}
+use Rattle.i2c_virt.specs.I2cKit.Replies.{reply_to, reached_after, alone_from, replies_alone}
 use Rattle.bus_law.specs.Takes.{script_of, requests_taken, granted_replies}
 
 -- What a client is answered depends on the granted addresses by which they are, and not on their order.

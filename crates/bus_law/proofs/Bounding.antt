@@ -5,11 +5,11 @@ use Rattle.wire_core.specs.Marks.{all_sent, ends_of}
 use Rattle.play_core.specs.Wants.{Want}
 use Rattle.play_core.specs.Still.{IsStill}
 use Rattle.play_core.proofs.Lists.{some_is}
-use Rattle.small_law.specs.Wants.{WantsAre}
+use Rattle.small_system.specs.SmallLaw.Wants.{WantsAre}
 use Rattle.small_system.specs.Tales.{Turn, start_of, IsTale, after_tale, journal_of, passed_by, running_in}
 use Rattle.small_system.specs.Standing.{Begins}
 use Rattle.i2c_text.specs.declared.bus.Bus.{Bus}
-use Rattle.i2c_client.specs.declared.client.BusClient.{BusClient}
+use Rattle.i2c_virt.specs.declared.i2c_client.client.BusClient.{BusClient}
 use Rattle.i2c_actors.specs.declared.member.Member.{Member}
 use Rattle.i2c_actors.specs.declared.member.Member.TheVariants as Members
 use Rattle.i2c_actors.specs.Members.{member_means}
@@ -22,7 +22,7 @@ use Rattle.bus_law.proofs.Hopping.{hops_few}
 use Rattle.bus_law.proofs.Ending.{few_ends}
 use Rattle.bus_law.proofs.Wanting.{member_wants, wants_are}
 use Rattle.bus_law.proofs.Quieting.{RestLaw, all_of, all_replied, alone_length}
-use Rattle.i2c_kit.specs.Grants.{granted_to}
+use Rattle.i2c_virt.specs.I2cKit.Grants.{granted_to}
 
 -- How many steps a play has, and what holds at its end.
 

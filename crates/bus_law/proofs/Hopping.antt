@@ -16,10 +16,10 @@ use Rattle.small_system.specs.Tales.{Moment}
 use Rattle.small_system.specs.Standing.{Holds}
 use Rattle.i2c_text.specs.declared.bus.Bus.{Bus}
 use Rattle.i2c_text.specs.declared.bus.BusAsk.{BusAsk}
-use Rattle.i2c_kit.specs.declared.device.Device.{Device}
-use Rattle.i2c_kit.specs.Devices.{new_devices}
-use Rattle.i2c_kit.specs.Serving.{answers_to, done}
-use Rattle.i2c_client.specs.Asking.{AreAsked}
+use Rattle.i2c_virt.specs.declared.i2c_kit.device.Device.{Device}
+use Rattle.i2c_virt.specs.I2cKit.Devices.{new_devices}
+use Rattle.i2c_virt.specs.I2cKit.Serving.{answers_to, done}
+use Rattle.i2c_virt.specs.I2cClient.Asking.{AreAsked}
 use Rattle.i2c_virt.specs.Desks.{Judged, AreGiven, forwarded, own_entry}
 use Rattle.i2c_virt.specs.Works.{IsSomeones, is_of, judged_of, entries_of, of_client}
 use Rattle.i2c_actors.specs.declared.member.Member.{Member}

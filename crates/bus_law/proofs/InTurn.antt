@@ -14,14 +14,14 @@ use Rattle.i2c_text.specs.declared.bus.Bus.{Bus}
 use Rattle.i2c_text.specs.declared.bus.BusAsk.{BusAsk}
 use Rattle.i2c_text.specs.declared.report.BusReply.{BusReply}
 use Rattle.i2c_text.specs.declared.report.BusStatus.{BusStatus}
-use Rattle.i2c_kit.specs.declared.alone.Request.{Request}
-use Rattle.i2c_kit.specs.declared.device.Device.{Device}
-use Rattle.i2c_kit.specs.Devices.{new_devices}
-use Rattle.i2c_kit.specs.Entries.{item_at, own_place, shared_place, names, is_bus_request, is_reply_in}
-use Rattle.i2c_kit.specs.Pages.{SpellsReply, request_in, head_in, status_in, reply_in, bytes_due, with_reply}
-use Rattle.i2c_kit.specs.Serving.{answer_to, answers_to, answered, done}
-use Rattle.i2c_client.specs.Hands.{buffer_of}
-use Rattle.i2c_client.specs.Asking.{Says, due_after, is_reply}
+use Rattle.i2c_virt.specs.declared.i2c_kit.alone.Request.{Request}
+use Rattle.i2c_virt.specs.declared.i2c_kit.device.Device.{Device}
+use Rattle.i2c_virt.specs.I2cKit.Devices.{new_devices}
+use Rattle.i2c_virt.specs.I2cKit.Entries.{item_at, own_place, shared_place, names, is_bus_request, is_reply_in}
+use Rattle.i2c_virt.specs.I2cKit.Pages.{SpellsReply, request_in, head_in, status_in, reply_in, bytes_due, with_reply}
+use Rattle.i2c_virt.specs.I2cKit.Serving.{answer_to, answers_to, answered, done}
+use Rattle.i2c_virt.specs.I2cClient.Hands.{buffer_of}
+use Rattle.i2c_virt.specs.I2cClient.Asking.{Says, due_after, is_reply}
 use Rattle.i2c_virt.specs.declared.work.From.{From}
 use Rattle.i2c_virt.specs.declared.work.From.TheVariants as Source
 use Rattle.i2c_virt.specs.declared.work.Stray.{Stray}
@@ -29,10 +29,10 @@ use Rattle.i2c_virt.specs.declared.work.Work.{Work}
 use Rattle.i2c_virt.specs.Desks.{Judged, AreGiven, forwarded, IsPassedOn, own_entry, shared_entry}
 use Rattle.i2c_virt.specs.Works.{IsSomeones, is_of, of_client, judged_of, entries_of}
 use Rattle.i2c_virt.specs.Virtualising.{IsAstray, strays_back, if_driver}
-use Rattle.i2c_law.specs.Shares.{asks_in, served_by}
-use Rattle.i2c_law.proofs.Saying.{Say}
-use Rattle.i2c_law.proofs.Answering.{IsTransfer, AreTransfers, answers_say}
-use Rattle.i2c_law.proofs.Meeting.{transfers, given_says, in_filter}
+use Rattle.bus_law.specs.I2cLaw.Shares.{asks_in, served_by}
+use Rattle.bus_law.proofs.I2cLaw.Saying.{Say}
+use Rattle.bus_law.proofs.I2cLaw.Answering.{IsTransfer, AreTransfers, answers_say}
+use Rattle.bus_law.proofs.I2cLaw.Meeting.{transfers, given_says, in_filter}
 use Rattle.i2c_actors.specs.declared.member.Member.{Member}
 use Rattle.bus_law.specs.Takes.{script_of}
 use Rattle.bus_law.proofs.Lists.{prefix_then, prefix_part, prefix_at, get_behind, all_at}

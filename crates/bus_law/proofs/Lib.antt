@@ -16,3 +16,5 @@ pub mod Bounding
 pub mod Needing
 pub mod Resting
 pub mod Agreeing
+pub mod I2cLaw
+pub mod BusOwners

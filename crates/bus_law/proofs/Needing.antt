@@ -24,14 +24,14 @@ use Rattle.play_core.proofs.Lists.{some_is, map_get, there_is, there_below}
 use Rattle.small_system.specs.Tales.{Moment}
 use Rattle.i2c_text.specs.declared.bus.Bus.{Bus}
 use Rattle.i2c_text.specs.declared.report.BusStatus.{BusStatus}
-use Rattle.i2c_kit.specs.declared.alone.Request.{Request}
-use Rattle.i2c_kit.specs.declared.device.Device.{Device}
-use Rattle.i2c_kit.specs.declared.page.TheConstants.{BUFFERS}
-use Rattle.i2c_kit.specs.Devices.{new_devices}
-use Rattle.i2c_kit.specs.Serving.{answer_to, answers_to, done}
-use Rattle.i2c_client.specs.Asking.{IsAsking, made, and_one}
-use Rattle.i2c_client.specs.Clients.{is_asking}
-use Rattle.i2c_client.proofs.Lists.{answered_many}
+use Rattle.i2c_virt.specs.declared.i2c_kit.alone.Request.{Request}
+use Rattle.i2c_virt.specs.declared.i2c_kit.device.Device.{Device}
+use Rattle.i2c_virt.specs.declared.i2c_kit.page.TheConstants.{BUFFERS}
+use Rattle.i2c_virt.specs.I2cKit.Devices.{new_devices}
+use Rattle.i2c_virt.specs.I2cKit.Serving.{answer_to, answers_to, done}
+use Rattle.i2c_virt.specs.I2cClient.Asking.{IsAsking, made, and_one}
+use Rattle.i2c_virt.specs.I2cClient.Clients.{is_asking}
+use Rattle.i2c_virt.proofs.I2cClient.Lists.{answered_many}
 use Rattle.i2c_virt.specs.declared.desk.Desk.{Desk}
 use Rattle.i2c_virt.specs.declared.work.Stray.{Stray}
 use Rattle.i2c_virt.specs.declared.work.Work.{Work}
@@ -40,7 +40,7 @@ use Rattle.i2c_virt.specs.Desks.{Judged, IsDesk, DeskStands, IsUnderWay, forward
 use Rattle.i2c_virt.specs.Owners.{verdict}
 use Rattle.i2c_virt.specs.Works.{Took, requests_in, judged_from, judged_of, entries_of, is_of, of_client, is_owing, wants_at, gives_at}
 use Rattle.i2c_virt.specs.Virtualising.{strays_of, strays_back}
-use Rattle.i2c_law.specs.Judging.{sent_on, transfers_of}
+use Rattle.bus_law.specs.I2cLaw.Judging.{sent_on, transfers_of}
 use Rattle.i2c_actors.specs.declared.member.Member.{Member}
 use Rattle.i2c_actors.specs.declared.member.Member.TheVariants as Members
 use Rattle.bus_law.specs.Takes.{script_of, requests_by}

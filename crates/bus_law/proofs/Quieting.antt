@@ -19,22 +19,22 @@ use Rattle.small_system.specs.Tales.{Moment}
 use Rattle.small_system.specs.Standing.{Holds}
 use Rattle.i2c_text.specs.declared.bus.Bus.{Bus}
 use Rattle.i2c_text.specs.declared.bus.BusAsk.{BusAsk}
-use Rattle.i2c_kit.specs.declared.alone.Request.{Request}
-use Rattle.i2c_kit.specs.declared.device.Device.{Device}
-use Rattle.i2c_kit.specs.Devices.{new_devices}
-use Rattle.i2c_kit.specs.Replies.{alone_from, replies_alone, reached_after, is_claimed}
-use Rattle.i2c_kit.specs.Devices.{address_of}
-use Rattle.i2c_kit.specs.Serving.{answer_to, answers_to, done}
-use Rattle.i2c_client.specs.Asking.{IsAsking, made, and_one}
-use Rattle.i2c_client.proofs.Lists.{answered_many}
+use Rattle.i2c_virt.specs.declared.i2c_kit.alone.Request.{Request}
+use Rattle.i2c_virt.specs.declared.i2c_kit.device.Device.{Device}
+use Rattle.i2c_virt.specs.I2cKit.Devices.{new_devices}
+use Rattle.i2c_virt.specs.I2cKit.Replies.{alone_from, replies_alone, reached_after, is_claimed}
+use Rattle.i2c_virt.specs.I2cKit.Devices.{address_of}
+use Rattle.i2c_virt.specs.I2cKit.Serving.{answer_to, answers_to, done}
+use Rattle.i2c_virt.specs.I2cClient.Asking.{IsAsking, made, and_one}
+use Rattle.i2c_virt.proofs.I2cClient.Lists.{answered_many}
 use Rattle.i2c_virt.specs.declared.desk.Desk.{Desk}
 use Rattle.i2c_virt.specs.declared.work.Stray.{Stray}
 use Rattle.i2c_virt.specs.declared.work.Work.{Work}
 use Rattle.i2c_virt.specs.Desks.{Judged, DeskStands, IsUnderWay, forwarded, own_entry, is_open}
 use Rattle.i2c_virt.specs.Works.{of_client, is_of, judged_of, entries_of, is_owing, wants_at, gives_at}
 use Rattle.i2c_virt.specs.Virtualising.{strays_of, strays_back}
-use Rattle.i2c_law.proofs.Answering.{AreTransfers}
-use Rattle.i2c_law.proofs.Meeting.{transfers}
+use Rattle.bus_law.proofs.I2cLaw.Answering.{AreTransfers}
+use Rattle.bus_law.proofs.I2cLaw.Meeting.{transfers}
 use Rattle.i2c_actors.specs.declared.member.Member.{Member}
 use Rattle.i2c_actors.specs.declared.member.Member.TheVariants as Members
 use Rattle.i2c_actors.specs.Members.{member_means}

@@ -8,11 +8,11 @@ use Rattle.small_system.specs.Tales.{Turn, start_of, after_tale, journal_of, pas
 use Rattle.i2c_text.specs.declared.bus.Bus.{Bus}
 use Rattle.i2c_text.specs.declared.bus.BusAsk.{BusAsk}
 use Rattle.i2c_text.specs.declared.report.BusReply.{BusReply}
-use Rattle.i2c_kit.specs.Grants.{granted_to}
-use Rattle.i2c_kit.specs.Replies.{replies_alone}
-use Rattle.i2c_client.specs.declared.client.BusClient.{BusClient}
+use Rattle.i2c_virt.specs.I2cKit.Grants.{granted_to}
+use Rattle.i2c_virt.specs.I2cKit.Replies.{replies_alone}
+use Rattle.i2c_virt.specs.declared.i2c_client.client.BusClient.{BusClient}
 use Rattle.i2c_virt.specs.Works.{Took, requests_in}
-use Rattle.i2c_law.specs.Moments.{AreServed, IsServed}
+use Rattle.bus_law.specs.I2cLaw.Moments.{AreServed, IsServed}
 use Rattle.i2c_actors.specs.declared.member.Member.{Member}
 use Rattle.i2c_actors.specs.declared.member.Member.TheVariants as Members
 use Rattle.bus_law.specs.Takes.{script_of, requests_by, requests_taken, granted_replies}

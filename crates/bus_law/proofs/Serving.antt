@@ -15,15 +15,15 @@ use Rattle.play_core.proofs.Lists.{some_is, there_is, there_below}
 use Rattle.small_system.specs.Tales.{Moment}
 use Rattle.i2c_text.specs.declared.bus.Bus.{Bus}
 use Rattle.i2c_text.specs.declared.bus.BusAsk.{BusAsk}
-use Rattle.i2c_kit.specs.declared.alone.Request.{Request}
-use Rattle.i2c_kit.specs.declared.device.Device.{Device}
-use Rattle.i2c_kit.specs.declared.page.Head.{Head}
-use Rattle.i2c_kit.specs.Devices.{new_devices}
-use Rattle.i2c_kit.specs.Entries.{item_at, own_place, names, is_own_request}
-use Rattle.i2c_kit.specs.Pages.{SpellsRequest, request_in, head_in, asked}
-use Rattle.i2c_kit.specs.Serving.{answer_to, answers_to, done}
-use Rattle.i2c_client.specs.Asking.{AreAsked, IsAsked, AreAnswered}
-use Rattle.i2c_client.proofs.Lists.{asked_before}
+use Rattle.i2c_virt.specs.declared.i2c_kit.alone.Request.{Request}
+use Rattle.i2c_virt.specs.declared.i2c_kit.device.Device.{Device}
+use Rattle.i2c_virt.specs.declared.i2c_kit.page.Head.{Head}
+use Rattle.i2c_virt.specs.I2cKit.Devices.{new_devices}
+use Rattle.i2c_virt.specs.I2cKit.Entries.{item_at, own_place, names, is_own_request}
+use Rattle.i2c_virt.specs.I2cKit.Pages.{SpellsRequest, request_in, head_in, asked}
+use Rattle.i2c_virt.specs.I2cKit.Serving.{answer_to, answers_to, done}
+use Rattle.i2c_virt.specs.I2cClient.Asking.{AreAsked, IsAsked, AreAnswered}
+use Rattle.i2c_virt.proofs.I2cClient.Lists.{asked_before}
 use Rattle.i2c_virt.specs.declared.desk.Desk.{Desk}
 use Rattle.i2c_virt.specs.declared.work.From.{From}
 use Rattle.i2c_virt.specs.declared.work.From.TheVariants as Source
@@ -33,9 +33,9 @@ use Rattle.i2c_virt.specs.Desks.{DeskStands, AreGiven}
 use Rattle.i2c_virt.specs.Works.{Took, IsTook, IsSomeones, requests_in, clients_in, judged_of, entries_of, of_client}
 use Rattle.i2c_virt.specs.Virtualising.{VirtStands, IsAstray, order_of, strays_by, strays_of, if_client, if_client_number}
 use Rattle.i2c_virt.proofs.Desking.{given_fewer}
-use Rattle.i2c_law.specs.Shares.{asks_of}
-use Rattle.i2c_law.specs.Moments.{AreServed, IsServed}
-use Rattle.i2c_law.proofs.Meeting.{script_first}
+use Rattle.bus_law.specs.I2cLaw.Shares.{asks_of}
+use Rattle.bus_law.specs.I2cLaw.Moments.{AreServed, IsServed}
+use Rattle.bus_law.proofs.I2cLaw.Meeting.{script_first}
 use Rattle.i2c_actors.specs.declared.member.Member.{Member}
 use Rattle.i2c_actors.specs.Casting.{AreEverySecond}
 use Rattle.bus_law.specs.Takes.{script_of, request_queues, request_of, turns_of, next_requests, requests_by}

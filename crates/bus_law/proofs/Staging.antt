@@ -14,11 +14,11 @@ use Rattle.small_system.specs.Tales.{Moment, Turn, start_of, IsTale, after_tale,
 use Rattle.small_system.specs.Standing.{Begins, Holds}
 use Rattle.i2c_text.specs.declared.bus.Bus.{Bus}
 use Rattle.i2c_text.specs.declared.bus.BusAsk.{BusAsk}
-use Rattle.i2c_kit.specs.Devices.{new_devices}
-use Rattle.i2c_kit.specs.Entries.{is_bus_request}
-use Rattle.i2c_kit.specs.Serving.{answers_to}
-use Rattle.i2c_client.specs.declared.client.BusClient.{BusClient}
-use Rattle.i2c_client.specs.Clients.{FitsClient, ClientStands}
+use Rattle.i2c_virt.specs.I2cKit.Devices.{new_devices}
+use Rattle.i2c_virt.specs.I2cKit.Entries.{is_bus_request}
+use Rattle.i2c_virt.specs.I2cKit.Serving.{answers_to}
+use Rattle.i2c_virt.specs.declared.i2c_client.client.BusClient.{BusClient}
+use Rattle.i2c_virt.specs.I2cClient.Clients.{FitsClient, ClientStands}
 use Rattle.i2c_virt.specs.declared.virtualiser.I2cVirt.{I2cVirt}
 use Rattle.i2c_virt.specs.declared.driver.BusDriver.{BusDriver}
 use Rattle.i2c_virt.specs.declared.bus_device.BusDevice.{BusDevice}

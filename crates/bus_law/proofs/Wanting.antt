@@ -14,7 +14,7 @@ use Rattle.play_core.specs.Wants.{Want, Needful}
 use Rattle.play_core.specs.Still.{HasWant}
 use Rattle.play_core.specs.Rests.Meeting.{Meet}
 use Rattle.play_core.proofs.Lists.{some_is, map_get, map_from}
-use Rattle.small_law.specs.Wants.{WantsAre}
+use Rattle.small_system.specs.SmallLaw.Wants.{WantsAre}
 use Rattle.i2c_virt.specs.Works.{wants_at, gives_at}
 use Rattle.i2c_virt.specs.declared.virtualiser.I2cVirt.{I2cVirt}
 use Rattle.i2c_virt.specs.Virtualising.{FitsI2cVirt}

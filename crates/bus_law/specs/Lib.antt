@@ -5,3 +5,5 @@ pub mod Takes
 pub mod Plays
 pub mod Bounds
 pub mod Wants
+pub mod I2cLaw
+pub mod BusOwners

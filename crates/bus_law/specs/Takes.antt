@@ -9,9 +9,9 @@ use Rattle.small_system.specs.Wants.{calls_in}
 use Rattle.i2c_text.specs.declared.bus.Bus.{Bus}
 use Rattle.i2c_text.specs.declared.bus.BusAsk.{BusAsk}
 use Rattle.i2c_text.specs.declared.report.BusReply.{BusReply}
-use Rattle.i2c_kit.specs.declared.alone.Request.{Request}
-use Rattle.i2c_kit.specs.Grants.{granted_to}
-use Rattle.i2c_kit.specs.Replies.{replies_alone}
+use Rattle.i2c_virt.specs.declared.i2c_kit.alone.Request.{Request}
+use Rattle.i2c_virt.specs.I2cKit.Grants.{granted_to}
+use Rattle.i2c_virt.specs.I2cKit.Replies.{replies_alone}
 use Rattle.i2c_virt.specs.Virtualising.{order_of}
 
 -- what a client asks

@@ -9,9 +9,9 @@ use Rattle.play_core.specs.Moved.{Moved}
 use Rattle.play_core.specs.Wants.{Want, intake_want, outlet_want}
 use Rattle.small_system.specs.Wants.{Wanting}
 use Rattle.i2c_text.specs.declared.bus.Bus.{Bus}
-use Rattle.i2c_kit.specs.declared.page.TheConstants.{BUFFERS}
-use Rattle.i2c_kit.specs.Entries.{names, shared_place}
-use Rattle.i2c_law.specs.Judging.{transfers_of}
+use Rattle.i2c_virt.specs.declared.i2c_kit.page.TheConstants.{BUFFERS}
+use Rattle.i2c_virt.specs.I2cKit.Entries.{names, shared_place}
+use Rattle.bus_law.specs.I2cLaw.Judging.{transfers_of}
 use Rattle.bus_law.specs.Takes.{script_of, requests_by}
 
 -- whether a client has a request to put and a buffer in hand: it doesn't await as many replies as

@@ -14,8 +14,8 @@ ghost use Rattle.small_system.specs.Tales.{Turn, start_of, after_tale, journal_o
 ghost use Rattle.small_system.specs.Tales.{PickedBy, Along};
 ghost use Rattle.small_system.specs.Wants.{RestsBy, runs_by, wanted_by, calm};
 ghost use Rattle.i2c_text.specs.declared.bus.Bus.{Bus};
-ghost use Rattle.i2c_kit.specs.Grants.{IsGranted};
-ghost use Rattle.i2c_client.specs.declared.client.BusClient.{BusClient};
+ghost use Rattle.i2c_virt.specs.I2cKit.Grants.{IsGranted};
+ghost use Rattle.i2c_virt.specs.declared.i2c_client.client.BusClient.{BusClient};
 ghost use Rattle.i2c_actors.specs.declared.member.Member.{Member};
 ghost use Rattle.i2c_actors.specs.declared.member.Member.TheVariants as Members;
 ghost use Rattle.i2c_actors.specs.Members.{member_means};
@@ -24,11 +24,15 @@ ghost use Rattle.bus_law.specs.Plays.{IsBusTale};
 ghost use Rattle.bus_law.specs.Bounds.{hops_of, bus_bound};
 ghost use Rattle.bus_law.specs.Wants.{bus_wants};
 
+pub mod bus_owners;
+pub mod i2c_law;
+
+use crate::i2c_law::moment_law;
+pub use bus_owners::{bus_pools, owners_law};
 use i2c_actors::Member;
-use i2c_law::moment_law;
 use play_core::quiet_law;
 use play_core::rests::rest_law;
-use small_law::{bound_law, still_law};
+use small_system::small_law::{bound_law, still_law};
 use small_system::tale_law;
 
 /// At each moment of a play each client is there, and its replies are the first of those that its

@@ -3,3 +3,4 @@ mod NumberLemmas
 mod NameLemmas
 mod FieldLemmas
 mod FileLemmas
+pub mod ConfigText

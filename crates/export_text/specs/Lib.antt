@@ -4,3 +4,4 @@ pub mod Numbers
 pub mod Parts
 pub mod Symbols
 pub mod System
+pub mod ConfigText

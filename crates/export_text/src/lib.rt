@@ -3,6 +3,7 @@
 #![tactic(auto)]
 
 mod attribute;
+pub mod config_text;
 mod domain;
 mod law;
 mod number;
@@ -10,6 +11,7 @@ mod part;
 mod symbol;
 mod system;
 
+pub use config_text::{Rows, write_config};
 pub use law::file_law;
 pub use symbol::first_bad_symbol;
 pub use system::write_system;

@@ -31,8 +31,8 @@ use Rattle.small_system.specs.Meanings.{Own}
 use Rattle.small_system.specs.Standing.{Begins}
 use Rattle.i2c_text.specs.declared.bus.Bus.{Bus}
 use Rattle.i2c_text.specs.declared.bus.BusAsk.{BusAsk}
-use Rattle.i2c_client.specs.declared.client.BusClient.{BusClient}
-use Rattle.i2c_client.specs.Clients.{FitsClient, client_round}
+use Rattle.i2c_virt.specs.declared.i2c_client.client.BusClient.{BusClient}
+use Rattle.i2c_virt.specs.I2cClient.Clients.{FitsClient, client_round}
 use Rattle.i2c_virt.specs.declared.virtualiser.I2cVirt.{I2cVirt}
 use Rattle.i2c_virt.specs.declared.driver.BusDriver.{BusDriver}
 use Rattle.i2c_virt.specs.declared.bus_device.BusDevice.{BusDevice}

@@ -4,7 +4,7 @@ use Rattle.std.proofs.lemmas.Bool.{cases_lt}
 use Rattle.wire_core.specs.declared.names.QueueId.{QueueId}
 use Rattle.play_core.proofs.Lists.{some_is}
 use Rattle.i2c_text.specs.declared.bus.BusAsk.{BusAsk}
-use Rattle.i2c_client.specs.declared.client.BusClient.{BusClient}
+use Rattle.i2c_virt.specs.declared.i2c_client.client.BusClient.{BusClient}
 use Rattle.i2c_actors.specs.declared.member.Member.{Member}
 use Rattle.i2c_actors.specs.declared.member.Member.TheVariants as Members
 use Rattle.i2c_actors.specs.Casting.{AreEverySecond}

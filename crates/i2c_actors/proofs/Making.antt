@@ -8,7 +8,7 @@ use Rattle.buffer_kit.specs.Virtualising.{from_queues, to_queues, new_intake, ne
 use Rattle.play_core.proofs.Lists.{some_is, there_is, there_below}
 use Rattle.i2c_text.specs.declared.bus.Bus.{Bus}
 use Rattle.i2c_text.specs.declared.bus.BusAsk.{BusAsk}
-use Rattle.i2c_client.specs.declared.client.BusClient.{BusClient}
+use Rattle.i2c_virt.specs.declared.i2c_client.client.BusClient.{BusClient}
 use Rattle.i2c_virt.specs.declared.desk.Desk.{Desk}
 use Rattle.i2c_virt.specs.declared.virtualiser.I2cVirt.{I2cVirt}
 use Rattle.i2c_virt.specs.declared.driver.BusDriver.{BusDriver}

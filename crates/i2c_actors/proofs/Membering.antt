@@ -10,8 +10,8 @@ use Rattle.buffer_kit.specs.Virtualising.{from_queues, to_queues}
 use Rattle.pipe_driver.specs.Drivers.{inputs_of, outputs_of}
 use Rattle.small_system.specs.Meanings.{Acts}
 use Rattle.i2c_text.specs.declared.bus.BusAsk.{BusAsk}
-use Rattle.i2c_client.specs.declared.client.BusClient.{BusClient}
-use Rattle.i2c_client.specs.Clients.{ClientStandsFor, SameClient, client_round}
+use Rattle.i2c_virt.specs.declared.i2c_client.client.BusClient.{BusClient}
+use Rattle.i2c_virt.specs.I2cClient.Clients.{ClientStandsFor, SameClient, client_round}
 use Rattle.i2c_virt.specs.declared.virtualiser.I2cVirt.{I2cVirt}
 use Rattle.i2c_virt.specs.declared.driver.BusDriver.{BusDriver}
 use Rattle.i2c_virt.specs.declared.bus_device.BusDevice.{BusDevice}

@@ -4,7 +4,7 @@ use Rattle.std.specs.Prelude.{slice_get}
 use Rattle.wire_core.specs.declared.names.QueueId.{QueueId}
 use Rattle.i2c_text.specs.declared.bus.Bus.{Bus}
 use Rattle.i2c_text.specs.declared.bus.BusAsk.{BusAsk}
-use Rattle.i2c_client.specs.Asking.{AreRequests}
+use Rattle.i2c_virt.specs.I2cClient.Asking.{AreRequests}
 use Rattle.i2c_actors.specs.declared.member.Member.{Member}
 use Rattle.i2c_actors.specs.Members.{Made, Asks, Serves, Copies, Answers, made_of}
 

@@ -23,10 +23,10 @@ use Rattle.buffer_kit.specs.Virtualising.{from_queues, to_queues}
 use Rattle.buffer_kit.proofs.ManyClients.{queue_there, some_eq}
 use Rattle.buffer_kit.proofs.TwoLists.{get_front, get_behind}
 use Rattle.small_system.specs.Meanings.{Own, Lawful}
-use Rattle.i2c_kit.specs.declared.page.TheConstants.{BUFFERS}
-use Rattle.i2c_client.specs.declared.client.BusClient.{BusClient}
-use Rattle.i2c_client.specs.Asking.{AskingStands, due_after}
-use Rattle.i2c_client.specs.Clients.{ClientStandsFor}
+use Rattle.i2c_virt.specs.declared.i2c_kit.page.TheConstants.{BUFFERS}
+use Rattle.i2c_virt.specs.declared.i2c_client.client.BusClient.{BusClient}
+use Rattle.i2c_virt.specs.I2cClient.Asking.{AskingStands, due_after}
+use Rattle.i2c_virt.specs.I2cClient.Clients.{ClientStandsFor}
 use Rattle.i2c_virt.specs.declared.virtualiser.I2cVirt.{I2cVirt}
 use Rattle.i2c_virt.specs.Virtualising.{FitsI2cVirt, I2cVirtStandsFor}
 use Rattle.i2c_virt.proofs.Ordering.{order_still, off_takes_none}

@@ -9,7 +9,7 @@ use Rattle.buffer_kit.specs.Virtualising.{from_queues, to_queues}
 use Rattle.pipe_driver.specs.Drivers.{FitsPipes, inputs_of, outputs_of}
 use Rattle.small_system.specs.Meanings.{Means}
 use Rattle.i2c_text.specs.declared.bus.BusAsk.{BusAsk}
-use Rattle.i2c_client.specs.Clients.{FitsClient, ClientStandsFor, client_round}
+use Rattle.i2c_virt.specs.I2cClient.Clients.{FitsClient, ClientStandsFor, client_round}
 use Rattle.i2c_virt.specs.Virtualising.{FitsI2cVirt, I2cVirtStandsFor, i2c_virt_round}
 use Rattle.i2c_virt.specs.Drivers.{pipes_of, driver_round, DriverStandsFor}
 use Rattle.i2c_virt.specs.BusDevices.{FitsBus, BusStandsFor, bus_round}

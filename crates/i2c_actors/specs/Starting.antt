@@ -5,10 +5,10 @@ use Rattle.wire_core.specs.Lists.{nothing_passed}
 use Rattle.turn_kit.specs.Pipes.{IsNewPipe}
 use Rattle.i2c_text.specs.declared.bus.Bus.{Bus}
 use Rattle.i2c_text.specs.declared.bus.BusAsk.{BusAsk}
-use Rattle.i2c_kit.specs.Devices.{AreWhole}
-use Rattle.i2c_client.specs.declared.client.BusClient.{BusClient}
-use Rattle.i2c_client.specs.Asking.{IsAsking}
-use Rattle.i2c_client.specs.Clients.{IsNewClient, ClientStandsFor}
+use Rattle.i2c_virt.specs.I2cKit.Devices.{AreWhole}
+use Rattle.i2c_virt.specs.declared.i2c_client.client.BusClient.{BusClient}
+use Rattle.i2c_virt.specs.I2cClient.Asking.{IsAsking}
+use Rattle.i2c_virt.specs.I2cClient.Clients.{IsNewClient, ClientStandsFor}
 use Rattle.i2c_virt.specs.declared.virtualiser.I2cVirt.{I2cVirt}
 use Rattle.i2c_virt.specs.declared.driver.BusDriver.{BusDriver}
 use Rattle.i2c_virt.specs.declared.bus_device.BusDevice.{BusDevice}

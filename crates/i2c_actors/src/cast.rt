@@ -2,7 +2,7 @@
 ghost use Rattle.std.specs.Prelude.{◌≡◌, ◌<◌, ◌^◌, ◌+◌, ◌*◌, ℕ, List, IfOk, length};
 ghost use Rattle.wire_core.specs.declared.names.QueueRow.{QueueRow};
 ghost use Rattle.small_system.specs.Standing.{Begins};
-ghost use Rattle.i2c_client.specs.Asking.{AreRequests};
+ghost use Rattle.i2c_virt.specs.I2cClient.Asking.{AreRequests};
 ghost use Rattle.i2c_actors.specs.Members.{member_means};
 ghost use Rattle.i2c_actors.specs.Queues.{AreQueues};
 ghost use Rattle.i2c_actors.specs.Casting.{IsFitBus, AreEverySecond, AreMade};
@@ -10,8 +10,8 @@ ghost use Rattle.i2c_actors.specs.Starting.{IsFresh, AreFresh, AreNew};
 
 use crate::Member;
 use cargo_core::{Bytes, Memory, PoolId, Series};
-use i2c_client::BusClient;
 use i2c_text::{Bus, BusAsk};
+use i2c_virt::i2c_client::BusClient;
 use i2c_virt::{BusDevice, BusDriver, I2cVirt};
 use std::alloc::Global;
 use wire_core::QueueId;

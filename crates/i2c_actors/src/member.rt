@@ -3,7 +3,7 @@ ghost use Rattle.i2c_actors.specs.Members.{member_means};
 ghost use Rattle.i2c_actors.specs.MemberLaws.{member_lawful};
 
 use cargo_core::Memory;
-use i2c_client::BusClient;
+use i2c_virt::i2c_client::BusClient;
 use i2c_virt::{BusDevice, BusDriver, I2cVirt};
 use plain_wires::World;
 use small_system::SmallActor;

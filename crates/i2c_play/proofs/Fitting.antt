@@ -15,8 +15,8 @@ use Rattle.i2c_text.specs.Texts.{bytes_of}
 use Rattle.i2c_text.specs.Lines.{words_say, meaning, client_of, address_of, read_said, write_said}
 use Rattle.i2c_text.specs.Buses.{asks_said, lines_before, bus_from, bus_of, clients_in, IsReadBus}
 use Rattle.i2c_text.proofs.SoFar.{said_more, no_lines}
-use Rattle.i2c_kit.specs.Pages.{is_request, is_address, is_count}
-use Rattle.i2c_client.specs.Asking.{AreRequests}
+use Rattle.i2c_virt.specs.I2cKit.Pages.{is_request, is_address, is_count}
+use Rattle.i2c_virt.specs.I2cClient.Asking.{AreRequests}
 use Rattle.i2c_actors.specs.Casting.{IsFitBus}
 use Rattle.i2c_actors.proofs.Places.{get_split}
 use Rattle.play_core.proofs.Lists.{some_is}

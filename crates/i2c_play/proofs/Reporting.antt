@@ -10,9 +10,9 @@ use Rattle.wire_core.specs.Journal.{start_history, EachMoment}
 use Rattle.owner_law.specs.Owners.{OneOwner}
 use Rattle.owner_law.specs.Keeping.{start_table}
 use Rattle.owner_law.specs.Census.{IsPool}
-use Rattle.bus_owners.specs.Naming.{bus_naming}
-use Rattle.bus_owners.specs.Keepers.{bus_keepers, pool_size}
-use Rattle.bus_owners.specs.Pools.{table_after, pool_lines}
+use Rattle.bus_law.specs.BusOwners.Naming.{bus_naming}
+use Rattle.bus_law.specs.BusOwners.Keepers.{bus_keepers, pool_size}
+use Rattle.bus_law.specs.BusOwners.Pools.{table_after, pool_lines}
 use Rattle.small_system.specs.Tales.{Moment, Turn, start_of, IsTale, after_tale, journal_of, entry_of, running_in, PickedBy}
 use Rattle.small_system.specs.Shows.{Shown, Played, IsQuiet, IsSpent}
 use Rattle.small_system.specs.Standing.{Begins, IsLawful}
@@ -20,7 +20,7 @@ use Rattle.i2c_text.specs.declared.bus.Bus.{Bus}
 use Rattle.i2c_text.specs.declared.report.BusReply.{BusReply}
 use Rattle.i2c_text.specs.declared.report.BusReport.{BusReport}
 use Rattle.text_limits.specs.Limits.{KeepsBusLimits}
-use Rattle.i2c_client.specs.declared.client.BusClient.{BusClient}
+use Rattle.i2c_virt.specs.declared.i2c_client.client.BusClient.{BusClient}
 use Rattle.i2c_actors.specs.declared.member.Member.{Member}
 use Rattle.i2c_actors.specs.declared.member.Member.TheVariants as Members
 use Rattle.i2c_actors.specs.Members.{member_means}

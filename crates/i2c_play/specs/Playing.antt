@@ -19,9 +19,9 @@ use Rattle.i2c_actors.specs.declared.member.Member.{Member}
 use Rattle.bus_law.specs.Plays.{IsBusTale}
 use Rattle.bus_law.specs.Takes.{granted_replies}
 use Rattle.bus_law.specs.Wants.{bus_wants}
-use Rattle.bus_owners.specs.Naming.{bus_naming}
-use Rattle.bus_owners.specs.Keepers.{bus_keepers, pool_size}
-use Rattle.bus_owners.specs.Pools.{table_after, pool_lines}
+use Rattle.bus_law.specs.BusOwners.Naming.{bus_naming}
+use Rattle.bus_law.specs.BusOwners.Keepers.{bus_keepers, pool_size}
+use Rattle.bus_law.specs.BusOwners.Pools.{table_after, pool_lines}
 use Rattle.i2c_play.specs.Bounds.{bus_bound}
 
 -- the actors that are runnable after a journal, by what the actors of the bus want of their ends

@@ -12,7 +12,7 @@ use Rattle.i2c_actors.specs.declared.member.Member.TheVariants as Members
 use Rattle.i2c_actors.specs.Members.{member_means}
 use Rattle.i2c_actors.specs.Queues.{AreQueues}
 use Rattle.i2c_actors.specs.Casting.{AreMade}
-use Rattle.bus_owners.specs.Pools.{table_after, pool_lines}
+use Rattle.bus_law.specs.BusOwners.Pools.{table_after, pool_lines}
 
 -- the actors of a bus are at its queues, before the first step
 pub record IsSetUp (bus : Bus) (s : Shown Member) : Type 0 where

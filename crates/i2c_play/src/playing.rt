@@ -12,8 +12,8 @@ ghost use Rattle.i2c_actors.specs.Casting.{IsFitBus};
 ghost use Rattle.i2c_play.specs.Plays.{IsSetUp, recorded, IsReportOf};
 ghost use Rattle.i2c_play.specs.Playing.{BusPlayed};
 
+use bus_law::bus_owners::{bus_pools, owners_law};
 use bus_law::{hops_law, replies_law, wants_law, whole_law};
-use bus_owners::{bus_pools, owners_law};
 use cargo_core::{Bytes, Memory, Series};
 use i2c_actors::{Member, bus_members, bus_queues};
 use i2c_text::{Bus, BusReply, BusReport};

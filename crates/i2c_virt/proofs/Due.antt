@@ -11,8 +11,8 @@ use Rattle.cargo_core.specs.Pages.{Paged}
 use Rattle.wire_core.specs.Deeds.{Cargo}
 use Rattle.buffer_kit.specs.Clients.{is_so}
 use Rattle.buffer_kit.proofs.ManyClients.{some_eq}
-use Rattle.i2c_kit.specs.Entries.{is_reply_in, names, item_at, shared_place}
-use Rattle.i2c_kit.specs.Pages.{status_in}
+use Rattle.i2c_virt.specs.I2cKit.Entries.{is_reply_in, names, item_at, shared_place}
+use Rattle.i2c_virt.specs.I2cKit.Pages.{status_in}
 use Rattle.i2c_virt.specs.declared.desk.Desk.{Desk}
 use Rattle.i2c_virt.specs.declared.work.Work.{Work}
 use Rattle.i2c_virt.specs.Desks.{Judged, DeskStands, IsUnderWay, forwarded, shared_entry, is_away_in, is_number}

@@ -9,3 +9,5 @@ pub mod Stepping
 pub mod Turning
 pub mod Rows
 pub mod Starting
+pub mod I2cKit
+pub mod I2cClient

@@ -6,11 +6,11 @@ use Rattle.std.proofs.lemmas.List.{length-replicate, length-set}
 use Rattle.std.proofs.lemmas.Option.{slice_get-get_or}
 use Rattle.wire_core.proofs.Places.{slice_get_written, slice_get_beside}
 use Rattle.wire_core.proofs.Sinces.{eqb_apart}
-use Rattle.i2c_kit.specs.declared.alone.Request.{Request}
-use Rattle.i2c_kit.specs.declared.page.Operation.{Operation}
-use Rattle.i2c_kit.specs.declared.page.Operation.TheVariants as Does
-use Rattle.i2c_kit.specs.Grants.{claims, owner_after}
-use Rattle.i2c_kit.specs.Pages.{asked}
+use Rattle.i2c_virt.specs.declared.i2c_kit.alone.Request.{Request}
+use Rattle.i2c_virt.specs.declared.i2c_kit.page.Operation.{Operation}
+use Rattle.i2c_virt.specs.declared.i2c_kit.page.Operation.TheVariants as Does
+use Rattle.i2c_virt.specs.I2cKit.Grants.{claims, owner_after}
+use Rattle.i2c_virt.specs.I2cKit.Pages.{asked}
 use Rattle.i2c_virt.specs.Owners.{KnowsOwners, verdict, judged, owner_then}
 
 -- What the virtualiser knows of the owners goes on with a request.

@@ -9,10 +9,10 @@ use Rattle.wire_core.specs.Lists.{Lists, Passed, with, if_there}
 use Rattle.wire_core.proofs.Places.{if_there_here}
 use Rattle.turn_kit.specs.declared.ends.Intake.{Intake}
 use Rattle.turn_kit.specs.declared.ends.Outlet.{Outlet}
-use Rattle.i2c_kit.specs.declared.device.Device.{Device}
-use Rattle.i2c_kit.specs.Devices.{new_devices}
-use Rattle.i2c_kit.specs.Entries.{is_bus_request}
-use Rattle.i2c_kit.specs.Serving.{answer_to, answers_to, done, all_done}
+use Rattle.i2c_virt.specs.declared.i2c_kit.device.Device.{Device}
+use Rattle.i2c_virt.specs.I2cKit.Devices.{new_devices}
+use Rattle.i2c_virt.specs.I2cKit.Entries.{is_bus_request}
+use Rattle.i2c_virt.specs.I2cKit.Serving.{answer_to, answers_to, done, all_done}
 use Rattle.i2c_virt.specs.declared.bus_device.BusDevice.{BusDevice}
 use Rattle.i2c_virt.specs.BusDevices.{BusStandsFor, Accepted, AcceptedIf, is_serving}
 

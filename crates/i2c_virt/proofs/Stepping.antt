@@ -22,7 +22,7 @@ use Rattle.buffer_kit.specs.Virtualising.{SameVirt, FitsVirt, from_queues, to_qu
 use Rattle.wire_core.specs.Ends.{Role, End}
 use Rattle.buffer_kit.proofs.Passing.{beside}
 use Rattle.buffer_kit.proofs.ManyClients.{some_eq, queue_there, at_client, none_if}
-use Rattle.i2c_kit.specs.Entries.{is_own_request}
+use Rattle.i2c_virt.specs.I2cKit.Entries.{is_own_request}
 use Rattle.i2c_virt.specs.declared.desk.Desk.{Desk}
 use Rattle.i2c_virt.specs.declared.virtualiser.I2cVirt.{I2cVirt}
 use Rattle.i2c_virt.specs.declared.work.From.{From}

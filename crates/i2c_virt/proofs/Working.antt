@@ -21,11 +21,11 @@ use Rattle.buffer_kit.specs.Clients.{is_so, entry_in, with_more}
 use Rattle.buffer_kit.proofs.ManyClients.{so_there, now_or_was, now_there, some_eq, there_more, other_more}
 use Rattle.i2c_text.specs.declared.bus.BusAsk.{BusAsk}
 use Rattle.i2c_text.specs.declared.report.BusStatus.{BusStatus}
-use Rattle.i2c_kit.specs.declared.alone.Request.{Request}
-use Rattle.i2c_kit.specs.declared.page.Head.{Head}
-use Rattle.i2c_kit.specs.declared.page.Operation.{Operation}
-use Rattle.i2c_kit.specs.Entries.{item_at, own_place, shared_place, names, is_own_request, is_reply_in}
-use Rattle.i2c_kit.specs.Pages.{head_in, head_by, request_in, operation_of, suits, asked, is_address, status_in, SpellsRequest}
+use Rattle.i2c_virt.specs.declared.i2c_kit.alone.Request.{Request}
+use Rattle.i2c_virt.specs.declared.i2c_kit.page.Head.{Head}
+use Rattle.i2c_virt.specs.declared.i2c_kit.page.Operation.{Operation}
+use Rattle.i2c_virt.specs.I2cKit.Entries.{item_at, own_place, shared_place, names, is_own_request, is_reply_in}
+use Rattle.i2c_virt.specs.I2cKit.Pages.{head_in, head_by, request_in, operation_of, suits, asked, is_address, status_in, SpellsRequest}
 use Rattle.i2c_virt.specs.declared.desk.Desk.{Desk}
 use Rattle.i2c_virt.specs.declared.owners.Owners.{Owners}
 use Rattle.i2c_virt.specs.declared.work.Work.{Work}

@@ -13,9 +13,9 @@ use Rattle.wire_core.specs.Ends.{Role, Consumer, Producer, End}
 use Rattle.turn_kit.specs.Table.{Agrees, start_state}
 use Rattle.turn_kit.specs.Turns.{Round}
 use Rattle.turn_kit.specs.Posts.{intake_post, outlet_post}
-use Rattle.i2c_kit.specs.Devices.{new_devices, AreWhole}
-use Rattle.i2c_kit.specs.Entries.{is_bus_request}
-use Rattle.i2c_kit.specs.Serving.{answer_to, answers_to, done, all_done, AreInTurn}
+use Rattle.i2c_virt.specs.I2cKit.Devices.{new_devices, AreWhole}
+use Rattle.i2c_virt.specs.I2cKit.Entries.{is_bus_request}
+use Rattle.i2c_virt.specs.I2cKit.Serving.{answer_to, answers_to, done, all_done, AreInTurn}
 use Rattle.i2c_virt.specs.declared.bus_device.BusDevice.{BusDevice}
 
 -- its ends are its own, and as it keeps them, at two Net queues; each device has its bytes

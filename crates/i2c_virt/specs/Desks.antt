@@ -8,8 +8,8 @@ use Rattle.cargo_core.specs.Items.{kind_of}
 use Rattle.cargo_core.specs.Pages.{Paged}
 use Rattle.wire_core.specs.Deeds.{Cargo}
 use Rattle.i2c_text.specs.declared.report.BusStatus.{BusStatus}
-use Rattle.i2c_kit.specs.Entries.{item_at, own_place, shared_place}
-use Rattle.i2c_kit.specs.Pages.{with_reply}
+use Rattle.i2c_virt.specs.I2cKit.Entries.{item_at, own_place, shared_place}
+use Rattle.i2c_virt.specs.I2cKit.Pages.{with_reply}
 use Rattle.i2c_virt.specs.declared.desk.Desk.{Desk}
 
 -- a page on its client's own queues

@@ -7,3 +7,5 @@ pub mod Works
 pub mod Virtualising
 pub mod Drivers
 pub mod BusDevices
+pub mod I2cKit
+pub mod I2cClient

@@ -4,11 +4,11 @@ use Rattle.std.specs.Prelude.{length, slice_get}
 use Rattle.i2c_text.specs.declared.bus.BusAsk.{BusAsk}
 use Rattle.i2c_text.specs.declared.report.BusStatus.{BusStatus}
 use Rattle.i2c_text.specs.declared.report.BusStatus.TheVariants as Ended
-use Rattle.i2c_kit.specs.declared.alone.Request.{Request}
-use Rattle.i2c_kit.specs.declared.page.Operation.{Operation}
-use Rattle.i2c_kit.specs.declared.page.Operation.TheVariants as Does
-use Rattle.i2c_kit.specs.Grants.{is_claim, is_free_for, is_owner, owner_after}
-use Rattle.i2c_kit.specs.Replies.{has_it, may_have_it}
+use Rattle.i2c_virt.specs.declared.i2c_kit.alone.Request.{Request}
+use Rattle.i2c_virt.specs.declared.i2c_kit.page.Operation.{Operation}
+use Rattle.i2c_virt.specs.declared.i2c_kit.page.Operation.TheVariants as Does
+use Rattle.i2c_virt.specs.I2cKit.Grants.{is_claim, is_free_for, is_owner, owner_after}
+use Rattle.i2c_virt.specs.I2cKit.Replies.{has_it, may_have_it}
 use Rattle.i2c_virt.specs.declared.owners.TheConstants.{ADDRESSES}
 
 -- these are the clients that have the addresses after these requests were taken, by address

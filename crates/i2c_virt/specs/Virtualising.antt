@@ -17,8 +17,8 @@ use Rattle.turn_kit.specs.Turns.{Round}
 use Rattle.buffer_kit.specs.Clients.{queue_at}
 use Rattle.buffer_kit.specs.Virtualising.{FitsVirt, SameVirt, IsNewVirt, virt_round, from_queues}
 use Rattle.buffer_kit.specs.Virtualising.{to_queues}
-use Rattle.i2c_kit.specs.Entries.{is_own_request}
-use Rattle.i2c_kit.specs.Pages.{status_in}
+use Rattle.i2c_virt.specs.I2cKit.Entries.{is_own_request}
+use Rattle.i2c_virt.specs.I2cKit.Pages.{status_in}
 use Rattle.i2c_virt.specs.declared.desk.Desk.{Desk}
 use Rattle.i2c_virt.specs.declared.virtualiser.I2cVirt.{I2cVirt}
 use Rattle.i2c_virt.specs.declared.work.From.{From}

@@ -8,10 +8,10 @@ use Rattle.cargo_core.specs.declared.item.PoolId.{PoolId}
 use Rattle.cargo_core.specs.Pages.{Paged}
 use Rattle.wire_core.specs.Deeds.{Cargo}
 use Rattle.buffer_kit.specs.Clients.{is_so}
-use Rattle.i2c_kit.specs.declared.alone.Request.{Request}
-use Rattle.i2c_kit.specs.Entries.{is_own_request, is_reply_in, shared_place}
-use Rattle.i2c_kit.specs.Pages.{SpellsRequest}
-use Rattle.i2c_kit.specs.declared.page.TheConstants.{BUFFERS}
+use Rattle.i2c_virt.specs.declared.i2c_kit.alone.Request.{Request}
+use Rattle.i2c_virt.specs.I2cKit.Entries.{is_own_request, is_reply_in, shared_place}
+use Rattle.i2c_virt.specs.I2cKit.Pages.{SpellsRequest}
+use Rattle.i2c_virt.specs.declared.i2c_kit.page.TheConstants.{BUFFERS}
 use Rattle.i2c_virt.specs.declared.desk.Desk.{Desk}
 use Rattle.i2c_virt.specs.declared.owners.TheConstants.{ADDRESSES}
 use Rattle.i2c_virt.specs.declared.work.From.{From}

@@ -9,13 +9,13 @@ ghost use Rattle.wire_core.specs.Marks.{is_mark};
 ghost use Rattle.turn_kit.specs.Turns.{Turned, Posted, choice_of, chosen_place, last_after};
 ghost use Rattle.turn_kit.specs.Turns.{is_at_rest};
 ghost use Rattle.turn_kit.specs.Posts.{intake_post, outlet_post};
-ghost use Rattle.i2c_kit.specs.Devices.{AreWhole};
+ghost use Rattle.i2c_virt.specs.I2cKit.Devices.{AreWhole};
 ghost use Rattle.i2c_virt.specs.BusDevices.{FitsBus, BusStandsFor, BusRow, SameBus, IsNewBus};
 ghost use Rattle.i2c_virt.specs.BusDevices.{is_serving, bus_round, Accepted};
 ghost use Rattle.i2c_virt.specs.declared.bus_device.BusDevice.{BusDevice};
 
+use crate::i2c_kit::{Device, answer_to, is_bus_request, new_devices};
 use cargo_core::{Body, Bytes, Item, Memory, QueueKind};
-use i2c_kit::{Device, answer_to, is_bus_request, new_devices};
 use std::alloc::Global;
 use turn_kit::{Intake, Outlet, Turn};
 use wire_core::{Event, QueueId, Wires};

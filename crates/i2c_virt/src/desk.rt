@@ -1,11 +1,11 @@
 //! What the virtualiser has of one client: a request that is under way, and an answer that is held.
 ghost use Rattle.std.specs.Prelude.{◌≡◌, ◌&&◌, length, is_some};
-ghost use Rattle.i2c_kit.specs.declared.page.TheConstants.{BUFFER_BYTES};
+ghost use Rattle.i2c_virt.specs.declared.i2c_kit.page.TheConstants.{BUFFER_BYTES};
 ghost use Rattle.i2c_virt.specs.Desks.{new_desk, is_open, is_away_in, is_number, asked_by};
 ghost use Rattle.i2c_virt.specs.Desks.{back_with};
 
+use crate::i2c_kit::{item_at, own_place, shared_place, write_answer};
 use cargo_core::{Body, Item, Page};
-use i2c_kit::{item_at, own_place, shared_place, write_answer};
 use i2c_text::BusStatus;
 
 /// A client at the virtualiser. `current` is the number of the buffer whose request is to go to the

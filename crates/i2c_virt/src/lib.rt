@@ -5,6 +5,8 @@
 mod bus_device;
 mod desk;
 mod driver;
+pub mod i2c_client;
+pub mod i2c_kit;
 mod owners;
 mod virtualiser;
 mod work;
@@ -12,6 +14,11 @@ mod work;
 pub use bus_device::{BusDevice, bus_law};
 pub use desk::Desk;
 pub use driver::{BusDriver, driver_law};
+pub use i2c_client::{BusClient, client_law};
+pub use i2c_kit::{
+    BUFFER_BYTES, BUFFERS, Device, Head, Operation, Request, granted_to, owner_after, read_request,
+    read_status, replies_alone, replies_by, write_answer, write_request,
+};
 pub use owners::Owners;
 pub use virtualiser::{I2cVirt, virt_law};
 pub use work::{From, Giving, Stray, Wanting, Work};

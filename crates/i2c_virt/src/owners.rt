@@ -1,12 +1,12 @@
 //! Who has which address, and how the virtualiser judges a request by it.
 ghost use Rattle.std.specs.Prelude.{◌≡◌, ◌<◌, ◌++◌, ◌∷◌, ℕ, [], List, length, IfOk};
-ghost use Rattle.i2c_kit.specs.declared.alone.Request.{Request};
-ghost use Rattle.i2c_kit.specs.Grants.{is_free_for, is_owner};
-ghost use Rattle.i2c_kit.specs.Pages.{asked};
+ghost use Rattle.i2c_virt.specs.declared.i2c_kit.alone.Request.{Request};
+ghost use Rattle.i2c_virt.specs.I2cKit.Grants.{is_free_for, is_owner};
+ghost use Rattle.i2c_virt.specs.I2cKit.Pages.{asked};
 ghost use Rattle.i2c_virt.specs.Owners.{KnowsOwners, verdict, judged, owner_then};
 
+use crate::i2c_kit::{Head, Operation};
 use cargo_core::Memory;
-use i2c_kit::{Head, Operation};
 use i2c_text::BusStatus;
 use std::alloc::Global;
 

@@ -4,16 +4,16 @@ ghost use Rattle.std.specs.Prelude.{length, slice_get};
 ghost use Rattle.std.specs.List.{list_any};
 ghost use Rattle.std.specs.Option.{MatchOption};
 ghost use Rattle.buffer_kit.specs.Clients.{is_so, entry_in};
-ghost use Rattle.i2c_kit.specs.Entries.{is_own_request};
+ghost use Rattle.i2c_virt.specs.I2cKit.Entries.{is_own_request};
 ghost use Rattle.i2c_virt.specs.declared.desk.Desk.{Desk};
 ghost use Rattle.i2c_virt.specs.Works.{IsWork, SameWork, wants_at, gives_at, is_owing, is_due};
 ghost use Rattle.i2c_virt.specs.Works.{TookFrom, TookBack};
 ghost use Rattle.i2c_virt.specs.Desks.{is_away_in};
 
+use crate::i2c_kit::{is_own_request, is_reply_in, read_head, shared_place};
 use crate::{Desk, Owners};
 use buffer_kit::{Served, leaver};
 use cargo_core::{Body, Item, Page, PoolId};
-use i2c_kit::{is_own_request, is_reply_in, read_head, shared_place};
 use turn_kit::Needs;
 
 /// Where an entry came from: from the driver, or from the client of this place.
@@ -122,7 +122,7 @@ impl Work {
     }
 
     // A request of the client at a place came in turn.
-    #[tactic(auto, unfolding(i2c_kit::specs::Entries::is_own_request))]
+    #[tactic(auto, unfolding(crate::specs::I2cKit::Entries::is_own_request))]
     fn ask(&mut self, place: usize, entry: (Item, Body))
         requires work { IsWork self.old }
         requires needed { wants_at self.old place ≡ true }

@@ -4,9 +4,9 @@ use Rattle.sdf_plan.specs.declared.plan.Plan.{Plan}
 use Rattle.region_layout.specs.declared.layout.Layout.{Layout}
 use Rattle.picture_kit.specs.Svg.{svg_text}
 use Rattle.picture_kit.specs.declared.shape.Picture.{Picture}
-use Rattle.picture_style.specs.declared.sheet.TheConstants.{PICTURE_STYLE}
-use Rattle.layout_picture.specs.Graph.{graph_of}
-use Rattle.layout_picture.specs.Pictures.{picture_of}
+use Rattle.layout_view.specs.declared.picture_style.sheet.TheConstants.{PICTURE_STYLE}
+use Rattle.layout_view.specs.LayoutPicture.Graph.{graph_of}
+use Rattle.layout_view.specs.LayoutPicture.Pictures.{picture_of}
 
 -- the picture of a layout
 abbrev pub layout_shapes : Plan → Layout → Picture

@@ -5,10 +5,10 @@ ghost use Rattle.sdf_check.specs.Valid.{Valid};
 ghost use Rattle.region_layout.specs.Layouts.{layout_of};
 ghost use Rattle.layout_view.specs.Drawn.{layout_shapes, layout_svg, layout_graph};
 
+use crate::layout_picture::{LayoutRows, layout_picture, write_graph};
+use crate::picture_style::PICTURE_STYLE;
 use cargo_core::{Bytes, Memory};
-use layout_picture::{LayoutRows, layout_picture, write_graph};
 use picture_kit::{Picture, write_svg};
-use picture_style::PICTURE_STYLE;
 use region_layout::{Layout, lay_out};
 use sdf_plan::Plan;
 use std::alloc::Global;

@@ -2,5 +2,8 @@
 #![tactic(auto)]
 
 mod drawing;
+pub mod layout_picture;
+pub mod picture_style;
 
 pub use drawing::{draw_graph, draw_layout, picture};
+pub use picture_style::{PAGE_END, PAGE_FRONT};

@@ -14,10 +14,10 @@ use Rattle.wire_core.specs.Ends.{Role, End}
 use Rattle.buffer_kit.specs.Clients.{queue_at, is_so}
 use Rattle.buffer_kit.proofs.ManyClients.{none_if, queue_there, queue_is, at_client, some_eq, so_there}
 use Rattle.buffer_kit.proofs.Passing.{beside}
-use Rattle.switch_desk.specs.declared.slot.Slot.{Slot}
-use Rattle.switch_desk.specs.declared.desk.Desk.{Desk}
-use Rattle.switch_desk.specs.Desks.{IsDesk, Moved, WithSlot, is_copied, is_owing, has_copy}
-use Rattle.switch_desk.proofs.Places.{same_or_not}
+use Rattle.net_switch.specs.declared.switch_desk.slot.Slot.{Slot}
+use Rattle.net_switch.specs.declared.switch_desk.desk.Desk.{Desk}
+use Rattle.net_switch.specs.SwitchDesk.Desks.{IsDesk, Moved, WithSlot, is_copied, is_owing, has_copy}
+use Rattle.net_switch.proofs.SwitchDesk.Places.{same_or_not}
 use Rattle.net_switch.specs.declared.switch.NetSwitch.{NetSwitch}
 use Rattle.net_switch.specs.declared.ends.SwitchEnds.{SwitchEnds}
 use Rattle.net_switch.specs.Ends.{FitsEnds, SameEnds, is_take, come_queues, back_queues, room_queues, copy_queues}

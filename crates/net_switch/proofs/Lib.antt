@@ -6,3 +6,4 @@ pub mod Steps
 pub mod Calls
 pub mod Turning
 pub mod Row
+pub mod SwitchDesk

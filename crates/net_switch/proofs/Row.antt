@@ -12,11 +12,11 @@ use Rattle.wire_core.specs.Deeds.{Cargo}
 use Rattle.wire_core.specs.Lists.{Passed}
 use Rattle.buffer_kit.specs.Clients.{queue_at}
 use Rattle.buffer_kit.specs.Entries.{frame_of}
-use Rattle.switch_desk.specs.declared.desk.Desk.{Desk}
-use Rattle.switch_desk.specs.Frames.{Sent, receivers_of, goes_to, sent_to, frames_to, entries_from}
-use Rattle.switch_desk.specs.Orders.{times}
-use Rattle.switch_desk.specs.Desks.{IsDesk, PortStands, held_at, copy_at, owes, owed_by, owed_to}
-use Rattle.switch_desk.proofs.Moves.{few_given}
+use Rattle.net_switch.specs.declared.switch_desk.desk.Desk.{Desk}
+use Rattle.net_switch.specs.SwitchDesk.Frames.{Sent, receivers_of, goes_to, sent_to, frames_to, entries_from}
+use Rattle.net_switch.specs.SwitchDesk.Orders.{times}
+use Rattle.net_switch.specs.SwitchDesk.Desks.{IsDesk, PortStands, held_at, copy_at, owes, owed_by, owed_to}
+use Rattle.net_switch.proofs.SwitchDesk.Moves.{few_given}
 use Rattle.net_switch.specs.declared.switch.NetSwitch.{NetSwitch}
 use Rattle.net_switch.specs.Ends.{come_queues, back_queues, room_queues, copy_queues}
 use Rattle.net_switch.specs.Switching.{SwitchStandsFor, SwitchRow, all_sent}

@@ -18,12 +18,12 @@ use Rattle.buffer_kit.specs.Clients.{queue_at, with_more, entry_in, is_so, cappe
 use Rattle.buffer_kit.specs.Entries.{all_filled}
 use Rattle.buffer_kit.proofs.ManyClients.{none_if, queue_there, queue_is, at_client}
 use Rattle.buffer_kit.proofs.Passing.{beside}
-use Rattle.switch_desk.specs.declared.slot.Slot.{Slot}
-use Rattle.switch_desk.specs.declared.desk.Desk.{Desk}
-use Rattle.switch_desk.specs.Frames.{Sent, entries_from, frames_to, sent_to, is_lost}
-use Rattle.switch_desk.specs.Desks.{DeskStands, PortStands, Moved, IsDesk, IsSlot, held_at, copy_at, owed_to, first_owing, has_copy}
-use Rattle.switch_desk.proofs.Moves.{from_here, from_else}
-use Rattle.switch_desk.proofs.Places.{same_or_not, still_more, owed_in}
+use Rattle.net_switch.specs.declared.switch_desk.slot.Slot.{Slot}
+use Rattle.net_switch.specs.declared.switch_desk.desk.Desk.{Desk}
+use Rattle.net_switch.specs.SwitchDesk.Frames.{Sent, entries_from, frames_to, sent_to, is_lost}
+use Rattle.net_switch.specs.SwitchDesk.Desks.{DeskStands, PortStands, Moved, IsDesk, IsSlot, held_at, copy_at, owed_to, first_owing, has_copy}
+use Rattle.net_switch.proofs.SwitchDesk.Moves.{from_here, from_else}
+use Rattle.net_switch.proofs.SwitchDesk.Places.{same_or_not, still_more, owed_in}
 use Rattle.net_switch.specs.declared.switch.NetSwitch.{NetSwitch}
 use Rattle.net_switch.specs.Ends.{FitsEnds, SameEnds, ShareNone, is_take, come_queues, back_queues, room_queues, copy_queues}
 use Rattle.net_switch.specs.Switching.{FitsSwitch, SwitchStandsFor, SameSwitch, SameDesk, takes_on, taken_after, taken_in_order, took, all_sent}

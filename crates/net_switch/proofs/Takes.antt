@@ -11,7 +11,7 @@ use Rattle.wire_core.specs.Bells.{bit}
 use Rattle.wire_core.specs.Deeds.{Cargo}
 use Rattle.wire_core.specs.Lists.{Lists, with}
 use Rattle.turn_kit.specs.ManyEnds.{AreApart}
-use Rattle.switch_desk.specs.Frames.{Sent}
+use Rattle.net_switch.specs.SwitchDesk.Frames.{Sent}
 use Rattle.net_switch.specs.Ends.{is_take}
 use Rattle.net_switch.specs.Switching.{takes_on, port_of, took, taken_after}
 

@@ -7,9 +7,9 @@ use Rattle.wire_core.specs.Marks.{is_mark}
 use Rattle.turn_kit.specs.declared.turns.Turn.{Turn}
 use Rattle.turn_kit.specs.Turns.{PostedAt, Turned, choice_of, chosen_place, last_after}
 use Rattle.buffer_kit.specs.Clients.{is_so}
-use Rattle.switch_desk.specs.Desks.{is_taking, is_returning, is_wanting, is_loaded, is_free, is_copied, has_copy}
-use Rattle.switch_desk.specs.declared.slot.Slot.{Slot}
-use Rattle.switch_desk.specs.declared.desk.Desk.{Desk}
+use Rattle.net_switch.specs.SwitchDesk.Desks.{is_taking, is_returning, is_wanting, is_loaded, is_free, is_copied, has_copy}
+use Rattle.net_switch.specs.declared.switch_desk.slot.Slot.{Slot}
+use Rattle.net_switch.specs.declared.switch_desk.desk.Desk.{Desk}
 use Rattle.net_switch.specs.declared.ends.SwitchEnd.{SwitchEnd}
 use Rattle.net_switch.specs.declared.ends.SwitchEnds.{SwitchEnds}
 use Rattle.net_switch.specs.declared.switch.NetSwitch.{NetSwitch}

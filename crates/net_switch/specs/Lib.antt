@@ -2,3 +2,4 @@
 -- turns (Switching).
 pub mod Ends
 pub mod Switching
+pub mod SwitchDesk

@@ -11,10 +11,10 @@ use Rattle.wire_core.specs.Lists.{Passed, Lists}
 use Rattle.turn_kit.specs.Turns.{Round}
 use Rattle.buffer_kit.specs.Clients.{capped, queue_at}
 use Rattle.buffer_kit.specs.Entries.{all_filled}
-use Rattle.switch_desk.specs.declared.desk.Desk.{Desk}
-use Rattle.switch_desk.specs.Frames.{Sent, goes_to, is_lost, sent_to, frames_to, entries_from}
-use Rattle.switch_desk.specs.Desks.{IsDesk, DeskStands, is_taking, is_returning, is_wanting}
-use Rattle.switch_desk.specs.Desks.{IsNewDesk, is_loaded}
+use Rattle.net_switch.specs.declared.switch_desk.desk.Desk.{Desk}
+use Rattle.net_switch.specs.SwitchDesk.Frames.{Sent, goes_to, is_lost, sent_to, frames_to, entries_from}
+use Rattle.net_switch.specs.SwitchDesk.Desks.{IsDesk, DeskStands, is_taking, is_returning, is_wanting}
+use Rattle.net_switch.specs.SwitchDesk.Desks.{IsNewDesk, is_loaded}
 use Rattle.net_switch.specs.declared.switch.NetSwitch.{NetSwitch}
 use Rattle.net_switch.specs.declared.switch.PortEnds.{PortEnds}
 use Rattle.net_switch.specs.Ends.{FitsEnds, SameEnds, AreNewEnds, is_take, ends_round, come_queues}

@@ -5,6 +5,7 @@
 
 mod ends;
 mod switch;
+pub mod switch_desk;
 
 pub use ends::{SwitchEnd, SwitchEnds};
 pub use switch::{NetSwitch, PortEnds, row_law};

@@ -5,7 +5,7 @@ ghost use Rattle.wire_core.specs.Lists.{Passed, Stepped, nothing_passed};
 ghost use Rattle.wire_core.specs.Marks.{is_mark};
 ghost use Rattle.turn_kit.specs.Turns.{Turned, PostedAt, choice_of, chosen_place, last_after};
 ghost use Rattle.turn_kit.specs.Turns.{is_at_rest};
-ghost use Rattle.switch_desk.specs.Desks.{is_taking, is_returning, is_wanting, is_loaded};
+ghost use Rattle.net_switch.specs.SwitchDesk.Desks.{is_taking, is_returning, is_wanting, is_loaded};
 ghost use Rattle.net_switch.specs.Ends.{switch_posts, come_queues, back_queues, room_queues};
 ghost use Rattle.net_switch.specs.Ends.{copy_queues, place_of, need_at, IsThere};
 ghost use Rattle.net_switch.specs.Switching.{FitsSwitch, SwitchStandsFor, SwitchRow, SameSwitch};
@@ -14,10 +14,10 @@ ghost use Rattle.net_switch.specs.declared.switch.PortEnds.{PortEnds};
 ghost use Rattle.net_switch.specs.Switching.{switch_round, queue_of, IsNewSwitch};
 
 use crate::ends::{SwitchEnd, SwitchEnds};
+use crate::switch_desk::{Desk, Loaded, Returning, Taking, Wanting, back_law};
 use cargo_core::Memory;
 use frame_core::Mac;
 use std::alloc::Global;
-use switch_desk::{Desk, Loaded, Returning, Taking, Wanting, back_law};
 use wire_core::{Event, QueueId, Wires};
 
 /// A port of a switch: its address, and its queues for sending and for receiving, each that of

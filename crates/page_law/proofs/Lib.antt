@@ -3,3 +3,4 @@ pub mod ActorsLemmas
 pub mod DiskLemmas
 pub mod LawLemmas
 pub mod TurnsLemmas
+pub mod WildPages

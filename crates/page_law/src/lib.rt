@@ -9,3 +9,4 @@ pub mod count;
 pub mod disk;
 pub mod law;
 pub mod turns;
+pub mod wild_pages;

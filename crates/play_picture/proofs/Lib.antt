@@ -2,3 +2,5 @@ mod LaneLemmas
 mod DrawLemmas
 mod PairLemmas
 mod PartnerLemmas
+pub mod FillPicture
+pub mod PoolPicture

@@ -8,3 +8,5 @@ pub mod Legend
 pub mod Arrows
 pub mod Chart
 pub mod Pictures
+pub mod FillPicture
+pub mod PoolPicture

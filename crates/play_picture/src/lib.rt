@@ -4,11 +4,13 @@
 
 mod arrows;
 mod chart;
+pub mod fill_picture;
 mod lanes;
 mod law;
 mod legend;
 mod pairs;
 mod picture;
+pub mod pool_picture;
 mod words;
 
 pub use law::pair_law;

@@ -8,13 +8,13 @@ use Rattle.report_text.specs.Reports.{report_text}
 use Rattle.wire_core.specs.declared.names.Entry.{Entry}
 use Rattle.picture_kit.specs.Svg.{svg_text}
 use Rattle.picture_kit.specs.declared.shape.Picture.{Picture}
-use Rattle.picture_style.specs.declared.page.TheConstants.{PAGE_FRONT, PAGE_END}
-use Rattle.picture_style.specs.declared.sheet.TheConstants.{PICTURE_STYLE}
-use Rattle.page_text.specs.Page.{page_text}
-use Rattle.page_text.specs.declared.page.Part.{Part}
-use Rattle.fill_picture.specs.Fills.{counts_of as fills_of}
+use Rattle.layout_view.specs.declared.picture_style.page.TheConstants.{PAGE_FRONT, PAGE_END}
+use Rattle.layout_view.specs.declared.picture_style.sheet.TheConstants.{PICTURE_STYLE}
+use Rattle.play_view.specs.PageText.Page.{page_text}
+use Rattle.play_view.specs.declared.page_text.page.Part.{Part}
+use Rattle.play_picture.specs.FillPicture.Fills.{counts_of as fills_of}
 use Rattle.play_picture.specs.Pictures.{picture_of}
-use Rattle.pool_picture.specs.Pictures.{picture_of as pools_of}
+use Rattle.play_picture.specs.PoolPicture.Pictures.{picture_of as pools_of}
 use Rattle.layout_view.specs.Drawn.{layout_shapes}
 use Rattle.play_words.specs.declared.ask.Drawing.{Drawing}
 use Rattle.play_words.specs.declared.options.Name.TheVariants as An

@@ -1,2 +1,3 @@
 -- What is drawn of a play (Drawn).
 pub mod Drawn
+pub mod PageText

@@ -3,5 +3,6 @@
 #![tactic(auto)]
 
 mod drawing;
+pub mod page_text;
 
 pub use drawing::draw_play;

@@ -7,3 +7,4 @@ pub mod Playing
 pub mod Listing
 pub mod Wanting
 pub mod Paced
+pub mod SmallLaw

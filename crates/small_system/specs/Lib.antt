@@ -7,3 +7,4 @@ pub mod Standing
 pub mod Shows
 pub mod Wants
 pub mod Inside
+pub mod SmallLaw

@@ -5,7 +5,9 @@
 mod actor;
 mod laws;
 mod small;
+pub mod small_law;
 
 pub use actor::SmallActor;
 pub use laws::tale_law;
 pub use small::Small;
+pub use small_law::{bound_law, keeper_law, still_law};

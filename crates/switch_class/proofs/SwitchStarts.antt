@@ -24,7 +24,7 @@ use Rattle.buffer_kit.specs.Virtualising.{new_intake, new_outlet}
 use Rattle.buffer_kit.proofs.TwoLists.{get_front}
 use Rattle.line_text.proofs.Rows.{length_per_client}
 use Rattle.ports_text.specs.declared.ports.Ports.{Ports}
-use Rattle.switch_desk.specs.Desks.{is_taking, is_returning, is_wanting, is_loaded}
+use Rattle.net_switch.specs.SwitchDesk.Desks.{is_taking, is_returning, is_wanting, is_loaded}
 use Rattle.net_switch.specs.declared.switch.NetSwitch.{NetSwitch}
 use Rattle.net_switch.specs.declared.switch.PortEnds.{PortEnds}
 use Rattle.net_switch.specs.Ends.{come_queues, back_queues, room_queues, copy_queues, switch_posts}

@@ -3,3 +3,4 @@
 pub mod Bounds
 pub mod Playing
 pub mod Texts
+pub mod SwitchSystem

@@ -1,2 +1,2 @@
 -- What the play of a switch promises of its report.
-pub use Rattle.switch_system.specs.Playing.{PortsPlayed}
+pub use Rattle.switch_play.specs.SwitchSystem.Playing.{PortsPlayed}

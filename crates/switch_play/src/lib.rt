@@ -3,8 +3,9 @@
 #![tactic(auto)]
 
 mod bounding;
+pub mod switch_system;
 mod writing;
 
+pub use crate::switch_system::play_ports;
 pub use bounding::ports_bound;
-pub use switch_system::play_ports;
 pub use writing::write_ports;

@@ -11,8 +11,8 @@ use Rattle.wire_core.specs.Marks.{ends_of, all_sent, sum_below}
 use Rattle.small_system.specs.Tales.{Turn, journal_of, passed_by}
 use Rattle.switch_class.specs.declared.member.Member.{Member}
 use Rattle.switch_class.specs.Queues.{AreQueues, GoesAt}
-use Rattle.switch_moment.specs.Puts.{all_put}
-use Rattle.switch_moment.proofs.Sums.{sum_same}
+use Rattle.switched_law.specs.SwitchMoment.Puts.{all_put}
+use Rattle.switched_law.proofs.SwitchMoment.Sums.{sum_same}
 use Rattle.switched_law.specs.Playing.{IsPlayed}
 use Rattle.switched_law.proofs.Standing.{Laws, holds}
 

@@ -4,3 +4,6 @@ pub mod Standing
 pub mod Bounding
 pub mod Wanting
 pub mod Resting
+pub mod SwitchLaw
+pub mod SwitchMoment
+pub mod SwitchOwners

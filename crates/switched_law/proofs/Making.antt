@@ -14,7 +14,7 @@ use Rattle.switch_class.specs.declared.member.Member.{Member}
 use Rattle.switch_class.specs.declared.member.Member.TheVariants as Members
 use Rattle.switch_class.specs.Members.{Runs, Switches, made_of, pool_of}
 use Rattle.switch_class.specs.Casting.{client_made, switch_made, queues_at}
-use Rattle.switch_moment.specs.Scene.{AreAt, IsClientOf, IsSwitchOf}
+use Rattle.switched_law.specs.SwitchMoment.Scene.{AreAt, IsClientOf, IsSwitchOf}
 
 -- what a client has
 record HasMade (c : NetClient) (a b d e : ℕ) (p : ClientProgram) (rx tx : PoolAt) : Type 0 where

@@ -16,15 +16,15 @@ use Rattle.buffer_kit.proofs.TwoLists.{get_front, get_behind}
 use Rattle.client_programs.specs.declared.net.NetClient.{NetClient}
 use Rattle.client_programs.specs.Net.Clients.{client_frames, needs_frame, is_giving}
 use Rattle.client_programs.specs.Net.Sending.{needs_buffer, is_sending}
-use Rattle.switch_desk.specs.Desks.{is_taking, is_returning, is_wanting, is_loaded}
+use Rattle.net_switch.specs.SwitchDesk.Desks.{is_taking, is_returning, is_wanting, is_loaded}
 use Rattle.net_switch.specs.declared.switch.NetSwitch.{NetSwitch}
 use Rattle.net_switch.specs.Ends.{come_queues, back_queues, room_queues, copy_queues}
 use Rattle.small_system.specs.Tales.{Moment, Turn, start_of, after_tale, journal_of, passed_by}
 use Rattle.switch_class.specs.declared.member.Member.{Member}
 use Rattle.switch_class.specs.declared.member.Member.TheVariants as Members
 use Rattle.switch_class.specs.Queues.{GoesAt}
-use Rattle.switch_moment.specs.Scene.{AreAt, IsClientOf}
-use Rattle.switch_moment.specs.Quiet.{RestsAt, PortRests, AllRest}
+use Rattle.switched_law.specs.SwitchMoment.Scene.{AreAt, IsClientOf}
+use Rattle.switched_law.specs.SwitchMoment.Quiet.{RestsAt, PortRests, AllRest}
 use Rattle.switched_law.specs.Playing.{IsPlayed}
 use Rattle.switched_law.specs.Wants.{queue_wants, member_wants}
 use Rattle.switched_law.proofs.Standing.{Laws, holds, client_at, switch_at, switched_at}

@@ -16,8 +16,8 @@ use Rattle.small_system.specs.Standing.{Begins, Holds}
 use Rattle.switch_class.specs.declared.member.Member.{Member}
 use Rattle.switch_class.specs.declared.member.Member.TheVariants as Members
 use Rattle.switch_class.specs.Members.{member_means, made_of}
-use Rattle.switch_moment.specs.Scene.{HasClient, IsClientOf, IsSwitchOf, IsSwitched}
-use Rattle.switch_moment.specs.Takes.{frames_taken}
+use Rattle.switched_law.specs.SwitchMoment.Scene.{HasClient, IsClientOf, IsSwitchOf, IsSwitched}
+use Rattle.switched_law.specs.SwitchMoment.Takes.{frames_taken}
 use Rattle.switched_law.specs.Playing.{IsPlayed, taken_by}
 use Rattle.switched_law.proofs.Making.{client_there, switch_there}
 

@@ -21,21 +21,21 @@ use Rattle.play_core.specs.Rests.Showing.{HaveItems, HaveBells}
 use Rattle.play_core.proofs.Lists.{there_below}
 use Rattle.client_programs.specs.declared.net.NetClient.{NetClient}
 use Rattle.client_programs.specs.Net.Clients.{FitsClient, ClientStandsFor, client_round}
-use Rattle.switch_desk.specs.Desks.{is_taking, is_returning, is_wanting, is_loaded}
+use Rattle.net_switch.specs.SwitchDesk.Desks.{is_taking, is_returning, is_wanting, is_loaded}
 use Rattle.net_switch.specs.declared.switch.NetSwitch.{NetSwitch}
 use Rattle.net_switch.specs.Ends.{come_queues, back_queues, room_queues, copy_queues}
 use Rattle.net_switch.specs.Switching.{switch_round}
 use Rattle.small_system.specs.Tales.{Moment, Turn, start_of, IsTale, after_tale, moment_after, journal_of, passed_by, Along}
 use Rattle.small_system.specs.Standing.{Holds}
 use Rattle.small_system.specs.Wants.{RestsBy, calls_in}
-use Rattle.small_law.specs.Wants.{WantsAre}
+use Rattle.small_system.specs.SmallLaw.Wants.{WantsAre}
 use Rattle.switch_class.specs.declared.member.Member.{Member}
 use Rattle.switch_class.specs.declared.member.Member.TheVariants as Members
 use Rattle.switch_class.specs.Members.{member_means}
-use Rattle.switch_moment.specs.Scene.{IsClientOf, IsSwitched}
-use Rattle.switch_moment.specs.Takes.{frames_taken}
-use Rattle.switch_moment.specs.Wants.{client_wants, switch_wants, port_wants}
-use Rattle.switch_moment.proofs.Meeting.{meet_append}
+use Rattle.switched_law.specs.SwitchMoment.Scene.{IsClientOf, IsSwitched}
+use Rattle.switched_law.specs.SwitchMoment.Takes.{frames_taken}
+use Rattle.switched_law.specs.SwitchMoment.Wants.{client_wants, switch_wants, port_wants}
+use Rattle.switched_law.proofs.SwitchMoment.Meeting.{meet_append}
 use Rattle.switched_law.specs.Playing.{IsPlayed, taken_by}
 use Rattle.switched_law.specs.Wants.{queue_wants, member_wants}
 use Rattle.switched_law.proofs.Standing.{Laws, holds, below, client_is, switched, client_at, many, taken_is}

@@ -2,3 +2,6 @@
 -- (Wants).
 pub mod Playing
 pub mod Wants
+pub mod SwitchLaw
+pub mod SwitchMoment
+pub mod SwitchOwners

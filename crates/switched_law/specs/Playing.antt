@@ -10,8 +10,8 @@ use Rattle.switch_class.specs.declared.member.Member.{Member}
 use Rattle.switch_class.specs.Members.{member_means}
 use Rattle.switch_class.specs.Queues.{AreQueues}
 use Rattle.switch_class.specs.Casting.{AreMade}
-use Rattle.switch_moment.specs.Scene.{ArePlayable}
-use Rattle.switch_moment.specs.Takes.{FromPort, frames_taken}
+use Rattle.switched_law.specs.SwitchMoment.Scene.{ArePlayable}
+use Rattle.switched_law.specs.SwitchMoment.Takes.{FromPort, frames_taken}
 
 -- the clients of these ports and the switch stand at the queues in their start state, and turns
 -- follow one another

@@ -5,7 +5,7 @@ use Rattle.play_core.specs.Wants.{Want, intake_want, outlet_want}
 use Rattle.client_programs.specs.Net.Clients.{client_frames, is_giving, needs_frame, rx_active}
 use Rattle.client_programs.specs.Net.Clients.{rx_free, tx_active, tx_free}
 use Rattle.client_programs.specs.Net.Sending.{needs_buffer, is_sending}
-use Rattle.switch_desk.specs.Desks.{is_taking, is_returning, is_wanting, is_loaded}
+use Rattle.net_switch.specs.SwitchDesk.Desks.{is_taking, is_returning, is_wanting, is_loaded}
 use Rattle.net_switch.specs.Ends.{come_queues, back_queues, room_queues, copy_queues}
 use Rattle.switch_class.specs.declared.member.Member.{Member}
 use Rattle.switch_class.specs.declared.member.Member.TheVariants as Members

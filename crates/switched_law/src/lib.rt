@@ -23,21 +23,26 @@ ghost use Rattle.switch_class.specs.declared.member.Member.{Member};
 ghost use Rattle.switch_class.specs.declared.member.Member.TheVariants as Members;
 ghost use Rattle.switch_class.specs.Members.{member_means};
 ghost use Rattle.switch_class.specs.Queues.{AreQueues};
-ghost use Rattle.switch_law.specs.Ports.{all_to};
-ghost use Rattle.switch_moment.specs.Scene.{ArePlayable};
-ghost use Rattle.switch_moment.specs.Takes.{reaches_none, reaching, frames_in, sent_by};
-ghost use Rattle.switch_moment.specs.Puts.{puts_most};
-ghost use Rattle.switch_moment.specs.Wants.{port_wants};
+ghost use Rattle.switched_law.specs.SwitchLaw.Ports.{all_to};
+ghost use Rattle.switched_law.specs.SwitchMoment.Scene.{ArePlayable};
+ghost use Rattle.switched_law.specs.SwitchMoment.Takes.{reaches_none, reaching, frames_in, sent_by};
+ghost use Rattle.switched_law.specs.SwitchMoment.Puts.{puts_most};
+ghost use Rattle.switched_law.specs.SwitchMoment.Wants.{port_wants};
 ghost use Rattle.switched_law.specs.Playing.{IsPlayed, actors_after, taken_by};
 
-use play_core::quiet_law;
-use play_core::rests::rest_law;
-use small_law::{bound_law, still_law};
-use small_system::tale_law;
-use switch_class::Member;
-use switch_moment::{
+pub mod switch_law;
+pub mod switch_moment;
+pub mod switch_owners;
+
+use crate::switch_moment::{
     put_law, record_law, take_law, wants_law as moment_wants_law, whole_law as moment_whole_law,
 };
+use play_core::quiet_law;
+use play_core::rests::rest_law;
+use small_system::small_law::{bound_law, still_law};
+use small_system::tale_law;
+use switch_class::Member;
+pub use switch_owners::switch_owner_law;
 use text_limits::{ports_frames_law, ports_limits_law};
 
 /// Ports that were read can be played.

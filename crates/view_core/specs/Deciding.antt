@@ -8,7 +8,7 @@ use Rattle.region_layout.specs.Layouts.{layout_of}
 use Rattle.export_text.specs.System.{system_text}
 use Rattle.export_text.specs.Symbols.{bad_symbol}
 use Rattle.region_layout.specs.declared.layout.Layout.{Layout}
-use Rattle.config_text.specs.Config.{config_text, HeaderRows}
+use Rattle.export_text.specs.ConfigText.Config.{config_text, HeaderRows}
 use Rattle.layout_view.specs.Drawn.{layout_svg, layout_graph}
 use Rattle.view_core.specs.declared.answer.Answer.{Answer}
 use Rattle.view_core.specs.declared.answer.Answer.TheVariants as Is

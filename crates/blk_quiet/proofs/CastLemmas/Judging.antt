@@ -12,7 +12,7 @@ use Rattle.cargo_core.specs.declared.item.Code.TheVariants as Asked
 use Rattle.cargo_core.specs.declared.item.Item.TheVariants as ItemOf
 use Rattle.cargo_core.specs.declared.item.QueueKind.TheVariants as Kind
 use Rattle.wire_core.specs.Deeds.{Cargo}
-use Rattle.blk_kit.specs.Pages.{has_room}
+use Rattle.blk_expect.specs.BlkKit.Pages.{has_room}
 use Rattle.blk_mbr.specs.declared.part.Part.{Part}
 use Rattle.blk_mbr.proofs.Law.{law_to}
 use Rattle.blk_expect.specs.Judging.{can_move, status_of}

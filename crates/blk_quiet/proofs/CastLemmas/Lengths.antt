@@ -10,7 +10,7 @@ use Rattle.owner_law.proofs.PoolsLemmas.Merging.{kept_at, kept_is}
 use Rattle.buffer_kit.specs.Virtualising.{from_queues, to_queues}
 use Rattle.net_law.proofs.PartsLemmas.Leasing.{prefix_get}
 use Rattle.net_law.proofs.PartsLemmas.Items.{all_at}
-use Rattle.blk_kit.specs.Pages.{has_room}
+use Rattle.blk_expect.specs.BlkKit.Pages.{has_room}
 use Rattle.blk_mbr.specs.declared.part.Part.{Part}
 use Rattle.blk_expect.specs.Replies.{partition_in}
 use Rattle.device_model.specs.Disk.Disks as disk

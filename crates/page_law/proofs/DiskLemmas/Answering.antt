@@ -12,8 +12,8 @@ use Rattle.cargo_core.specs.Lists.{replaced}
 use Rattle.wire_core.specs.Deeds.{Cargo}
 use Rattle.wire_core.specs.Lists.{Passed}
 use Rattle.turn_kit.specs.Hands.{bodies_at}
-use Rattle.blk_kit.specs.Pages.{filled_body}
-use Rattle.blk_kit.specs.Blocks.{blocks_at}
+use Rattle.blk_expect.specs.BlkKit.Pages.{filled_body}
+use Rattle.blk_expect.specs.BlkKit.Blocks.{blocks_at}
 use Rattle.device_model.specs.Disk.Serving.{answer_to, answers_to, body_back, done}
 use Rattle.device_model.specs.Disk.Disks.{DiskStandsFor, disk_hand, req, resp}
 use Rattle.device_model.specs.declared.disk.DiskDevice.{DiskDevice}

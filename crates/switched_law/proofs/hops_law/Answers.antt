@@ -2,7 +2,7 @@ use Rattle.std.proofs.Common.{◌+◌, ◌*◌, ◌<◌, ◌≤◌, length, subs
 use Rattle.wire_core.specs.Journal.{start_history}
 use Rattle.wire_core.specs.Marks.{all_sent}
 use Rattle.small_system.specs.Tales.{journal_of}
-use Rattle.switch_moment.specs.Puts.{puts_most}
+use Rattle.switched_law.specs.SwitchMoment.Puts.{puts_most}
 use Rattle.switched_law.proofs.Standing.{Laws, ends, passed, switch_at, switched_at}
 use Rattle.switched_law.proofs.Bounding.{put_is, ends_most}
 use Rattle.switched_law.proofs.hops_law.Goals as goal

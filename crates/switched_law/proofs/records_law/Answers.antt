@@ -1,7 +1,7 @@
 use Rattle.std.proofs.Common.{◌∙◌, ap, subst}
 use Rattle.std.specs.List.{count_by}
 use Rattle.cargo_core.specs.Lists.{IsPrefix}
-use Rattle.switch_moment.specs.Takes.{reaches_none, reaching, frames_in, sent_by}
+use Rattle.switched_law.specs.SwitchMoment.Takes.{reaches_none, reaching, frames_in, sent_by}
 use Rattle.switched_law.proofs.Standing.{Laws, ends, passed, switch_at, switched_at, switched, client_is, client_stands, taken_is}
 use Rattle.switched_law.proofs.records_law.Goals as goal
 

@@ -4,7 +4,7 @@ use Rattle.wire_core.specs.Picks.{PickedFrom}
 use Rattle.play_core.specs.Still.{IsQuiet}
 use Rattle.small_system.specs.Tales.{start_of, after_tale, journal_of, passed_by}
 use Rattle.small_system.specs.Wants.{runs_by, wanted_by, calm}
-use Rattle.switch_moment.specs.Wants.{port_wants}
+use Rattle.switched_law.specs.SwitchMoment.Wants.{port_wants}
 use Rattle.switched_law.specs.Playing.{IsPlayed}
 use Rattle.switched_law.proofs.Standing.{Laws, holds, many}
 use Rattle.switched_law.proofs.Wanting.{WantLaws, rests_by, rests_along}

@@ -1,5 +1,5 @@
 use Rattle.std.proofs.Common.{◌≡◌, ◌∙◌, ap, subst}
-use Rattle.switch_moment.specs.Takes.{reaching, frames_in, sent_by}
+use Rattle.switched_law.specs.SwitchMoment.Takes.{reaching, frames_in, sent_by}
 use Rattle.switched_law.specs.Wants.{member_wants}
 use Rattle.switched_law.proofs.Standing.{Laws, ends, passed, switch_at, switched_at, client_is, client_stands, taken_is}
 use Rattle.switched_law.proofs.Wanting.{wants_are}

@@ -3,7 +3,7 @@ use Rattle.std.proofs.lemmas.List.{length-map}
 use Rattle.frame_core.specs.declared.mac.Mac.{Mac}
 use Rattle.turn_kit.specs.declared.ends.Intake.{Intake}
 use Rattle.buffer_kit.specs.Virtualising.{new_intake, new_outlet}
-use Rattle.switch_desk.specs.Desks.{IsNewDesk}
+use Rattle.net_switch.specs.SwitchDesk.Desks.{IsNewDesk}
 use Rattle.net_switch.specs.declared.switch.PortEnds.{PortEnds}
 use Rattle.net_switch.specs.Switching.{queue_of}
 use Rattle.net_switch.proofs.switch.NetSwitch.new.Goals as goal

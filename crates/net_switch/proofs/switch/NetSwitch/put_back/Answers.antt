@@ -2,7 +2,7 @@ use Rattle.std.proofs.Common.{◌≡◌, true, refl, sym, ap, ◌∙◌, subst}
 use Rattle.std.specs.Option.{is_some, option_map, option_to_list}
 use Rattle.wire_core.specs.Deeds.{deed_of, put_of}
 use Rattle.turn_kit.specs.Turns.{PostedAt}
-use Rattle.switch_desk.specs.Desks.{is_copied}
+use Rattle.net_switch.specs.SwitchDesk.Desks.{is_copied}
 use Rattle.net_switch.specs.declared.ends.SwitchEnd.TheVariants as At
 use Rattle.net_switch.specs.Ends.{switch_posts, place_of}
 use Rattle.net_switch.proofs.Calls.{fits_on, went_back, back_or_not, frame_stays, load_cases, held_there, slot_there}

@@ -4,7 +4,7 @@ use Rattle.wire_core.specs.Deeds.{Cargo, deed_of, put_of}
 use Rattle.wire_core.specs.Lists.{if_there}
 use Rattle.turn_kit.specs.Turns.{PostedAt}
 use Rattle.buffer_kit.proofs.ManyClients.{none_if}
-use Rattle.switch_desk.specs.Desks.{has_copy}
+use Rattle.net_switch.specs.SwitchDesk.Desks.{has_copy}
 use Rattle.net_switch.specs.declared.ends.SwitchEnd.TheVariants as At
 use Rattle.net_switch.specs.Ends.{switch_posts, place_of}
 use Rattle.net_switch.proofs.Steps.{desk_stays}

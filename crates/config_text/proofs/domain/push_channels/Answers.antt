@@ -1,7 +1,0 @@
-use Rattle.config_text.specs.Config.{channel_text}
-use Rattle.config_text.proofs.LineLemmas.{numbered-step}
-use Rattle.config_text.proofs.domain.push_channels.Goals as goal
-
-pub loop-at-preserved : goal.loop-at-preserved
-loop-at-preserved c =
-    numbered-step channel_text c.args.channels.now c.loop-at.at c.index-channels-at.result _ _ _ c.loop-at-test.true c.index-channels-at.is (rw c.as_slice.ensures at c.in_ok-push_ends.ensures) c.loop-at.invariant

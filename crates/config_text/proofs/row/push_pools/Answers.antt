@@ -1,7 +1,0 @@
-use Rattle.config_text.specs.Config.{pool_text}
-use Rattle.config_text.proofs.LineLemmas.{numbered-step}
-use Rattle.config_text.proofs.row.push_pools.Goals as goal
-
-pub loop-at-preserved : goal.loop-at-preserved
-loop-at-preserved c =
-    numbered-step pool_text c.args.pools.now c.loop-at.at c.index-pools-at.result _ _ _ c.loop-at-test.true c.index-pools-at.is c.in_ok-push_pool.ensures c.loop-at.invariant

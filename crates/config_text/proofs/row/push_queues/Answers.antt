@@ -1,7 +1,0 @@
-use Rattle.config_text.specs.Config.{queue_text}
-use Rattle.config_text.proofs.LineLemmas.{numbered-step}
-use Rattle.config_text.proofs.row.push_queues.Goals as goal
-
-pub loop-at-preserved : goal.loop-at-preserved
-loop-at-preserved c =
-    numbered-step queue_text c.args.queues.now c.loop-at.at c.index-queues-at.result _ _ _ c.loop-at-test.true c.index-queues-at.is c.in_ok-push_queue.ensures c.loop-at.invariant

@@ -1,8 +1,0 @@
-//! A picture of how full the queues are over the steps of a journal.
-#![tactic(auto)]
-
-mod fills;
-mod picture;
-mod queue;
-
-pub use picture::fill_picture;

@@ -1,7 +1,0 @@
-use Rattle.std.proofs.Common.{◌≡◌, ◌++◌, take, drop}
-use Rattle.i2c_kit.specs.Devices.{AreWhole}
-use Rattle.i2c_kit.specs.Replies.{replies_from, replies_by}
-use Rattle.i2c_kit.proofs.alone.replies_by.Given as goal
-
-abbrev pub invariant-loop-k : goal.invariant-loop-k
-invariant-loop-k l = (l.replies ++ replies_from (take l.k l.taken) l.devices.items (drop l.k l.taken) ≡ replies_by l.addresses l.taken) × AreWhole l.devices.items

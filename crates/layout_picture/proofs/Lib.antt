@@ -1,3 +1,0 @@
-mod GridLemmas
-mod DrawLemmas
-mod ColumnLemmas

@@ -1,6 +1,0 @@
-use Rattle.std.proofs.Common.{◌≡◌, ◌≤◌, drop}
-use Rattle.layout_picture.specs.Pictures.{longest_card}
-use Rattle.layout_picture.proofs.picture.longest_card.Given as goal
-
-abbrev pub invariant-loop-card : goal.invariant-loop-card
-invariant-loop-card l = (longest_card l.most (drop l.card-index l.cards) ≡ longest_card l.least l.cards) × (l.most ≤ 1000)

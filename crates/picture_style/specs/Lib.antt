@@ -1,1 +1,0 @@
--- Nothing is said of style sheets.

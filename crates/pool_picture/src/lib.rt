@@ -1,7 +1,0 @@
-//! A picture of where the buffers of pools are: a bar for each pool.
-#![tactic(auto)]
-
-mod picture;
-mod rows;
-
-pub use picture::pool_picture;
