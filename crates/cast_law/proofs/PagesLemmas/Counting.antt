@@ -78,7 +78,7 @@ module _ (pool number : ℕ) where
   part_count scene (ClientPart rx tx script) = refl
   part_count scene (NetworkPart (NetDevice rx_free rx_active tx_active tx_free frames)) = refl
   part_count scene (NetworkPart (NetDriver ways)) = refl
-  part_count scene (NetworkPart (NetReceiver active free p clients)) = one_count p
+  part_count scene (NetworkPart (NetReceiver active free p clients)) = omega (arith, one_count p)
   part_count scene (NetworkPart (NetCopier lease_active lease_free rx_active rx_free)) = refl
   part_count scene (NetworkPart (NetClient program mac rx_active rx_free tx_active tx_free rx tx)) =
       let both = sum_by-append (λ x. cond {A = ℕ} (x == number) 1 0) (pool_hand rx pool) (pool_hand tx pool) in
@@ -86,8 +86,8 @@ module _ (pool number : ℕ) where
   part_count scene (SendingPart p) = refl
   part_count scene (BlockPart (DiskDevice req resp image)) = refl
   part_count scene (BlockPart (BlkDriver ways)) = refl
-  part_count scene (BlockPart (BlkVirt req resp sectors p clients)) = one_count p
-  part_count scene (BlockPart (BlkClient req resp asks p)) = one_count p
+  part_count scene (BlockPart (BlkVirt req resp sectors p clients)) = omega (arith, one_count p)
+  part_count scene (BlockPart (BlkClient req resp asks p)) = omega (arith, one_count p)
   part_count scene (HostilePart p) = omega (arith, told_count p.pages)
 
   parts_count : (scene : Scene) (cast : List Part) → pools_weigh the cast ≡ sum_by (λ (k : Keeper). at_start k.hand buffer) (map (λ p. keeper_of (sheet scene p)) cast)
