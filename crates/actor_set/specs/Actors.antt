@@ -59,14 +59,14 @@ use Rattle.blk_virt.specs.Virtualising.{BlkVirtEnd, BlkVirtForgot, blk_virt_roun
 use Rattle.blk_virt.specs.declared.virtualiser.BlkVirt.{BlkVirt}
 use Rattle.blk_law.specs.Sheets.Playing.{disk_part, blk_driver_part, virt_part, blk_client_part}
 use Rattle.cargo_core.specs.Pages.{Paged}
-use Rattle.play_core.specs.Names.{Tag}
 use Rattle.client_programs.specs.declared.rogue.Rogue.{Rogue}
 use Rattle.client_programs.specs.Rogue.Acts.{Left, is_done}
 use Rattle.client_programs.specs.Rogue.Clients.{FitsRogue, RogueStandsFor, RogueBalances, RogueEnd}
 use Rattle.client_programs.specs.Rogue.Clients.{IsRogue, IsOwnCall, Acted, SameRogue, HasForgotten}
 use Rattle.client_programs.specs.Rogue.Clients.{left_of, left_at_start, ends_of}
 use Rattle.actor_set.specs.Parts.{Part, UartPart, DriverPart, RxPart, TxPart, ClientPart}
-use Rattle.actor_set.specs.Parts.{NetworkPart, SendingPart, BlockPart, RoguePart, HostilePart}
+use Rattle.actor_set.specs.Parts.{NetworkPart, SendingPart, BlockPart, PageAt, RoguePart}
+use Rattle.actor_set.specs.Parts.{HostilePart}
 use Rattle.actor_set.specs.declared.actor.Actor.{Actor}
 use Rattle.actor_set.specs.declared.actor.Actor.TheVariants as Kinds
 
@@ -308,9 +308,10 @@ actor_hand (Kinds.Rogue x) = x.kept.items
 abbrev pub numbers : List QueueId → List ℕ
 numbers qs = map (λ q. q.0) qs
 
--- the names of pages
-abbrev pub tags_of : List Paged → List Tag
-tags_of pages = map (λ p. record { pool = p.pool.0; number = p.no }) pages
+-- pages by their pools, their numbers and their lengths
+abbrev pub pages_at : List Paged → List PageAt
+pages_at pages =
+    map (λ p. record { pool = p.pool.0; number = p.no; long = length p.bytes }) pages
 
 -- a hostile client's part, where its journal begins with this to do
 abbrev pub rogue_part : Rogue → Left → RoguePart
@@ -319,7 +320,7 @@ rogue_part x start = record {
   inputs = numbers x.inputs.items;
   outputs = numbers x.outputs.items;
   start = start;
-  pages = tags_of x.start.value.items;
+  pages = pages_at x.start.value.items;
 }
 
 -- what it is made of

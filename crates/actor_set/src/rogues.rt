@@ -1,5 +1,8 @@
 //! A hostile client at play: what a journal tells of it, and what is said of its part.
 ghost use Rattle.std.specs.Prelude.{◌≡◌, ◌++◌, ◌≤◌, ℕ, not, List, [], ◌∷◌, length};
+ghost use Rattle.cargo_core.specs.Pages.{Paged};
+ghost use Rattle.buffer_kit.specs.Conserving.{Count, counted};
+ghost use Rattle.buffer_kit.specs.Pools.{page_bodies};
 ghost use Rattle.wire_core.specs.declared.names.Entry.{Entry};
 ghost use Rattle.wire_core.specs.declared.names.Event.{Event};
 ghost use Rattle.wire_core.specs.declared.names.QueueRow.{QueueRow};
@@ -11,7 +14,8 @@ ghost use Rattle.play_core.specs.Sheets.{IsOwn, NeedsFollow};
 ghost use Rattle.client_programs.specs.declared.rogue.Rogue.{Rogue};
 ghost use Rattle.client_programs.specs.Rogue.Acts.{is_done, calls_left};
 ghost use Rattle.client_programs.specs.Rogue.Clients.{Acted, SameRogue, left_of, left_at_start};
-ghost use Rattle.actor_set.specs.Rogues.{KeepsActs, rogue_manner, rogue_sheet};
+ghost use Rattle.actor_set.specs.Actors.{pages_at};
+ghost use Rattle.actor_set.specs.Rogues.{KeepsActs, rogue_manner, rogue_sheet, pages_weigh};
 
 /// Where a journal begins, and after each call of its own and of others, what a hostile client did
 /// is told by its acts; so it is runnable exactly where an act that makes a call is left, whatever
@@ -31,10 +35,13 @@ pub fn play_law()
         → length (calls_of k journal) ≤ calls_left (left_at_start r) }
 {}
 
-/// What is said of the part of a hostile client speaks of its own ends, and its needs follow.
+/// What is said of the part of a hostile client speaks of its own ends, and its needs follow; and
+/// its part tells what the pages weigh that it had at the start.
 pub fn sheet_law()
     ensures own { (inputs outputs : List ℕ) (hand : ℕ → List ℕ)
         → IsOwn (rogue_sheet inputs outputs hand) }
     ensures needs { (inputs outputs : List ℕ) (hand : ℕ → List ℕ)
         → NeedsFollow (rogue_sheet inputs outputs hand) }
+    ensures pages { (f : Count) (pages : List Paged)
+        → counted f (page_bodies pages) ≡ pages_weigh f (pages_at pages) }
 {}

@@ -2,6 +2,7 @@
 -- fits them as before and stands for the same lists; and its start state.
 use Rattle.std.proofs.Common.{◌≡◌, ◌==◌, ◌<◌, ◌≤◌, ◌+◌, ◌++◌, ℕ, zero, suc, Bool, true, false, cond, Some, List, [], ◌∷◌, length, map, drop, All, get_or, slice_get, inl, inr, refl, sym, ap, ◌∙◌, subst, arith}
 use Rattle.std.proofs.lemmas.Option.{slice_get-get_or}
+use Rattle.std.proofs.lemmas.List.Sums.{sum_by-cons}
 use Rattle.cargo_core.specs.Bodies.{buffers_of}
 use Rattle.cargo_core.specs.Pages.{Paged}
 use Rattle.cargo_core.specs.declared.act.Act.{Act}
@@ -18,17 +19,16 @@ use Rattle.turn_kit.proofs.Holding.{buffers-cons}
 use Rattle.buffer_kit.specs.Conserving.{Count, counted}
 use Rattle.buffer_kit.specs.Pools.{page_bodies}
 use Rattle.play_core.specs.Moved.{Seat}
-use Rattle.play_core.specs.Names.{Tag}
 use Rattle.play_core.specs.Wants.{intake, outlet}
 use Rattle.play_core.proofs.Lists.{some_is, map_get, map_from}
 use Rattle.client_programs.specs.declared.rogue.Rogue.{Rogue}
 use Rattle.client_programs.specs.Rogue.Acts.{Left, next_acts, queue_of}
 use Rattle.client_programs.specs.Rogue.Clients.{FitsEnd, FitsRogue, HasForgotten, HasLook, IsActOf, IsNewRogue, RogueEnd, RogueStandsFor, SameRogue, ends_of, left_at_start, left_of, numbers}
 use Rattle.client_programs.proofs.RogueLemmas.Owning.{all_drop, all_next, an_input, an_output}
-use Rattle.actor_set.specs.Actors.{rogue_part, tags_of}
+use Rattle.actor_set.specs.Actors.{rogue_part, pages_at}
 use Rattle.actor_set.specs.Parts.{HostilePart}
 use Rattle.actor_set.specs.Adopting.Looks.{SameButLook}
-use Rattle.actor_set.specs.Rogues.{pages_in}
+use Rattle.actor_set.specs.Rogues.{pages_in, page_weighs, pages_weigh}
 
 -- one of its ends, by their numbers
 abbrev pub RogueAt : (inputs outputs : List ℕ) → Role → ℕ → Type 0
@@ -111,19 +111,26 @@ module _ (ends : Role → ℕ → End) where
     look = no_look ends ends x x.looked (ap (λ (l : Left). l.looked) new.left);
   }
 
--- and has the pages that its part tells
-pages_told : (pool : PoolId) (pages : List Paged) → buffers_of pool (page_bodies pages) ≡ length (pages_in (tags_of pages) pool.0)
-pages_told pool [] = refl
-pages_told pool (p ∷ ps) =
+-- what its pages weigh is told by its part
+pub pages_counted : (f : Count) (pages : List Paged) → counted f (page_bodies pages) ≡ pages_weigh f (pages_at pages)
+pages_counted f [] = refl
+pages_counted f (p ∷ ps) =
+    let one = sum_by-cons (page_weighs f) (record { pool = p.pool.0; number = p.no; long = length p.bytes }) (pages_at ps) in
+    omega (arith, one, pages_counted f ps)
+
+-- and it has the pages that its part tells
+pages_are : (pool : PoolId) (pages : List Paged) → buffers_of pool (page_bodies pages) ≡ length (pages_in (pages_at pages) pool.0)
+pages_are pool [] = refl
+pages_are pool (p ∷ ps) =
     let parts : buffers_of pool (page_bodies (p ∷ ps)) ≡ cond {A = ℕ} (p.pool.0 == pool.0) 1 0 + buffers_of pool (page_bodies ps) = buffers-cons pool (Carried.Page p) (page_bodies ps) in
-    parts ∙ one (p.pool.0 == pool.0) (pages_told pool ps)
+    parts ∙ one (p.pool.0 == pool.0) (pages_are pool ps)
   where
-    one : (b : Bool) → buffers_of pool (page_bodies ps) ≡ length (pages_in (tags_of ps) pool.0) → cond {A = ℕ} b 1 0 + buffers_of pool (page_bodies ps) ≡ length (cond b (p.no ∷ pages_in (tags_of ps) pool.0) (pages_in (tags_of ps) pool.0))
+    one : (b : Bool) → buffers_of pool (page_bodies ps) ≡ length (pages_in (pages_at ps) pool.0) → cond {A = ℕ} b 1 0 + buffers_of pool (page_bodies ps) ≡ length (cond b (p.no ∷ pages_in (pages_at ps) pool.0) (pages_in (pages_at ps) pool.0))
     one true h = omega (arith, h)
     one false h = omega (arith, h)
 
-pub new_rogue_hand : (x : Rogue) → IsNewRogue x.kind x.inputs.items x.outputs.items x.start.value.items x.acts.items x → (pool : PoolId) → buffers_of pool x.kept.items ≡ length (pages_in (tags_of x.start.value.items) pool.0)
-new_rogue_hand x new pool = ap (buffers_of pool) new.keeps ∙ pages_told pool x.start.value.items
+pub new_rogue_hand : (x : Rogue) → IsNewRogue x.kind x.inputs.items x.outputs.items x.start.value.items x.acts.items x → (pool : PoolId) → buffers_of pool x.kept.items ≡ length (pages_in (pages_at x.start.value.items) pool.0)
+new_rogue_hand x new pool = ap (buffers_of pool) new.keeps ∙ pages_are pool x.start.value.items
 
 -- where nothing moved at its ends, it stands for the same lists
 at_alike : (new old : Lists) (qs : List QueueId) → ((k : ℕ) (q : QueueId) → slice_get qs k ≡ Some q → new q.0 ≡ old q.0) → bodies_at new (numbers qs) ≡ bodies_at old (numbers qs)

@@ -43,7 +43,7 @@ use Rattle.blk_quiet.specs.Pools.Naming.{blk_names, blk_naming, HasApartPools, I
 use Rattle.blk_quiet.proofs.PoolsLemmas.Naming.{disk_named, driver_named as blk_driver_named, virt_named, client_named as blk_client_named}
 use Rattle.blk_quiet.proofs.PoolsLemmas.Sizing.{blk_past}
 use Rattle.actor_set.specs.Parts.{HostilePart, Part, UartPart, DriverPart, RxPart, TxPart, ClientPart, NetworkPart, SendingPart, BlockPart}
-use Rattle.actor_set.specs.Actors.{tags_of, ActorStandsFor, part_of}
+use Rattle.actor_set.specs.Actors.{pages_at, ActorStandsFor, part_of}
 use Rattle.actor_set.specs.declared.actor.Actor.{Actor}
 use Rattle.actor_set.specs.declared.actor.Actor.TheVariants as Kinds
 use Rattle.actor_set.specs.Laws.Kinds.{AllCalm, sheet, scene_of}
@@ -236,7 +236,7 @@ module _ (rows : List QueueRow) (cast : List Part) (calm : AllCalm cast) (seated
     own_at passed (Kinds.BlkDriver x) names st = block_own naming scene (blk_driver_part (two_pipes x.driver.pipes)) names
     own_at passed (Kinds.BlkVirt x) names st = block_own naming scene (virt_part x) names
     own_at passed (Kinds.BlkClient x) names st = block_own naming scene (blk_client_part x) names
-    own_at passed (Kinds.Rogue x) names st = λ m order apart row. nothing_kept naming (pages_in (tags_of x.start.value.items)) (sheet scene (part_of (Kinds.Rogue x))).ends names m
+    own_at passed (Kinds.Rogue x) names st = λ m order apart row. nothing_kept naming (pages_in (pages_at x.start.value.items)) (sheet scene (part_of (Kinds.Rogue x))).ends names m
 
     -- entries of the network's queues are of the network
     module _ (passed : Passed) (kinds : AreOfKind rows passed) (begins : (q : ℕ) → IsPrefix (passed.taken q) (passed.sent q)) where
