@@ -1,25 +1,24 @@
 -- A system that takes over what actors left goes on from it.
-use Rattle.std.proofs.Common.{◌≡◌, ◌<◌, ◌≤◌, ◌++◌, ℕ, zero, suc, Bool, true, false, Option, Some, None, List, [], ◌∷◌, All, length, map, slice_get, refl, sym, ap, ◌∙◌, subst, arith}
+use Rattle.std.proofs.Common.{◌≡◌, ◌<◌, ◌≤◌, ◌++◌, ℕ, zero, suc, false, Option, Some, None, List, [], ◌∷◌, All, length, map, slice_get, refl, sym, ap, ◌∙◌, subst, arith}
 use Rattle.std.specs.List.{AllZip}
 use Rattle.std.specs.Option.{option_map_or}
 use Rattle.std.proofs.lemmas.List.{length-map}
 use Rattle.std.proofs.lemmas.Option.{get_or_from_slice_get}
 use Rattle.cargo_core.specs.Items.{kind_of}
-use Rattle.cargo_core.specs.Lists.{IsPrefix}
 use Rattle.wire_core.specs.declared.names.Event.{Event}
 use Rattle.wire_core.specs.declared.names.PoolRow.{PoolRow}
 use Rattle.wire_core.specs.declared.names.QueueRow.{QueueRow}
 use Rattle.wire_core.specs.Deeds.{Cargo}
-use Rattle.wire_core.specs.Ends.{Role, Consumer, Producer, End}
-use Rattle.wire_core.specs.Journal.{History, Hostiles, Track, QueuesFlow, history_at, start_history, owner_of}
+use Rattle.wire_core.specs.Ends.{Role, Consumer, Producer}
+use Rattle.wire_core.specs.Journal.{History, history_at, owner_of}
 use Rattle.wire_core.specs.Lists.{Passed}
 use Rattle.wire_core.specs.Queues.{Queue, queue_at, end_at, items_of}
-use Rattle.spsc_queue.specs.Known.Ends.{EndIs, RingIs, EndedIs}
+use Rattle.spsc_queue.specs.Known.Ends.{RingIs, EndedIs}
 use Rattle.turn_kit.specs.Pace.{pendings}
 use Rattle.turn_kit.proofs.Pacing.{paced_anew}
-use Rattle.play_core.specs.Moved.{Moved, moved}
+use Rattle.play_core.specs.Moved.{moved}
 use Rattle.play_core.specs.Names.{Noted}
-use Rattle.play_core.specs.Sheets.{Scene, RowsHold, AreSeated, AreFilled}
+use Rattle.play_core.specs.Sheets.{Scene, AreSeated, AreFilled}
 use Rattle.play_core.specs.Still.{IsPeopled}
 use Rattle.play_core.specs.Wants.{all_settled}
 use Rattle.play_core.proofs.Lists.{some_is, map_get, map_from, there_is, there_below}
@@ -28,7 +27,7 @@ use Rattle.play_core.specs.Rests.Showing.{HaveItems, HaveBells}
 use Rattle.actor_set.specs.Parts.{Part}
 use Rattle.actor_set.specs.Actors.{FitsActor, ActorStandsFor, ActorEnd, Forgot, IsWhole, part_of, actor_round, actor_rests}
 use Rattle.actor_set.specs.declared.actor.Actor.{Actor}
-use Rattle.actor_set.specs.Laws.Kinds.{AllCalm, sheet, scene_of, hostiles}
+use Rattle.actor_set.specs.Laws.Kinds.{AllCalm, sheet, scene_of}
 use Rattle.actor_set.specs.Laws.Turning.{InTurn}
 use Rattle.actor_set.proofs.LawsLemmas.PartEnds.{to_part, end_seat}
 use Rattle.actor_set.proofs.LawsLemmas.Rounds.{anew_is}
@@ -38,14 +37,14 @@ use Rattle.cast_law.specs.Pools.Places.{PoolPlace, IsInPlace, IsPlaced, HasPools
 use Rattle.cast_law.proofs.TurnsLemmas.{calm_turns}
 use Rattle.cast_law.specs.Pools.Pooling.{AreAtPlay, HasOwners}
 use Rattle.cast_law.proofs.PoolsLemmas.Playing.{rows_at}
-use Rattle.plain_wires.specs.Adopted.{IsEndedOf, adopted, all_adopted}
+use Rattle.plain_wires.specs.Adopted.{IsEndedOf, all_adopted}
 use Rattle.order_law.specs.ActorParts.Opening.{IsForgotten}
 use Rattle.order_law.specs.ActorParts.Parting.{Apart, AreApart, IsRingOf, apart_end}
-use Rattle.order_law.specs.ActorParts.Finished.{OwnEnd, AreFinished}
+use Rattle.order_law.specs.ActorParts.Finished.{AreFinished}
 use Rattle.order_law.specs.Ended.Tracks.{track_of, TellsEnds}
 use Rattle.order_law.specs.Ended.Leaving.{history_left, AreLeft}
 use Rattle.order_law.proofs.EndedLemmas.Lists.{all_at, all_long}
-use Rattle.order_law.proofs.EndedLemmas.Leaving.{are_left, same_end, queue_is, world_long}
+use Rattle.order_law.proofs.EndedLemmas.Leaving.{are_left, same_end}
 use Rattle.order_law.proofs.EndedLemmas.Resting.{rests_left}
 use Rattle.order_law.proofs.EndedLemmas.Rounds.{fits_round}
 use Rattle.cast_law.specs.Runs.Running.{HaveHeld}
@@ -62,7 +61,7 @@ use Rattle.system_core.specs.Crews.{net_crew, serial_crew, blk_crew}
 use Rattle.system_core.proofs.Fitting.{are_sized, fitted_place}
 use Rattle.system_core.proofs.Telling.{wants_plain}
 use Rattle.wire_core.specs.Sizes.{AreSized}
-use Rattle.system_core.specs.Shows.{Setting, Shown, Crew, hostile_in, sheet_in, moved_in}
+use Rattle.system_core.specs.Shows.{Setting, Shown, Crew}
 use Rattle.system_core.specs.States.{history_of, begun, started}
 use Rattle.system_core.specs.Lawful.{IsFitted}
 use Rattle.system_core.specs.Systems.{Holds, HoldsBefore, GoesOn}

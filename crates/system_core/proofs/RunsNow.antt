@@ -1,11 +1,9 @@
-use Rattle.std.proofs.Common.{◌≡◌, ◌<◌, ◌+◌, ℕ, Bool, true, false, not, ◌&&◌, ◌||◌, Some, List, [], ◌∷◌, map, length, slice_get, get_or, subst, refl, ap, ◌∙◌, arith, suc, add-zero}
-use Rattle.std.specs.List.{list_any}
+use Rattle.std.proofs.Common.{◌≡◌, ◌<◌, ◌+◌, ℕ, Bool, true, false, not, ◌&&◌, ◌||◌, Some, List, map, slice_get, get_or, subst, refl, ap, ◌∙◌, arith}
 use Rattle.std.proofs.lemmas.Option.{slice_get-get_or}
 use Rattle.wire_core.specs.declared.names.QueueRow.{QueueRow}
 use Rattle.wire_core.specs.declared.names.Entry.{Entry}
-use Rattle.wire_core.specs.Queues.{Queue, queue_at, is_called, is_pending}
+use Rattle.wire_core.specs.Queues.{Queue, queue_at, is_pending}
 use Rattle.wire_core.specs.Journal.{History, Hostiles, IsShown, track}
-use Rattle.wire_core.proofs.Tracks.{shown_calls}
 use Rattle.play_core.specs.Moved.{moved}
 use Rattle.play_core.specs.Wants.{all_settled}
 use Rattle.play_core.specs.Runs.{called_from, is_runnable}

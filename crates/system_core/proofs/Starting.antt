@@ -1,17 +1,17 @@
-use Rattle.std.proofs.Common.{◌≡◌, ◌<◌, ◌≤◌, ◌+◌, ℕ, Bool, true, false, not, Some, List, [], ◌∷◌, ◌++◌, length, map, take, slice_get, slice_index_or, length-append, length-take, refl, sym, ap, ◌∙◌, subst, arith, zero, suc, min}
-use Rattle.std.proofs.lemmas.List.{take_all, length-map, append-nil}
+use Rattle.std.proofs.Common.{◌≡◌, ◌<◌, ℕ, Bool, not, Some, List, [], length, map, slice_get, slice_index_or, refl, sym, ap, ◌∙◌, subst, arith}
+use Rattle.std.proofs.lemmas.List.{length-map}
 use Rattle.std.proofs.lemmas.Option.{slice_get_read}
 use Rattle.wire_core.specs.declared.names.PoolRow.{PoolRow}
 use Rattle.wire_core.specs.declared.names.QueueRow.{QueueRow}
 use Rattle.wire_core.specs.Lists.{nothing_passed}
 use Rattle.wire_core.specs.Queues.{Queue, starts, queue_at, end_at, is_pending}
-use Rattle.wire_core.specs.Journal.{History, start_track, start_history, IsShown}
+use Rattle.wire_core.specs.Journal.{History, start_history, IsShown}
 use Rattle.wire_core.proofs.BellTheorem.{start_is}
 use Rattle.turn_kit.specs.Pace.{pendings}
 use Rattle.turn_kit.proofs.Pacing.{paced_anew}
 use Rattle.actor_set.specs.Actors.{actor_round, actor_rests, part_of}
 use Rattle.actor_set.specs.declared.actor.Actor.{Actor}
-use Rattle.play_core.specs.Runs.{is_runnable, flags_from, places_from, if_so}
+use Rattle.play_core.specs.Runs.{is_runnable, flags_from}
 use Rattle.play_core.specs.Moved.{moved}
 use Rattle.play_core.specs.Wants.{Needful}
 use Rattle.play_core.specs.Sheets.{Scene, needful}
@@ -23,12 +23,9 @@ use Rattle.wired_law.proofs.Wiring.{nothing_sent}
 use Rattle.owner_law.proofs.PoolsLemmas.Handing.{carry_start}
 use Rattle.cast_law.specs.Pools.Places.{IsInPlace, cast_naming}
 use Rattle.cast_law.proofs.TurnsLemmas.{calm_turns}
-use Rattle.player_kit.specs.Runnings.{with_number}
 use Rattle.system_core.specs.Starts.{AreStarting}
 use Rattle.system_core.specs.Systems.{Holds}
-use Rattle.play_core.proofs.Lists.{some_is, map_get, there_below}
-use Rattle.player_kit.proofs.Rising.{with_above}
-use Rattle.player_kit.proofs.Places.{places_few}
+use Rattle.play_core.proofs.Lists.{map_get}
 use Rattle.play_core.proofs.Flags.{flag_at, flags_length}
 use Rattle.system_core.proofs.RunsNow.{idle_here}
 use Rattle.player_kit.proofs.Listing.{not_not}

@@ -1,4 +1,4 @@
-use Rattle.std.proofs.Common.{◌≡◌, ◌≢◌, ◌⊎◌, ◌<◌, ◌≤◌, ◌+◌, ◌==◌, ℕ, Bool, true, false, not, ◌&&◌, ◌||◌, Option, Some, None, List, [], ◌∷◌, ◌++◌, length, length-set, slice_get, slice_set, slice_index_or, map, subst, refl, sym, ap, ◌∙◌, arith, inl, inr, zero, suc}
+use Rattle.std.proofs.Common.{◌≡◌, ◌≢◌, ◌⊎◌, ◌<◌, ◌≤◌, ◌+◌, ◌==◌, ℕ, Bool, true, false, not, ◌&&◌, ◌||◌, Option, Some, None, List, [], ◌∷◌, ◌++◌, length, length-set, slice_get, slice_set, slice_index_or, map, subst, refl, sym, ap, ◌∙◌, arith, inl, inr}
 use Rattle.std.proofs.lemmas.List.{length-map}
 use Rattle.std.proofs.lemmas.Option.{slice_get_past, slice_get_read}
 use Rattle.wire_core.specs.declared.names.PoolRow.{PoolRow}
@@ -11,14 +11,13 @@ use Rattle.wire_core.specs.Queues.{Queue, Happens, end_at, is_pending}
 use Rattle.wire_core.specs.Journal.{History, Hostiles, MayCall, EachMoment, EachFrom, LegalEntry, owner_of}
 use Rattle.wire_core.proofs.Tracks.{EachFrom-append}
 use Rattle.wire_core.proofs.Places.{slice_get_written}
-use Rattle.std.proofs.Math.Dec.{eqb}
 use Rattle.wire_core.specs.Marks.{no_drops, since, since_from, calls_at, AreFew, Brisk}
 use Rattle.turn_kit.specs.Turns.{is_at_rest}
 use Rattle.turn_kit.specs.Pace.{pendings, IsCalled}
 use Rattle.turn_kit.proofs.Playing.{pace_few}
 use Rattle.play_core.specs.Moved.{moved}
 use Rattle.play_core.specs.Wants.{Want, Needful, all_settled}
-use Rattle.play_core.specs.Sheets.{Scene, AreSeated, needful, RowsHold}
+use Rattle.play_core.specs.Sheets.{Scene, needful, RowsHold}
 use Rattle.play_core.specs.Runs.{called_from, is_runnable, flags_from, places_from, runnable, reach_of, reaches}
 use Rattle.play_core.proofs.Lists.{some_is, map_get, there_is}
 use Rattle.play_core.proofs.Flags.{differs_at, differs_twice, flag_at, flags_length, reach_owns}
@@ -45,7 +44,7 @@ use Rattle.system_core.proofs.Fitting.{fitted_place}
 use Rattle.system_core.proofs.Telling.{plain_runs, rows_told, runs_plain}
 use Rattle.wire_core.proofs.Sinces.{eqb_apart, eqb_refl}
 use Rattle.wire_core.specs.declared.names.Op.{Op}
-use Rattle.player_kit.proofs.Places.{places_kept, places_clear, places_so, places_below, places_few}
+use Rattle.player_kit.proofs.Places.{places_kept, places_so, places_below, places_few}
 use Rattle.player_kit.proofs.Listing.{not_not, get_case, cleared}
 
 -- the wants and the flags of a cast

@@ -1,23 +1,18 @@
-use Rattle.std.proofs.Common.{◌≡◌, ◌≢◌, ◌⊎◌, ◌==◌, ◌<◌, ℕ, Bool, true, false, Some, None, List, [], ◌∷◌, ◌++◌, length, length-set, slice_get, slice_set, get_or, get_or-set_same, get_or-set_other, drop, append_assoc, refl, sym, ◌∙◌, subst, ap, inl, inr, map, zero, suc}
-use Rattle.std.specs.Option.{option_to_list}
-use Rattle.std.proofs.lemmas.List.{append-nil, map-append}
+use Rattle.std.proofs.Common.{◌≡◌, ◌≢◌, ◌⊎◌, ◌==◌, ◌<◌, ℕ, true, false, Some, List, [], ◌∷◌, ◌++◌, length, length-set, slice_get, slice_set, get_or, get_or-set_same, get_or-set_other, refl, sym, ◌∙◌, subst, ap, inl, inr, map, zero, suc}
+use Rattle.std.proofs.lemmas.List.{append-nil}
 use Rattle.std.proofs.lemmas.Option.{slice_get-get_or}
 use Rattle.std.proofs.Math.Dec.{eqb}
 use Rattle.std.proofs.lemmas.Bool.Decides.{eqb_tells}
 use Rattle.cargo_core.specs.Items.{kind_of}
-use Rattle.cargo_core.specs.declared.item.Item.{Item}
-use Rattle.cargo_core.specs.declared.item.QueueKind.TheVariants as Kind
 use Rattle.wire_core.specs.declared.names.PoolRow.{PoolRow}
 use Rattle.wire_core.specs.declared.names.QueueRow.{QueueRow}
 use Rattle.wire_core.specs.declared.names.Event.{Event}
 use Rattle.wire_core.specs.declared.names.Entry.{Entry}
-use Rattle.wire_core.specs.declared.names.Op.{Op}
-use Rattle.wire_core.specs.declared.names.Op.TheVariants as Do
 use Rattle.wire_core.specs.Deeds.{Deed, Cargo, cargo_of}
 use Rattle.wire_core.specs.Ends.{Role, Consumer, Producer, Moves, role_of}
-use Rattle.wire_core.specs.Lists.{Passed, Stepped, with_deed, if_there, if_taken, if_put}
-use Rattle.wire_core.specs.Queues.{Queue, Happens, Carries, queue_at, no_queue, end_at, items_of, entries_after, after, is_store}
-use Rattle.wire_core.specs.Journal.{Track, track, track_after, sent_after, taken_after, History, Hostiles, history_at, if_on, IsShown, LegalEntry, LegalJournal, owner_of, is_calm}
+use Rattle.wire_core.specs.Lists.{Passed, Stepped, with_deed, if_there, if_put}
+use Rattle.wire_core.specs.Queues.{Queue, Happens, queue_at, no_queue, end_at, items_of, after, is_store}
+use Rattle.wire_core.specs.Journal.{track, track_after, History, Hostiles, history_at, if_on, IsShown, LegalEntry, LegalJournal, owner_of, is_calm}
 use Rattle.wire_core.proofs.Moving.{moves}
 use Rattle.wire_core.proofs.Places.{slice_get_written, slice_get_beside}
 use Rattle.wire_core.proofs.Beside.{take_beside, put_beside}

@@ -1,9 +1,9 @@
 -- A system that takes over what actors left which were at work in threads: what it came from, what
 -- it keeps of that, and what is said of the moment at which its journal begins.
-use Rattle.std.specs.Prelude.{◌≡◌, ◌==◌, ◌+◌, ◌<◌, ◌≤◌, ◌⊎◌, if◌then◌else◌, ℕ, Bool, true, Option}
+use Rattle.std.specs.Prelude.{◌≡◌, ◌==◌, ◌+◌, ◌<◌, ◌≤◌, if◌then◌else◌, ℕ, Bool, true, Option}
 use Rattle.std.specs.Prelude.{Some, None, List, [], length, map, slice_get}
 use Rattle.wire_core.specs.declared.names.QueueRow.{QueueRow}
-use Rattle.wire_core.specs.Ends.{Role, Consumer, Producer}
+use Rattle.wire_core.specs.Ends.{Consumer, Producer}
 use Rattle.wire_core.specs.Journal.{Track, history_at}
 use Rattle.wire_core.specs.Marks.{sum_below}
 use Rattle.spsc_queue.specs.Known.Ends.{EndIs, RingIs}

@@ -1,6 +1,6 @@
 -- The buffers of a plan have their owners, and what a report says of its pools is what the table of
 -- owners says.
-use Rattle.std.proofs.Common.{◌≡◌, ◌+◌, ◌<◌, ◌≤◌, ℕ, zero, suc, Some, List, [], ◌∷◌, length, slice_get, refl, sym, ap, ◌∙◌, subst, arith}
+use Rattle.std.proofs.Common.{◌≡◌, ◌+◌, ℕ, zero, suc, Some, List, [], ◌∷◌, slice_get, refl, sym, ap, ◌∙◌, subst, arith}
 use Rattle.wire_core.specs.declared.names.PoolRow.{PoolRow}
 use Rattle.cargo_core.specs.declared.census.Census.{Census}
 use Rattle.play_core.specs.Sheets.{AreSeated}

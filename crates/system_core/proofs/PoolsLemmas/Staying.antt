@@ -1,11 +1,11 @@
 -- A buffer that has a place has one at each moment.
-use Rattle.std.proofs.Common.{◌<◌, ℕ, suc, List, ap, arith}
+use Rattle.std.proofs.Common.{ℕ, suc, List, ap, arith}
 use Rattle.wire_core.specs.declared.names.Entry.{Entry}
 use Rattle.wire_core.specs.Bells.{bit}
 use Rattle.wire_core.specs.Journal.{History, EachMoment}
 use Rattle.play_core.proofs.Moments.{each_moment}
 use Rattle.owner_law.specs.Things.{Naming}
-use Rattle.owner_law.specs.Owners.{Place, Nowhere, Table, replay}
+use Rattle.owner_law.specs.Owners.{Place, Table, replay}
 use Rattle.owner_law.specs.Census.{IsPool, is_queued, is_held, is_lent}
 use Rattle.owner_law.proofs.Counting.{census_whole}
 

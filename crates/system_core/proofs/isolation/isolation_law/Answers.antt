@@ -1,4 +1,4 @@
-use Rattle.std.proofs.Common.{◌≡◌, ◌<◌, ℕ, List, length, sym, subst}
+use Rattle.std.proofs.Common.{◌<◌, List, length, sym, subst}
 use Rattle.frame_core.specs.declared.mac.Mac.{Mac}
 use Rattle.cargo_core.specs.declared.item.Ask.{Ask}
 use Rattle.trace_text.specs.Events.{serial_clients}

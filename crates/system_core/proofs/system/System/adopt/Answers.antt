@@ -1,14 +1,12 @@
-use Rattle.std.proofs.Common.{◌∙◌, ◌≡◌, ◌<◌, ℕ, sym, ap, subst, length, List, map}
+use Rattle.std.proofs.Common.{◌∙◌, ◌<◌, ℕ, sym, ap, subst, List, map}
 use Rattle.std.specs.List.{AllZip}
 use Rattle.std.proofs.lemmas.List.{length-map}
 use Rattle.std.proofs.lemmas.Result.{IfOk-weaker}
 use Rattle.wire_core.specs.declared.names.QueueRow.{QueueRow}
 use Rattle.wire_core.specs.Journal.{owner_of}
-use Rattle.wire_core.specs.Sizes.{AreSized}
 use Rattle.plain_wires.specs.Adopted.{IsEndedOf, all_adopted}
 use Rattle.order_law.specs.ActorParts.Finished.{AreFinished}
 use Rattle.order_law.specs.ActorParts.Given.{apart_of}
-use Rattle.order_law.specs.ActorParts.Parting.{AreApart}
 use Rattle.system_core.proofs.Built.{layout_queues, layout_pools}
 use Rattle.system_core.proofs.Adopting.{parts_apart, parts_people, parts_sized, parts_ended, parts_go, parts_adopted}
 use Rattle.system_core.proofs.Together.{both_ok, adopted_cast}

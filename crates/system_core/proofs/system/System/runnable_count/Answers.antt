@@ -1,4 +1,4 @@
-use Rattle.std.proofs.Common.{◌≡◌, ◌∙◌, ap, length, subst}
+use Rattle.std.proofs.Common.{◌∙◌, ap, length, subst}
 use Rattle.actor_set.specs.Laws.Kinds.{AllCalm}
 use Rattle.system_core.specs.Shows.{Shown}
 use Rattle.system_core.specs.Plays.{runnable_now}

@@ -1,6 +1,5 @@
 use Rattle.std.proofs.Common.{subst}
 use Rattle.system_core.specs.Lawful.{StandsLawful}
-use Rattle.system_core.specs.PlanPlays.{IsOfItsPlan}
 use Rattle.system_core.proofs.Hearing.{stands_lawful}
 use Rattle.system_core.proofs.Together.{of_plan}
 use Rattle.system_core.proofs.system.System.stand.Goals as goal
