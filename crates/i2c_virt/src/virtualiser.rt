@@ -1,5 +1,5 @@
 //! The virtualiser of the bus itself: the ends that it steps, and whose turn it is.
-ghost use Rattle.std.specs.Prelude.{◌≡◌, ◌==◌, ◌↔◌, ◌+◌, ◌<◌, ◌^◌, ◌++◌, ℕ, [], IfOk, IsSome};
+ghost use Rattle.std.specs.Prelude.{◌≡◌, ◌==◌, ◌↔◌, ◌+◌, ◌<◌, ◌^◌, ◌++◌, ◌&&◌, ℕ, [], IfOk, IsSome};
 ghost use Rattle.std.specs.Prelude.{is_none, is_some, length, replicate, slice_get, Some, None};
 ghost use Rattle.std.specs.Prelude.{true, false};
 ghost use Rattle.std.specs.Option.{ForSome, option_to_list};
@@ -11,7 +11,10 @@ ghost use Rattle.wire_core.specs.Lists.{Passed, Stepped, nothing_passed, taken_b
 ghost use Rattle.wire_core.specs.Lists.{if_there};
 ghost use Rattle.wire_core.specs.Marks.{is_mark};
 ghost use Rattle.turn_kit.specs.Turns.{Turned, PostedAt, choice_of, chosen_place, last_after};
-ghost use Rattle.turn_kit.specs.Turns.{is_at_rest};
+ghost use Rattle.turn_kit.specs.Turns.{is_at_rest, settled_all, unsettled_from};
+ghost use Rattle.turn_kit.specs.Table.{is_settled};
+ghost use Rattle.turn_kit.specs.Lowests.{found};
+ghost use Rattle.turn_kit.specs.ManyEnds.{intake_posts, outlet_posts, needs_from};
 ghost use Rattle.buffer_kit.specs.Virtualising.{FitsVirt, SameVirt, from_queues, to_queues};
 ghost use Rattle.buffer_kit.specs.Virtualising.{virt_posts, place_of, IsThere, need_of};
 ghost use Rattle.i2c_virt.specs.declared.virtualiser.I2cVirt.{I2cVirt};
@@ -24,6 +27,7 @@ use crate::{Desk, Giving, Owners, Wanting, Work};
 use buffer_kit::{NetCargo, VirtEnd, VirtEnds};
 use cargo_core::{Body, Item, Memory};
 use std::alloc::Global;
+use turn_kit::Lowest;
 use wire_core::{Event, Op, QueueId, Wires};
 
 /// The virtualiser of the bus. It answers claims and the transfers at addresses that their client
@@ -147,6 +151,22 @@ fn step_to<W: Wires>(
     ends.to_clients.step(wires, place, load)
 }
 
+// The end at a place.
+fn end_at(ends: &VirtEnds, place: usize) -> VirtEnd
+    requires few { length (from_queues ends.now) < 2 ^ 32 }
+    requires within { place < 2 + length (from_queues ends.now) + length (to_queues ends.now) }
+    ensures place { place_of ends.now result ≡ place }
+    ensures there { IsThere ends.now result }
+{
+    let clients = ends.from_clients.len();
+    match place {
+        0 => VirtEnd::Input,
+        1 => VirtEnd::Output,
+        _ if place < 2 + clients => VirtEnd::FromClient(place - 2),
+        _ => VirtEnd::ToClient(place - 2 - clients),
+    }
+}
+
 impl I2cVirt {
     /// A virtualiser in its start state: no address is granted. Requests go to `req`, and responses
     /// come at `resp`. Client k puts its requests to queue k of `reqs`, and gets its answers at
@@ -183,11 +203,27 @@ impl I2cVirt {
     pub fn at_rest(&self) -> bool
         ensures { result ≡ is_at_rest (i2c_virt_round self.now) }
     {
-        let free = self.work.stray.is_none();
-        let owes = self.is_owing();
+        let input = self.ends.input.settled(self.work.stray.is_none());
+        input && self.is_driver_served() && self.are_clients_served()
+    }
+
+    // Whether the end where requests go to the driver is settled.
+    fn is_driver_served(&self) -> bool
+        ensures { result ≡ is_settled self.now.ends.output.state (is_owing self.now.work) }
+    {
+        self.ends.output.settled(self.is_owing())
+    }
+
+    // Whether all ends of the clients are settled.
+    fn are_clients_served(&self) -> bool
+        ensures { result ≡ (settled_all (intake_posts self.now.ends.from_clients)
+            (needs_from (wants_at self.now.work) 0 (from_queues self.now.ends))
+            && settled_all (outlet_posts self.now.ends.to_clients)
+            (needs_from (gives_at self.now.work) 0 (to_queues self.now.ends))) }
+    {
         let wanting = Wanting { work: &self.work };
         let giving = Giving { work: &self.work };
-        self.ends.settled(free, owes, &wanting, &giving)
+        self.ends.from_clients.settled(&wanting) && self.ends.to_clients.settled(&giving)
     }
 
     // The next call where responses come.
@@ -281,8 +317,28 @@ impl I2cVirt {
         step_to(&mut self.ends, wires, place, &mut desk.held)
     }
 
-    // The end that is stepped now.
-    fn choose(&mut self) -> VirtEnd
+    // The lowest of the ends that aren't settled.
+    fn unsettled(&self) -> Lowest
+        requires from_clients { length (from_queues self.now.ends) < 2 ^ 32 }
+        requires to_clients { length (to_queues self.now.ends) < 2 ^ 32 }
+        ensures { found result ≡ unsettled_from None 0 (i2c_virt_round self.now).posts
+            (i2c_virt_round self.now).needs }
+    {
+        let ends = &self.ends;
+        let input = ends.input.settled(self.work.stray.is_none());
+        let output = self.is_driver_served();
+        let lowest = Lowest::none()
+            .unless_settled(0, ends.input.queue, input)
+            .unless_settled(1, ends.output.queue, output);
+        let wanting = Wanting { work: &self.work };
+        let lowest = ends.from_clients.unsettled(lowest, 2, &wanting);
+        let giving = Giving { work: &self.work };
+        ends.to_clients
+            .unsettled(lowest, 2 + ends.from_clients.len(), &giving)
+    }
+
+    // The end that is chosen of all.
+    fn choose_of_all(&mut self) -> VirtEnd
         requires from_clients { length (from_queues self.old.ends) < 2 ^ 32 }
         requires to_clients { length (to_queues self.old.ends) < 2 ^ 32 }
         ensures place { place_of self.old.ends result
@@ -299,6 +355,26 @@ impl I2cVirt {
         let wanting = Wanting { work: &self.work };
         let giving = Giving { work: &self.work };
         self.ends.choose(free, owes, &wanting, &giving)
+    }
+
+    // The end that is stepped now. The rotation is asked only where all are settled.
+    fn choose(&mut self) -> VirtEnd
+        requires from_clients { length (from_queues self.old.ends) < 2 ^ 32 }
+        requires to_clients { length (to_queues self.old.ends) < 2 ^ 32 }
+        ensures place { place_of self.old.ends result
+            ≡ chosen_place (choice_of (i2c_virt_round self.old)) }
+        ensures there { IsThere self.old.ends result }
+        ensures after { self.new ≡ record self.old {
+          ends = record self.old.ends {
+            turn = record { last = last_after (choice_of (i2c_virt_round self.old)) };
+          };
+        } }
+    {
+        let lowest = self.unsettled();
+        if let Some(end) = lowest.stand() {
+            return end_at(&self.ends, end.place);
+        }
+        self.choose_of_all()
     }
 
     // The next call at an end.
