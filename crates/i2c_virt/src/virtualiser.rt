@@ -1,5 +1,5 @@
 //! The virtualiser of the bus itself: the ends that it steps, and whose turn it is.
-ghost use Rattle.std.specs.Prelude.{◌≡◌, ◌==◌, ◌↔◌, ◌+◌, ◌<◌, ◌^◌, ◌++◌, ◌&&◌, ℕ, [], IfOk, IsSome};
+ghost use Rattle.std.specs.Prelude.{◌≡◌, ◌==◌, ◌↔◌, ◌+◌, ◌<◌, ◌^◌, ◌++◌, ℕ, [], IfOk, IsSome};
 ghost use Rattle.std.specs.Prelude.{is_none, is_some, length, replicate, slice_get, Some, None};
 ghost use Rattle.std.specs.Prelude.{true, false};
 ghost use Rattle.std.specs.Option.{ForSome, option_to_list};
@@ -11,31 +11,34 @@ ghost use Rattle.wire_core.specs.Lists.{Passed, Stepped, nothing_passed, taken_b
 ghost use Rattle.wire_core.specs.Lists.{if_there};
 ghost use Rattle.wire_core.specs.Marks.{is_mark};
 ghost use Rattle.turn_kit.specs.Turns.{Turned, PostedAt, choice_of, chosen_place, last_after};
-ghost use Rattle.turn_kit.specs.Turns.{is_at_rest, settled_all, unsettled_from};
+ghost use Rattle.turn_kit.specs.Turns.{is_at_rest, Post};
 ghost use Rattle.turn_kit.specs.Table.{is_settled};
 ghost use Rattle.turn_kit.specs.Lowests.{found};
-ghost use Rattle.turn_kit.specs.ManyEnds.{intake_posts, outlet_posts, needs_from};
 ghost use Rattle.buffer_kit.specs.Virtualising.{FitsVirt, SameVirt, from_queues, to_queues};
 ghost use Rattle.buffer_kit.specs.Virtualising.{virt_posts, place_of, IsThere, need_of};
 ghost use Rattle.i2c_virt.specs.declared.virtualiser.I2cVirt.{I2cVirt};
 ghost use Rattle.i2c_virt.specs.Desks.{new_desk};
 ghost use Rattle.i2c_virt.specs.Works.{IsWork, WorkIsStill, is_owing, wants_at, gives_at};
 ghost use Rattle.i2c_virt.specs.Virtualising.{FitsI2cVirt, I2cVirtStandsFor, VirtRow, SameI2cVirt};
-ghost use Rattle.i2c_virt.specs.Virtualising.{i2c_virt_round, IsNewI2cVirt};
+ghost use Rattle.i2c_virt.specs.Virtualising.{i2c_virt_round, IsNewI2cVirt, FitsEnds, KnowsLowest};
+ghost use Rattle.i2c_virt.specs.Virtualising.{lowest_of};
 
 use crate::{Desk, Giving, Owners, Wanting, Work};
 use buffer_kit::{NetCargo, VirtEnd, VirtEnds};
 use cargo_core::{Body, Item, Memory};
 use std::alloc::Global;
 use turn_kit::Lowest;
-use wire_core::{Event, Op, QueueId, Wires};
+use wire_core::{Answer, Event, Op, QueueId, Wires};
 
 /// The virtualiser of the bus. It answers claims and the transfers at addresses that their client
-/// hasn't, and hands the others on to the driver, of each client one at a time.
+/// hasn't, and hands the others on to the driver, of each client one at a time. `lowest` is the
+/// lowest of its ends that aren't settled. It is kept up to date, so that only a step that changes
+/// what is needed, or whether its end is settled, looks at all ends.
 #[derive(Drop)]
 pub struct I2cVirt {
     pub ends: VirtEnds,
     pub work: Work,
+    pub lowest: Lowest,
 }
 
 // So many clients of which nothing came.
@@ -151,6 +154,17 @@ fn step_to<W: Wires>(
     ends.to_clients.step(wires, place, load)
 }
 
+// Whether a call is one after which its actor may need something else.
+fn is_mark(op: Op, answer: Answer) -> bool
+    ensures { result ≡ is_mark op answer }
+{
+    match op {
+        Op::Take | Op::Put => true,
+        Op::Wake(_) => answer == Answer::Yes,
+        _ => false,
+    }
+}
+
 // The end at a place.
 fn end_at(ends: &VirtEnds, place: usize) -> VirtEnd
     requires few { length (from_queues ends.now) < 2 ^ 32 }
@@ -179,6 +193,7 @@ impl I2cVirt {
         resps: &[QueueId],
     ) -> Result<I2cVirt, Memory>
         requires few { length reqs.now < 2 ^ 16 }
+        requires answered { length resps.now < 2 ^ 16 }
         ensures new { IfOk result (λ v. IsNewI2cVirt req resp reqs.now resps.now v) }
         ensures work { IfOk result (λ v. IsWork v.work) }
         ensures stands { IfOk result (λ v. I2cVirtStandsFor v nothing_passed) }
@@ -189,7 +204,13 @@ impl I2cVirt {
             desks: new_desks(alloc, reqs.len())?,
             stray: None,
         };
-        Ok(I2cVirt { ends, work })
+        let mut virt = I2cVirt {
+            ends,
+            work,
+            lowest: Lowest::none(),
+        };
+        virt.lowest = virt.unsettled();
+        Ok(virt)
     }
 
     // Whether a request is to go to the driver.
@@ -201,10 +222,10 @@ impl I2cVirt {
 
     /// Whether nothing is to be done before a notification comes.
     pub fn at_rest(&self) -> bool
+        requires { KnowsLowest self.now }
         ensures { result ≡ is_at_rest (i2c_virt_round self.now) }
     {
-        let input = self.ends.input.settled(self.work.stray.is_none());
-        input && self.is_driver_served() && self.are_clients_served()
+        self.lowest.stand().is_none()
     }
 
     // Whether the end where requests go to the driver is settled.
@@ -214,22 +235,10 @@ impl I2cVirt {
         self.ends.output.settled(self.is_owing())
     }
 
-    // Whether all ends of the clients are settled.
-    fn are_clients_served(&self) -> bool
-        ensures { result ≡ (settled_all (intake_posts self.now.ends.from_clients)
-            (needs_from (wants_at self.now.work) 0 (from_queues self.now.ends))
-            && settled_all (outlet_posts self.now.ends.to_clients)
-            (needs_from (gives_at self.now.work) 0 (to_queues self.now.ends))) }
-    {
-        let wanting = Wanting { work: &self.work };
-        let giving = Giving { work: &self.work };
-        self.ends.from_clients.settled(&wanting) && self.ends.to_clients.settled(&giving)
-    }
-
     // The next call where responses come.
     fn step_response<W: Wires>(&mut self, wires: &mut W) -> Event
-        requires { FitsI2cVirt (W.ends wires.old) self.old }
-        ensures fits { FitsI2cVirt (W.ends wires.new) self.new }
+        requires { FitsEnds (W.ends wires.old) self.old }
+        ensures fits { FitsEnds (W.ends wires.new) self.new }
         ensures same { SameI2cVirt self.old self.new }
         ensures stepped { Stepped I2cVirtStandsFor W.did wires.old wires.new
             self.old self.new result }
@@ -238,6 +247,7 @@ impl I2cVirt {
         ensures still { is_mark result.op result.answer ≡ false
             → WorkIsStill self.old.work self.new.work }
         ensures turn { self.new.ends.turn ≡ self.old.ends.turn }
+        ensures lowest { self.new.lowest ≡ self.old.lowest }
     {
         let free = self.work.stray.is_none();
         let (event, got) = step_input(&mut self.ends, wires, free);
@@ -249,9 +259,9 @@ impl I2cVirt {
 
     // The next call where requests of the client at a place come.
     fn step_request<W: Wires>(&mut self, wires: &mut W, place: usize) -> Event
-        requires fits { FitsI2cVirt (W.ends wires.old) self.old }
+        requires fits { FitsEnds (W.ends wires.old) self.old }
         requires there { place < length (from_queues self.old.ends) }
-        ensures fits { FitsI2cVirt (W.ends wires.new) self.new }
+        ensures fits { FitsEnds (W.ends wires.new) self.new }
         ensures same { SameI2cVirt self.old self.new }
         ensures stepped { Stepped I2cVirtStandsFor W.did wires.old wires.new
             self.old self.new result }
@@ -260,6 +270,7 @@ impl I2cVirt {
         ensures still { is_mark result.op result.answer ≡ false
             → WorkIsStill self.old.work self.new.work }
         ensures turn { self.new.ends.turn ≡ self.old.ends.turn }
+        ensures lowest { self.new.lowest ≡ self.old.lowest }
     {
         let wants = self.work.wants(place);
         let (event, got) = step_from(&mut self.ends, wires, place, wants);
@@ -271,8 +282,8 @@ impl I2cVirt {
 
     // The next call where requests go to the driver.
     fn step_driver<W: Wires>(&mut self, wires: &mut W) -> Event
-        requires { FitsI2cVirt (W.ends wires.old) self.old }
-        ensures fits { FitsI2cVirt (W.ends wires.new) self.new }
+        requires { FitsEnds (W.ends wires.old) self.old }
+        ensures fits { FitsEnds (W.ends wires.new) self.new }
         ensures same { SameI2cVirt self.old self.new }
         ensures stepped { Stepped I2cVirtStandsFor W.did wires.old wires.new
             self.old self.new result }
@@ -281,6 +292,7 @@ impl I2cVirt {
         ensures still { is_mark result.op result.answer ≡ false
             → WorkIsStill self.old.work self.new.work }
         ensures turn { self.new.ends.turn ≡ self.old.ends.turn }
+        ensures lowest { self.new.lowest ≡ self.old.lowest }
     {
         match self.work.leaver() {
             None => {
@@ -296,9 +308,9 @@ impl I2cVirt {
 
     // The next call where answers go to the client at a place.
     fn step_answer<W: Wires>(&mut self, wires: &mut W, place: usize) -> Event
-        requires fits { FitsI2cVirt (W.ends wires.old) self.old }
+        requires fits { FitsEnds (W.ends wires.old) self.old }
         requires there { place < length (to_queues self.old.ends) }
-        ensures fits { FitsI2cVirt (W.ends wires.new) self.new }
+        ensures fits { FitsEnds (W.ends wires.new) self.new }
         ensures same { SameI2cVirt self.old self.new }
         ensures stepped { Stepped I2cVirtStandsFor W.did wires.old wires.new
             self.old self.new result }
@@ -308,6 +320,7 @@ impl I2cVirt {
         ensures still { is_mark result.op result.answer ≡ false
             → WorkIsStill self.old.work self.new.work }
         ensures turn { self.new.ends.turn ≡ self.old.ends.turn }
+        ensures lowest { self.new.lowest ≡ self.old.lowest }
     {
         if !self.work.gives(place) {
             let mut nothing = None;
@@ -321,8 +334,7 @@ impl I2cVirt {
     fn unsettled(&self) -> Lowest
         requires from_clients { length (from_queues self.now.ends) < 2 ^ 32 }
         requires to_clients { length (to_queues self.now.ends) < 2 ^ 32 }
-        ensures { found result ≡ unsettled_from None 0 (i2c_virt_round self.now).posts
-            (i2c_virt_round self.now).needs }
+        ensures { found result ≡ lowest_of self.now }
     {
         let ends = &self.ends;
         let input = ends.input.settled(self.work.stray.is_none());
@@ -337,10 +349,11 @@ impl I2cVirt {
             .unsettled(lowest, 2 + ends.from_clients.len(), &giving)
     }
 
-    // The end that is chosen of all.
-    fn choose_of_all(&mut self) -> VirtEnd
+    // The end that is stepped where all are settled: what is needed doesn't matter then.
+    fn choose_next(&mut self) -> VirtEnd
         requires from_clients { length (from_queues self.old.ends) < 2 ^ 32 }
         requires to_clients { length (to_queues self.old.ends) < 2 ^ 32 }
+        requires rests { is_at_rest (i2c_virt_round self.old) ≡ true }
         ensures place { place_of self.old.ends result
             ≡ chosen_place (choice_of (i2c_virt_round self.old)) }
         ensures there { IsThere self.old.ends result }
@@ -350,15 +363,12 @@ impl I2cVirt {
           };
         } }
     {
-        let free = self.work.stray.is_none();
-        let owes = self.is_owing();
-        let wanting = Wanting { work: &self.work };
-        let giving = Giving { work: &self.work };
-        self.ends.choose(free, owes, &wanting, &giving)
+        self.ends.choose(false, false, &false, &false)
     }
 
     // The end that is stepped now. The rotation is asked only where all are settled.
     fn choose(&mut self) -> VirtEnd
+        requires knows { KnowsLowest self.old }
         requires from_clients { length (from_queues self.old.ends) < 2 ^ 32 }
         requires to_clients { length (to_queues self.old.ends) < 2 ^ 32 }
         ensures place { place_of self.old.ends result
@@ -370,18 +380,70 @@ impl I2cVirt {
           };
         } }
     {
-        let lowest = self.unsettled();
-        if let Some(end) = lowest.stand() {
-            return end_at(&self.ends, end.place);
+        match self.lowest.stand() {
+            Some(end) => end_at(&self.ends, end.place),
+            None => self.choose_next(),
         }
-        self.choose_of_all()
+    }
+
+    // Whether an end is settled.
+    fn is_settled_at(&self, at: VirtEnd) -> bool
+        requires { IsThere self.now.ends at }
+        ensures { (p : Post) → slice_get (virt_posts self.now.ends) (place_of self.now.ends at)
+            ≡ Some p → result ≡ is_settled p.state (need_of (is_none self.now.work.stray)
+            (is_owing self.now.work) (wants_at self.now.work) (gives_at self.now.work) at) }
+    {
+        match at {
+            VirtEnd::Input => self.ends.input.settled(self.work.stray.is_none()),
+            VirtEnd::Output => self.is_driver_served(),
+            VirtEnd::FromClient(place) => {
+                let end = &self.ends.from_clients.ends[place];
+                end.settled(self.work.wants(place))
+            }
+            VirtEnd::ToClient(place) => {
+                let end = &self.ends.to_clients.ends[place];
+                end.settled(self.work.gives(place))
+            }
+        }
+    }
+
+    // Whether a call at an end left what is needed, and whether that end is settled.
+    fn is_same_at(&self, at: VirtEnd, settled: bool, event: &Event) -> bool
+        requires { IsThere self.now.ends at }
+        ensures mark { result ≡ true → is_mark event.now.op event.now.answer ≡ false }
+        ensures settled { result ≡ true → (p : Post) → slice_get (virt_posts self.now.ends)
+            (place_of self.now.ends at) ≡ Some p → settled ≡ is_settled p.state (need_of
+            (is_none self.now.work.stray) (is_owing self.now.work) (wants_at self.now.work)
+            (gives_at self.now.work) at) }
+    {
+        if is_mark(event.op, event.answer) {
+            return false;
+        }
+        if self.is_settled_at(at) {
+            settled
+        } else {
+            !settled
+        }
+    }
+
+    // Looks for the lowest end again, unless it is the same.
+    fn look(&mut self, same: bool)
+        requires from_clients { length (from_queues self.old.ends) < 2 ^ 32 }
+        requires to_clients { length (to_queues self.old.ends) < 2 ^ 32 }
+        requires same { same ≡ true → KnowsLowest self.old }
+        ensures knows { KnowsLowest self.new }
+        ensures others { self.new ≡ record self.old { lowest = self.new.lowest } }
+    {
+        if !same {
+            self.lowest = self.unsettled();
+        }
     }
 
     // The next call at an end.
     fn step_at<W: Wires>(&mut self, wires: &mut W, at: VirtEnd) -> Event
-        requires fits { FitsI2cVirt (W.ends wires.old) self.old }
+        requires fits { FitsEnds (W.ends wires.old) self.old }
         requires there { IsThere self.old.ends at }
-        ensures fits { FitsI2cVirt (W.ends wires.new) self.new }
+        ensures fits { FitsEnds (W.ends wires.new) self.new }
         ensures same { SameI2cVirt self.old self.new }
         ensures stepped { Stepped I2cVirtStandsFor W.did wires.old wires.new
             self.old self.new result }
@@ -391,6 +453,7 @@ impl I2cVirt {
         ensures still { is_mark result.op result.answer ≡ false
             → WorkIsStill self.old.work self.new.work }
         ensures turn { self.new.ends.turn ≡ self.old.ends.turn }
+        ensures lowest { self.new.lowest ≡ self.old.lowest }
     {
         match at {
             VirtEnd::Input => self.step_response(wires),
@@ -410,7 +473,11 @@ impl I2cVirt {
         ensures turned { Turned (i2c_virt_round self.old) result (i2c_virt_round self.new) }
     {
         let at = self.choose();
-        self.step_at(wires, at)
+        let settled = self.is_settled_at(at);
+        let event = self.step_at(wires, at);
+        let same = self.is_same_at(at, settled, &event);
+        self.look(same);
+        event
     }
 }
 
