@@ -1,5 +1,5 @@
 -- The end that is stepped where some end isn't settled: the lowest of these.
-use Rattle.std.proofs.Common.{◌≡◌, ◌+◌, ◌<◌, ◌&&◌, ◌^◌, ℕ, zero, suc, Bool, true, false, not, cond, nat_lt, Option, Some, None, is_none, List, [], ◌∷◌, ◌++◌, length, slice_get, slice_set, slice_index_or, refl, sym, ap, ◌∙◌, subst, add-zero, zero-add, arith}
+use Rattle.std.proofs.Common.{◌≡◌, ◌+◌, ◌<◌, ◌&&◌, ◌^◌, ℕ, zero, suc, Bool, true, false, not, cond, nat_lt, Option, Some, None, is_none, is_some, List, [], ◌∷◌, ◌++◌, length, slice_get, slice_set, slice_index_or, refl, sym, ap, ◌∙◌, subst, add-zero, zero-add, arith}
 use Rattle.std.proofs.lemmas.List.{length-map, length-append}
 use Rattle.std.proofs.lemmas.Option.{slice_get-get_or}
 use Rattle.wire_core.specs.declared.names.Event.{Event}
@@ -12,14 +12,14 @@ use Rattle.turn_kit.specs.declared.turns.Stand.{Stand}
 use Rattle.turn_kit.specs.declared.end_state.EndState.{EndState}
 use Rattle.turn_kit.specs.declared.ends.Intake.{Intake}
 use Rattle.turn_kit.specs.declared.ends.Outlet.{Outlet}
-use Rattle.turn_kit.proofs.Offers.{get_need}
+use Rattle.turn_kit.proofs.Offers.{get_need, get_map}
 use Rattle.buffer_kit.specs.declared.virt_ends.VirtEnd.{VirtEnd}
 use Rattle.buffer_kit.specs.declared.virt_ends.VirtEnd.TheVariants as At
 use Rattle.buffer_kit.specs.declared.virt_ends.VirtEnds.{VirtEnds}
 use Rattle.buffer_kit.specs.Virtualising.{SameVirt, IsNewVirt, IsThere, new_intake, new_outlet, from_queues, to_queues, virt_posts, virt_needs, virt_round, place_of, need_of}
 use Rattle.buffer_kit.proofs.ManyClients.{some_eq}
 use Rattle.buffer_kit.proofs.TwoLists.{needs_length, needs_same, get_front, get_behind}
-use Rattle.buffer_kit.proofs.VirtTurns.{two_on, two_past}
+use Rattle.buffer_kit.proofs.VirtTurns.{two_on}
 use Rattle.i2c_virt.specs.declared.virtualiser.I2cVirt.{I2cVirt}
 use Rattle.i2c_virt.specs.declared.work.Work.{Work}
 use Rattle.i2c_virt.specs.Works.{WorkIsStill, is_owing, wants_at, gives_at}
@@ -104,6 +104,12 @@ rest_step : (b : Bool) (place : ℕ) (y : Stand) (ps : List Post) (ns : List Boo
 rest_step true place y ps ns h = h
 rest_step false place y ps ns h = sym (some_kept y place ps ns)
 
+pub none_by : {X : Type 0} (o : Option X) (b : Bool) → is_some o ≡ not b → b ≡ is_none o
+none_by None true h = refl
+none_by None false h = cc
+none_by (Some x) true h = cc
+none_by (Some x) false h = refl
+
 -- all ends are settled exactly where none is found that isn't
 pub rest_is : (place : ℕ) (ps : List Post) (ns : List Bool) → settled_all ps ns ≡ is_none (unsettled_from None place ps ns)
 rest_is place [] ns = refl
@@ -133,6 +139,9 @@ needs_still v w same h =
     ∙ (ap (λ l. is_none v.work.stray ∷ is_owing v.work ∷ (l ++ needs_from (gives_at w.work) 0 ts)) (needs_same (wants_at v.work) (wants_at w.work) 0 fs h.wants ∙ ap (needs_from (wants_at v.work) 0) same.from_clients)
     ∙ ap (λ l. is_none v.work.stray ∷ is_owing v.work ∷ (needs_from (wants_at v.work) 0 (from_queues v.ends) ++ l)) (needs_same (gives_at v.work) (gives_at w.work) 0 ts h.gives ∙ ap (needs_from (gives_at v.work) 0) same.to_clients)))
 
+two_past : (n k : ℕ) → 2 + n + k ≡ suc (suc (n + k))
+two_past n k = omega arith
+
 no_queue : QueueId
 no_queue = record { 0 = 0 }
 
@@ -148,6 +157,27 @@ need_there v need owed needs loads (At.ToClient k) there =
     ap (slice_get (virt_needs v need owed needs loads)) (two_past (length (from_queues v)) k)
     ∙ (ap (λ n. slice_get (needs_from needs 0 (from_queues v) ++ needs_from loads 0 (to_queues v)) (n + k)) (sym long) ∙ (get_behind (needs_from needs 0 (from_queues v)) (needs_from loads 0 (to_queues v)) k
     ∙ (get_need loads 0 (to_queues v) k (slice_index_or (to_queues v) k no_queue) (slice_get-get_or (to_queues v) k no_queue there) ∙ ap (λ n. Some (loads n)) (zero-add k))))
+
+-- what stands at the place of a client's end
+
+from_post : (v : VirtEnds) (k : ℕ) (i : Intake) (p : Post) → slice_get v.from_clients.ends.items k ≡ Some i → slice_get (virt_posts v) (2 + k) ≡ Some p → intake_post i ≡ p
+from_post v k i p at h = some_eq (sym (ap (slice_get (virt_posts v)) (two_on k) ∙ get_front (intake_posts v.from_clients) (outlet_posts v.to_clients) k (intake_post i) (get_map intake_post v.from_clients.ends.items k i at)) ∙ h)
+
+to_post : (v : VirtEnds) (k : ℕ) (o : Outlet) (p : Post) → slice_get v.to_clients.ends.items k ≡ Some o → slice_get (virt_posts v) (2 + length (from_queues v) + k) ≡ Some p → outlet_post o ≡ p
+to_post v k o p at h =
+    let long = from_long v in
+    some_eq (sym (ap (slice_get (virt_posts v)) (two_past (length (from_queues v)) k) ∙ (ap (λ n. slice_get (intake_posts v.from_clients ++ outlet_posts v.to_clients) (n + k)) (sym long) ∙ (get_behind (intake_posts v.from_clients) (outlet_posts v.to_clients) k ∙ get_map outlet_post v.to_clients.ends.items k o at))) ∙ h)
+
+-- whether it is settled
+
+abbrev pub IsSettledAt : I2cVirt → VirtEnd → Bool → Type 0
+IsSettledAt v at b = (p : Post) → slice_get (virt_posts v.ends) (place_of v.ends at) ≡ Some p → b ≡ is_settled p.state (need_of (is_none v.work.stray) (is_owing v.work) (wants_at v.work) (gives_at v.work) at)
+
+pub from_settled : (v : I2cVirt) (at : VirtEnd) (k : ℕ) (i : Intake) (b w : Bool) → at ≡ At.FromClient k → slice_get v.ends.from_clients.ends.items k ≡ Some i → w ≡ wants_at v.work k → b ≡ is_settled i.state w → IsSettledAt v at b
+from_settled v at k i b w is there wants settled = subst (λ (a : VirtEnd). IsSettledAt v a b) (sym is) (λ p h. settled ∙ (ap (λ (q : Post). is_settled q.state w) (from_post v.ends k i p there h) ∙ ap (is_settled p.state) wants))
+
+pub to_settled : (v : I2cVirt) (at : VirtEnd) (k : ℕ) (o : Outlet) (b g : Bool) → at ≡ At.ToClient k → slice_get v.ends.to_clients.ends.items k ≡ Some o → g ≡ gives_at v.work k → b ≡ is_settled o.state g → IsSettledAt v at b
+to_settled v at k o b g is there gives settled = subst (λ (a : VirtEnd). IsSettledAt v a b) (sym is) (λ p h. settled ∙ (ap (λ (q : Post). is_settled q.state g) (to_post v.ends k o p there h) ∙ ap (is_settled p.state) gives))
 
 -- where a client's end stands, and what is needed there, is the same
 same_place : (v w : VirtEnds) → SameVirt v w → (at : VirtEnd) → place_of w at ≡ place_of v at
@@ -185,7 +215,7 @@ module _ (v w : I2cVirt) (same : SameVirt v.ends w.ends) (still : WorkIsStill v.
 
 -- where all are settled, what is needed doesn't matter
 
-are_false : List Bool → Type 0
+abbrev are_false : List Bool → Type 0
 are_false [] = Unit {0}
 are_false (b ∷ bs) = (b ≡ false) × are_false bs
 

@@ -4,11 +4,11 @@ use Rattle.i2c_virt.specs.Virtualising.{i2c_virt_round}
 use Rattle.i2c_virt.proofs.Lowest.{within_ends, rest_is}
 use Rattle.i2c_virt.proofs.virtualiser.I2cVirt.choose.Goals as goal
 
-pub end_at-requires-in-Some-clause-within : goal.end_at-requires-in-Some-clause-within
-end_at-requires-in-Some-clause-within c = within_ends c.args.self.now.ends c.in-Some.end.place (first_within (i2c_virt_round c.args.self.now) c.in-Some.end (sym (c.in-Some.ensures ∙ c.requires.knows)))
+pub end_at-requires-clause-within : goal.end_at-requires-clause-within
+end_at-requires-clause-within c = within_ends c.args.self.now.ends c.in-Some.end.place (first_within (i2c_virt_round c.args.self.now) c.in-Some.end (sym (c.in-Some.ensures ∙ c.requires.knows)))
 
-pub choose_next-requires-in-None-clause-rests : goal.choose_next-requires-in-None-clause-rests
-choose_next-requires-in-None-clause-rests c =
+pub choose_next-requires-clause-rests : goal.choose_next-requires-clause-rests
+choose_next-requires-clause-rests c =
     let r = i2c_virt_round c.args.self.now in
     rest_is 0 r.posts r.needs ∙ ap is_none (sym (c.in-None.ensures ∙ c.requires.knows))
 

@@ -1,5 +1,6 @@
 use Rattle.std.proofs.Common.{◌∙◌, sym, ap, subst}
 use Rattle.buffer_kit.specs.Virtualising.{IsThere}
+use Rattle.wire_core.specs.Lists.{with_deed}
 use Rattle.turn_kit.specs.Turns.{Turned}
 use Rattle.turn_kit.specs.Lowests.{found}
 use Rattle.turn_kit.specs.declared.turns.Lowest.{Lowest}
@@ -9,8 +10,8 @@ use Rattle.i2c_virt.proofs.Lowest.{lowest_kept}
 use Rattle.i2c_virt.proofs.Turning.{virt_turned, looked_fits, looked_same, turned_fits}
 use Rattle.i2c_virt.proofs.virtualiser.I2cVirt.step.Goals as goal
 
-pub step_at-requires-clause-fits : goal.step_at-requires-clause-fits
-step_at-requires-clause-fits g c = turned_fits _ c.args.self.now c.choose-at.new.self _ c.choose-at.ensures.after c.requires
+pub step_at-event-requires-clause-fits : goal.step_at-event-requires-clause-fits
+step_at-event-requires-clause-fits g c = turned_fits _ c.args.self.now c.choose-at.new.self _ c.choose-at.ensures.after c.requires
 
 pub look-requires-clause-same : goal.look-requires-clause-same
 look-requires-clause-same g c = λ same.
@@ -33,7 +34,7 @@ returns-clause-stepped g c =
     record {
       body = s.body;
       happened = s.happened;
-      kept = λ passed h. subst (λ (v : I2cVirt). I2cVirtStandsFor v _) (sym c.look.ensures.others) (s.kept passed (subst (λ (v : I2cVirt). I2cVirtStandsFor v passed) (sym c.choose-at.ensures.after) (record { work = h.work; log = h.log; back = h.back; stands = h.stands; order = h.order; requests = h.requests; responses = h.responses; out_of_turn = h.out_of_turn; waiting = h.waiting })));
+      kept = λ passed h. subst (λ (v : I2cVirt). I2cVirtStandsFor v (with_deed passed (record { event = c.step_at-event.result; body = s.body }))) (sym c.look.ensures.others) (s.kept passed (subst (λ (v : I2cVirt). I2cVirtStandsFor v passed) (sym c.choose-at.ensures.after) (record { work = h.work; log = h.log; back = h.back; stands = h.stands; order = h.order; requests = h.requests; responses = h.responses; out_of_turn = h.out_of_turn; waiting = h.waiting })));
     }
 
 pub returns-clause-turned : goal.returns-clause-turned
