@@ -168,6 +168,20 @@ to_post v k o p at h =
     let long = from_long v in
     some_eq (sym (ap (slice_get (virt_posts v)) (two_past (length (from_queues v)) k) ∙ (ap (λ n. slice_get (intake_posts v.from_clients ++ outlet_posts v.to_clients) (n + k)) (sym long) ∙ (get_behind (intake_posts v.from_clients) (outlet_posts v.to_clients) k ∙ get_map outlet_post v.to_clients.ends.items k o at))) ∙ h)
 
+-- it is one of theirs
+
+pub from_there : (v : VirtEnds) (at : VirtEnd) (k : ℕ) → at ≡ At.FromClient k → IsThere v at → k < length v.from_clients.ends.items
+from_there v at k is there =
+    let lt : k < length (from_queues v) = subst (λ (a : VirtEnd). IsThere v a) is there in
+    let long = length-map v.from_clients.ends.items (λ (i : Intake). i.queue) in
+    omega (arith, lt, long)
+
+pub to_there : (v : VirtEnds) (at : VirtEnd) (k : ℕ) → at ≡ At.ToClient k → IsThere v at → k < length v.to_clients.ends.items
+to_there v at k is there =
+    let lt : k < length (to_queues v) = subst (λ (a : VirtEnd). IsThere v a) is there in
+    let long = length-map v.to_clients.ends.items (λ (o : Outlet). o.queue) in
+    omega (arith, lt, long)
+
 -- whether it is settled
 
 abbrev pub IsSettledAt : I2cVirt → VirtEnd → Bool → Type 0
