@@ -1,5 +1,6 @@
 //! Buses and switches at play, by many seeds. Each line says in how many plays what it names was
-//! so; the texts are made here, and what must come of them is counted by plain programs.
+//! so; the texts are made here, and what must come of them is counted by plain programs. The tests
+//! are of the parts of a bus, and of the ports of small texts.
 #![tactic(auto)]
 
 mod bus_plays;

@@ -1,5 +1,6 @@
 //! What a bus at play comes to, for any number of clients and whatever they ask: laws on the turns
-//! of a play, which the call that plays a bus has from the player and the actors.
+//! of a play, which the call that plays a bus has from the player and the actors; the law on what
+//! each client is answered that they follow from; and who owns each buffer.
 #![tactic(auto)]
 
 ghost use Rattle.std.specs.Prelude.{◌≡◌, ◌↔◌, ◌+◌, ◌<◌, ◌≤◌, ℕ, Some, List, [], length, slice_get};

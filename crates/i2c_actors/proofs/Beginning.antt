@@ -311,6 +311,7 @@ module _ (bus : Bus) (members : List Member) (n : AreNew bus members) (rows : Li
         work = vn.work;
         from_each = f ∙ sym many;
         to_each = t ∙ sym many;
+        knows = vn.new.knows;
       }
 
   abbrev d : BusDriver

@@ -170,6 +170,7 @@ virt_fits a b v same f =
       work = f.work;
       from_each = f.from_each;
       to_each = f.to_each;
+      knows = f.knows;
     }
 
 virt_beside : (ends : Role → ℕ → End) (v : I2cVirt) (passed : Passed) (d : Deed)

@@ -20,7 +20,6 @@ use i2c_text::{Bus, BusReply, BusReport};
 use small_system::{Small, tale_law};
 use std::alloc::Global;
 use text_limits::bus_limits_law;
-use wire_core::Entry;
 
 // The actors of a bus that was read can be made.
 fn fit_law()
@@ -71,13 +70,6 @@ fn all_recorded(alloc: Global, actors: &[Member]) -> Result<Series<Series<BusRep
     Ok(Series::from_vec(lists))
 }
 
-// A copy of a journal.
-fn copy_journal(alloc: Global, journal: &[Entry]) -> Result<Series<Entry>, Memory>
-    ensures { IfOk result (λ copy. copy ≡ journal.now) }
-{
-    Ok(Series::from_vec(Vec::from_slice(alloc, journal)?))
-}
-
 // What the player shows is told by the report, and holds of the bus.
 fn report_law()
     ensures { (bus : Bus) (seed limit : ℕ) (old new : Shown Member) (report : BusReport)
@@ -104,23 +96,23 @@ fn set_up(alloc: Global, bus: &Bus) -> Result<Small<Member>, Memory>
     Small::new(alloc, &rows, members)
 }
 
-// The report of a player.
-fn report(alloc: Global, bus: &Bus, small: &Small<Member>, quiet: bool) -> Result<BusReport, Memory>
+// The report of a player, whose journal it keeps.
+fn report(alloc: Global, bus: &Bus, small: Small<Member>, quiet: bool) -> Result<BusReport, Memory>
     requires few { bus.now.clients < 1024 }
-    requires there { bus.now.clients ≤ length small.now.moment.actors }
+    requires there { bus.now.clients ≤ length small.moment.actors }
     ensures quiet { IfOk result (λ report. report.quiet ≡ quiet) }
-    ensures told { IfOk result (IsReportOf bus.now small.now) }
+    ensures told { IfOk result (IsReportOf bus.now small) }
 {
     let clients = bus.clients as usize;
-    let replies = all_recorded(alloc, &small.actors()[..clients])?;
-    let pools = bus_pools(alloc, bus.clients as u16, small.journal())?;
-    let journal = copy_journal(alloc, small.journal())?;
+    let (_world, actors, journal) = small.into_parts();
+    let replies = all_recorded(alloc, &actors[..clients])?;
+    let pools = bus_pools(alloc, bus.clients as u16, &journal)?;
     Ok(BusReport {
         quiet,
         steps: journal.len() as u64,
         replies,
         pools,
-        journal,
+        journal: Series::from_vec(journal),
     })
 }
 
@@ -136,5 +128,5 @@ pub fn play_bus(alloc: Global, bus: &Bus, seed: u64, limit: u64) -> Result<BusRe
     let mut small = set_up(alloc, bus)?;
     let quiet = small.play(seed, limit)?;
     report_law();
-    report(alloc, bus, &small, quiet)
+    report(alloc, bus, small, quiet)
 }

@@ -7,6 +7,7 @@ pub mod Ordering
 pub mod Due
 pub mod Stepping
 pub mod Turning
+pub mod Lowest
 pub mod Rows
 pub mod Starting
 pub mod I2cKit

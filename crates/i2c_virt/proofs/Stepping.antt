@@ -31,7 +31,7 @@ use Rattle.i2c_virt.specs.declared.work.Stray.{Stray}
 use Rattle.i2c_virt.specs.declared.work.Work.{Work}
 use Rattle.i2c_virt.specs.Desks.{Judged, DeskStands, IsDesk, AreGiven, forwarded, own_entry, shared_entry, is_open}
 use Rattle.i2c_virt.specs.Works.{Took, IsTook, IsSomeones, IsWork, WorkStands, Asked, Strayed, AskedIf, TookFrom, Answered, AnsweredIf, TookBack, clients_in, entries_of, judged_of, of_client, is_of, is_due, strayed_from, strayed_back, wants_at}
-use Rattle.i2c_virt.specs.Virtualising.{VirtStands, I2cVirtStandsFor, VirtRow, IsAstray, IsResponseTo, FitsI2cVirt, order_of, strays_of, strays_back, strays_by}
+use Rattle.i2c_virt.specs.Virtualising.{VirtStands, I2cVirtStandsFor, VirtRow, IsAstray, IsResponseTo, FitsEnds, order_of, strays_of, strays_back, strays_by}
 use Rattle.i2c_virt.proofs.Working.{judged_here, judged_beside, wanted_there}
 use Rattle.i2c_virt.proofs.Desking.{given_fewer}
 use Rattle.i2c_virt.proofs.Due.{due_by}
@@ -279,7 +279,7 @@ few_strays k (Some s) = by s.from
     by (Source.Client j) = one (j == k)
 
 -- it fits with other work at the same queues
-pub fits_same : (ends ends' : Role → ℕ → End) (v v' : I2cVirt) → FitsI2cVirt ends v → FitsVirt ends' v'.ends → SameVirt v.ends v'.ends → IsWork v'.work → length v'.work.desks.items ≡ length v.work.desks.items → FitsI2cVirt ends' v'
+pub fits_same : (ends ends' : Role → ℕ → End) (v v' : I2cVirt) → FitsEnds ends v → FitsVirt ends' v'.ends → SameVirt v.ends v'.ends → IsWork v'.work → length v'.work.desks.items ≡ length v.work.desks.items → FitsEnds ends' v'
 fits_same ends ends' v v' f now same work many = record {
   ends_fit = now;
   work = work;

@@ -13,7 +13,9 @@ use Rattle.wire_core.specs.declared.names.QueueId.{QueueId}
 use Rattle.wire_core.specs.Deeds.{Cargo}
 use Rattle.wire_core.specs.Ends.{Role, End}
 use Rattle.wire_core.specs.Lists.{Passed}
-use Rattle.turn_kit.specs.Turns.{Round}
+use Rattle.turn_kit.specs.Turns.{Round, unsettled_from}
+use Rattle.turn_kit.specs.Lowests.{found}
+use Rattle.turn_kit.specs.declared.turns.Stand.{Stand}
 use Rattle.buffer_kit.specs.Clients.{queue_at}
 use Rattle.buffer_kit.specs.Virtualising.{FitsVirt, SameVirt, IsNewVirt, virt_round, from_queues}
 use Rattle.buffer_kit.specs.Virtualising.{to_queues}
@@ -107,11 +109,34 @@ IsAstray clients sent back (Source.Client k) x =
     (k < clients) × (is_own_request (record { 0 = k }) x ≡ false)
 
 -- its ends are its own, and as it keeps them, at Net queues; each client has one each way
+pub record FitsEnds (ends : Role → ℕ → End) (v : I2cVirt) : Type 0 where
+  pub ends_fit : FitsVirt ends v.ends
+  pub work : IsWork v.work
+  pub from_each : length (from_queues v.ends) ≡ length v.work.desks.items
+  pub to_each : length (to_queues v.ends) ≡ length v.work.desks.items
+
+-- its ends: it needs responses, and the requests of each client of which none is at the driver or
+-- on its way there and no answer is held; it owes requests and answers; after an entry out of turn
+-- it needs and owes nothing
+abbrev pub i2c_virt_round : I2cVirt → Round
+i2c_virt_round v = virt_round v.ends (is_none v.work.stray) (is_owing v.work) (wants_at v.work)
+    (gives_at v.work)
+
+-- the lowest of its ends that aren't settled
+abbrev pub lowest_of : I2cVirt → Option Stand
+lowest_of v = unsettled_from None 0 (i2c_virt_round v).posts (i2c_virt_round v).needs
+
+-- it keeps which this is
+abbrev pub KnowsLowest : I2cVirt → Type 0
+KnowsLowest v = found v.lowest ≡ lowest_of v
+
+-- it fits its ends, and keeps which is the lowest of those that aren't settled
 pub record FitsI2cVirt (ends : Role → ℕ → End) (v : I2cVirt) : Type 0 where
   pub ends_fit : FitsVirt ends v.ends
   pub work : IsWork v.work
   pub from_each : length (from_queues v.ends) ≡ length v.work.desks.items
   pub to_each : length (to_queues v.ends) ≡ length v.work.desks.items
+  pub knows : KnowsLowest v
 
 -- it stands for the requests that it took in turn, in the order of its takes, and for the responses
 -- that it took so; at most one entry, which came last, was out of turn
@@ -165,13 +190,6 @@ pub record SameI2cVirt (old new : I2cVirt) : Type 0 where
   pub ends : SameVirt old.ends new.ends
   pub work : SameWork old.work new.work
 
--- its ends: it needs responses, and the requests of each client of which none is at the driver or
--- on its way there and no answer is held; it owes requests and answers; after an entry out of turn
--- it needs and owes nothing
-abbrev pub i2c_virt_round : I2cVirt → Round
-i2c_virt_round v = virt_round v.ends (is_none v.work.stray) (is_owing v.work) (wants_at v.work)
-    (gives_at v.work)
-
 -- a virtualiser in its start state
 pub record IsNewI2cVirt (req resp : QueueId) (reqs resps : List QueueId) (v : I2cVirt) : Type 0
   where
@@ -179,3 +197,4 @@ pub record IsNewI2cVirt (req resp : QueueId) (reqs resps : List QueueId) (v : I2
     pub desks : v.work.desks.items ≡ replicate (length reqs) new_desk
     pub owners : KnowsOwners v.work.owners.clients.items []
     pub stray : v.work.stray ≡ None
+    pub knows : KnowsLowest v

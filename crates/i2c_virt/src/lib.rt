@@ -1,5 +1,6 @@
-//! The actors of a bus that clients share by claims, but for the clients: the virtualiser, which
-//! answers claims and hands transfers on, the driver, which copies, and the bus itself.
+//! The actors of a bus that clients share by claims: the clients, the virtualiser, which answers
+//! claims and hands transfers on, the driver, which copies, and the bus itself; and what all of them
+//! are made of: the bytes of a request and of its reply, the devices, and who has an address.
 #![tactic(auto)]
 
 mod bus_device;

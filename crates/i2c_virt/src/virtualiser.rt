@@ -11,27 +11,34 @@ ghost use Rattle.wire_core.specs.Lists.{Passed, Stepped, nothing_passed, taken_b
 ghost use Rattle.wire_core.specs.Lists.{if_there};
 ghost use Rattle.wire_core.specs.Marks.{is_mark};
 ghost use Rattle.turn_kit.specs.Turns.{Turned, PostedAt, choice_of, chosen_place, last_after};
-ghost use Rattle.turn_kit.specs.Turns.{is_at_rest};
+ghost use Rattle.turn_kit.specs.Turns.{is_at_rest, Post};
+ghost use Rattle.turn_kit.specs.Table.{is_settled};
+ghost use Rattle.turn_kit.specs.Lowests.{found};
 ghost use Rattle.buffer_kit.specs.Virtualising.{FitsVirt, SameVirt, from_queues, to_queues};
 ghost use Rattle.buffer_kit.specs.Virtualising.{virt_posts, place_of, IsThere, need_of};
 ghost use Rattle.i2c_virt.specs.declared.virtualiser.I2cVirt.{I2cVirt};
 ghost use Rattle.i2c_virt.specs.Desks.{new_desk};
 ghost use Rattle.i2c_virt.specs.Works.{IsWork, WorkIsStill, is_owing, wants_at, gives_at};
 ghost use Rattle.i2c_virt.specs.Virtualising.{FitsI2cVirt, I2cVirtStandsFor, VirtRow, SameI2cVirt};
-ghost use Rattle.i2c_virt.specs.Virtualising.{i2c_virt_round, IsNewI2cVirt};
+ghost use Rattle.i2c_virt.specs.Virtualising.{i2c_virt_round, IsNewI2cVirt, FitsEnds, KnowsLowest};
+ghost use Rattle.i2c_virt.specs.Virtualising.{lowest_of};
 
 use crate::{Desk, Giving, Owners, Wanting, Work};
 use buffer_kit::{NetCargo, VirtEnd, VirtEnds};
 use cargo_core::{Body, Item, Memory};
 use std::alloc::Global;
-use wire_core::{Event, Op, QueueId, Wires};
+use turn_kit::Lowest;
+use wire_core::{Answer, Event, Op, QueueId, Wires};
 
 /// The virtualiser of the bus. It answers claims and the transfers at addresses that their client
-/// hasn't, and hands the others on to the driver, of each client one at a time.
+/// hasn't, and hands the others on to the driver, of each client one at a time. `lowest` is the
+/// lowest of its ends that aren't settled. It is kept up to date, so that only a step that changes
+/// what is needed, or whether its end is settled, looks at all ends.
 #[derive(Drop)]
 pub struct I2cVirt {
     pub ends: VirtEnds,
     pub work: Work,
+    pub lowest: Lowest,
 }
 
 // So many clients of which nothing came.
@@ -147,6 +154,33 @@ fn step_to<W: Wires>(
     ends.to_clients.step(wires, place, load)
 }
 
+// Whether a call is one after which its actor may need something else.
+fn is_mark(op: Op, answer: Answer) -> bool
+    ensures { result ≡ is_mark op answer }
+{
+    match op {
+        Op::Take | Op::Put => true,
+        Op::Wake(_) => answer == Answer::Yes,
+        _ => false,
+    }
+}
+
+// The end at a place.
+fn end_at(ends: &VirtEnds, place: usize) -> VirtEnd
+    requires few { length (from_queues ends.now) < 2 ^ 32 }
+    requires within { place < 2 + length (from_queues ends.now) + length (to_queues ends.now) }
+    ensures place { place_of ends.now result ≡ place }
+    ensures there { IsThere ends.now result }
+{
+    let clients = ends.from_clients.len();
+    match place {
+        0 => VirtEnd::Input,
+        1 => VirtEnd::Output,
+        _ if place < 2 + clients => VirtEnd::FromClient(place - 2),
+        _ => VirtEnd::ToClient(place - 2 - clients),
+    }
+}
+
 impl I2cVirt {
     /// A virtualiser in its start state: no address is granted. Requests go to `req`, and responses
     /// come at `resp`. Client k puts its requests to queue k of `reqs`, and gets its answers at
@@ -159,6 +193,7 @@ impl I2cVirt {
         resps: &[QueueId],
     ) -> Result<I2cVirt, Memory>
         requires few { length reqs.now < 2 ^ 16 }
+        requires answered { length resps.now < 2 ^ 16 }
         ensures new { IfOk result (λ v. IsNewI2cVirt req resp reqs.now resps.now v) }
         ensures work { IfOk result (λ v. IsWork v.work) }
         ensures stands { IfOk result (λ v. I2cVirtStandsFor v nothing_passed) }
@@ -169,7 +204,13 @@ impl I2cVirt {
             desks: new_desks(alloc, reqs.len())?,
             stray: None,
         };
-        Ok(I2cVirt { ends, work })
+        let mut virt = I2cVirt {
+            ends,
+            work,
+            lowest: Lowest::none(),
+        };
+        virt.lowest = virt.unsettled();
+        Ok(virt)
     }
 
     // Whether a request is to go to the driver.
@@ -181,19 +222,23 @@ impl I2cVirt {
 
     /// Whether nothing is to be done before a notification comes.
     pub fn at_rest(&self) -> bool
+        requires { KnowsLowest self.now }
         ensures { result ≡ is_at_rest (i2c_virt_round self.now) }
     {
-        let free = self.work.stray.is_none();
-        let owes = self.is_owing();
-        let wanting = Wanting { work: &self.work };
-        let giving = Giving { work: &self.work };
-        self.ends.settled(free, owes, &wanting, &giving)
+        self.lowest.stand().is_none()
+    }
+
+    // Whether the end where requests go to the driver is settled.
+    fn is_driver_served(&self) -> bool
+        ensures { result ≡ is_settled self.now.ends.output.state (is_owing self.now.work) }
+    {
+        self.ends.output.settled(self.is_owing())
     }
 
     // The next call where responses come.
     fn step_response<W: Wires>(&mut self, wires: &mut W) -> Event
-        requires { FitsI2cVirt (W.ends wires.old) self.old }
-        ensures fits { FitsI2cVirt (W.ends wires.new) self.new }
+        requires { FitsEnds (W.ends wires.old) self.old }
+        ensures fits { FitsEnds (W.ends wires.new) self.new }
         ensures same { SameI2cVirt self.old self.new }
         ensures stepped { Stepped I2cVirtStandsFor W.did wires.old wires.new
             self.old self.new result }
@@ -202,6 +247,7 @@ impl I2cVirt {
         ensures still { is_mark result.op result.answer ≡ false
             → WorkIsStill self.old.work self.new.work }
         ensures turn { self.new.ends.turn ≡ self.old.ends.turn }
+        ensures lowest { self.new.lowest ≡ self.old.lowest }
     {
         let free = self.work.stray.is_none();
         let (event, got) = step_input(&mut self.ends, wires, free);
@@ -213,9 +259,9 @@ impl I2cVirt {
 
     // The next call where requests of the client at a place come.
     fn step_request<W: Wires>(&mut self, wires: &mut W, place: usize) -> Event
-        requires fits { FitsI2cVirt (W.ends wires.old) self.old }
+        requires fits { FitsEnds (W.ends wires.old) self.old }
         requires there { place < length (from_queues self.old.ends) }
-        ensures fits { FitsI2cVirt (W.ends wires.new) self.new }
+        ensures fits { FitsEnds (W.ends wires.new) self.new }
         ensures same { SameI2cVirt self.old self.new }
         ensures stepped { Stepped I2cVirtStandsFor W.did wires.old wires.new
             self.old self.new result }
@@ -224,6 +270,7 @@ impl I2cVirt {
         ensures still { is_mark result.op result.answer ≡ false
             → WorkIsStill self.old.work self.new.work }
         ensures turn { self.new.ends.turn ≡ self.old.ends.turn }
+        ensures lowest { self.new.lowest ≡ self.old.lowest }
     {
         let wants = self.work.wants(place);
         let (event, got) = step_from(&mut self.ends, wires, place, wants);
@@ -235,8 +282,8 @@ impl I2cVirt {
 
     // The next call where requests go to the driver.
     fn step_driver<W: Wires>(&mut self, wires: &mut W) -> Event
-        requires { FitsI2cVirt (W.ends wires.old) self.old }
-        ensures fits { FitsI2cVirt (W.ends wires.new) self.new }
+        requires { FitsEnds (W.ends wires.old) self.old }
+        ensures fits { FitsEnds (W.ends wires.new) self.new }
         ensures same { SameI2cVirt self.old self.new }
         ensures stepped { Stepped I2cVirtStandsFor W.did wires.old wires.new
             self.old self.new result }
@@ -245,6 +292,7 @@ impl I2cVirt {
         ensures still { is_mark result.op result.answer ≡ false
             → WorkIsStill self.old.work self.new.work }
         ensures turn { self.new.ends.turn ≡ self.old.ends.turn }
+        ensures lowest { self.new.lowest ≡ self.old.lowest }
     {
         match self.work.leaver() {
             None => {
@@ -260,9 +308,9 @@ impl I2cVirt {
 
     // The next call where answers go to the client at a place.
     fn step_answer<W: Wires>(&mut self, wires: &mut W, place: usize) -> Event
-        requires fits { FitsI2cVirt (W.ends wires.old) self.old }
+        requires fits { FitsEnds (W.ends wires.old) self.old }
         requires there { place < length (to_queues self.old.ends) }
-        ensures fits { FitsI2cVirt (W.ends wires.new) self.new }
+        ensures fits { FitsEnds (W.ends wires.new) self.new }
         ensures same { SameI2cVirt self.old self.new }
         ensures stepped { Stepped I2cVirtStandsFor W.did wires.old wires.new
             self.old self.new result }
@@ -272,6 +320,7 @@ impl I2cVirt {
         ensures still { is_mark result.op result.answer ≡ false
             → WorkIsStill self.old.work self.new.work }
         ensures turn { self.new.ends.turn ≡ self.old.ends.turn }
+        ensures lowest { self.new.lowest ≡ self.old.lowest }
     {
         if !self.work.gives(place) {
             let mut nothing = None;
@@ -281,8 +330,45 @@ impl I2cVirt {
         step_to(&mut self.ends, wires, place, &mut desk.held)
     }
 
-    // The end that is stepped now.
+    // The lowest of the ends that aren't settled.
+    fn unsettled(&self) -> Lowest
+        requires from_clients { length (from_queues self.now.ends) < 2 ^ 32 }
+        requires to_clients { length (to_queues self.now.ends) < 2 ^ 32 }
+        ensures { found result ≡ lowest_of self.now }
+    {
+        let ends = &self.ends;
+        let input = ends.input.settled(self.work.stray.is_none());
+        let output = self.is_driver_served();
+        let lowest = Lowest::none()
+            .unless_settled(0, ends.input.queue, input)
+            .unless_settled(1, ends.output.queue, output);
+        let wanting = Wanting { work: &self.work };
+        let lowest = ends.from_clients.unsettled(lowest, 2, &wanting);
+        let giving = Giving { work: &self.work };
+        ends.to_clients
+            .unsettled(lowest, 2 + ends.from_clients.len(), &giving)
+    }
+
+    // The end that is stepped where all are settled: what is needed doesn't matter then.
+    fn choose_next(&mut self) -> VirtEnd
+        requires from_clients { length (from_queues self.old.ends) < 2 ^ 32 }
+        requires to_clients { length (to_queues self.old.ends) < 2 ^ 32 }
+        requires rests { is_at_rest (i2c_virt_round self.old) ≡ true }
+        ensures place { place_of self.old.ends result
+            ≡ chosen_place (choice_of (i2c_virt_round self.old)) }
+        ensures there { IsThere self.old.ends result }
+        ensures after { self.new ≡ record self.old {
+          ends = record self.old.ends {
+            turn = record { last = last_after (choice_of (i2c_virt_round self.old)) };
+          };
+        } }
+    {
+        self.ends.choose(false, false, &false, &false)
+    }
+
+    // The end that is stepped now. The rotation is asked only where all are settled.
     fn choose(&mut self) -> VirtEnd
+        requires knows { KnowsLowest self.old }
         requires from_clients { length (from_queues self.old.ends) < 2 ^ 32 }
         requires to_clients { length (to_queues self.old.ends) < 2 ^ 32 }
         ensures place { place_of self.old.ends result
@@ -294,18 +380,70 @@ impl I2cVirt {
           };
         } }
     {
-        let free = self.work.stray.is_none();
-        let owes = self.is_owing();
-        let wanting = Wanting { work: &self.work };
-        let giving = Giving { work: &self.work };
-        self.ends.choose(free, owes, &wanting, &giving)
+        match self.lowest.stand() {
+            Some(end) => end_at(&self.ends, end.place),
+            None => self.choose_next(),
+        }
+    }
+
+    // Whether an end is settled.
+    fn is_settled_at(&self, at: VirtEnd) -> bool
+        requires { IsThere self.now.ends at }
+        ensures { (p : Post) → slice_get (virt_posts self.now.ends) (place_of self.now.ends at)
+            ≡ Some p → result ≡ is_settled p.state (need_of (is_none self.now.work.stray)
+            (is_owing self.now.work) (wants_at self.now.work) (gives_at self.now.work) at) }
+    {
+        match at {
+            VirtEnd::Input => self.ends.input.settled(self.work.stray.is_none()),
+            VirtEnd::Output => self.is_driver_served(),
+            VirtEnd::FromClient(place) => {
+                let end = &self.ends.from_clients.ends[place];
+                end.settled(self.work.wants(place))
+            }
+            VirtEnd::ToClient(place) => {
+                let end = &self.ends.to_clients.ends[place];
+                end.settled(self.work.gives(place))
+            }
+        }
+    }
+
+    // Whether a call at an end left what is needed, and whether that end is settled.
+    fn is_same_at(&self, at: VirtEnd, settled: bool, event: &Event) -> bool
+        requires { IsThere self.now.ends at }
+        ensures mark { result ≡ true → is_mark event.now.op event.now.answer ≡ false }
+        ensures settled { result ≡ true → (p : Post) → slice_get (virt_posts self.now.ends)
+            (place_of self.now.ends at) ≡ Some p → settled ≡ is_settled p.state (need_of
+            (is_none self.now.work.stray) (is_owing self.now.work) (wants_at self.now.work)
+            (gives_at self.now.work) at) }
+    {
+        if is_mark(event.op, event.answer) {
+            return false;
+        }
+        if self.is_settled_at(at) {
+            settled
+        } else {
+            !settled
+        }
+    }
+
+    // Looks for the lowest end again, unless it is the same.
+    fn look(&mut self, same: bool)
+        requires from_clients { length (from_queues self.old.ends) < 2 ^ 32 }
+        requires to_clients { length (to_queues self.old.ends) < 2 ^ 32 }
+        requires same { same ≡ true → KnowsLowest self.old }
+        ensures knows { KnowsLowest self.new }
+        ensures others { self.new ≡ record self.old { lowest = self.new.lowest } }
+    {
+        if !same {
+            self.lowest = self.unsettled();
+        }
     }
 
     // The next call at an end.
     fn step_at<W: Wires>(&mut self, wires: &mut W, at: VirtEnd) -> Event
-        requires fits { FitsI2cVirt (W.ends wires.old) self.old }
+        requires fits { FitsEnds (W.ends wires.old) self.old }
         requires there { IsThere self.old.ends at }
-        ensures fits { FitsI2cVirt (W.ends wires.new) self.new }
+        ensures fits { FitsEnds (W.ends wires.new) self.new }
         ensures same { SameI2cVirt self.old self.new }
         ensures stepped { Stepped I2cVirtStandsFor W.did wires.old wires.new
             self.old self.new result }
@@ -315,6 +453,7 @@ impl I2cVirt {
         ensures still { is_mark result.op result.answer ≡ false
             → WorkIsStill self.old.work self.new.work }
         ensures turn { self.new.ends.turn ≡ self.old.ends.turn }
+        ensures lowest { self.new.lowest ≡ self.old.lowest }
     {
         match at {
             VirtEnd::Input => self.step_response(wires),
@@ -334,7 +473,11 @@ impl I2cVirt {
         ensures turned { Turned (i2c_virt_round self.old) result (i2c_virt_round self.new) }
     {
         let at = self.choose();
-        self.step_at(wires, at)
+        let settled = self.is_settled_at(at);
+        let event = self.step_at(wires, at);
+        let same = self.is_same_at(at, settled, &event);
+        self.look(same);
+        event
     }
 }
 

@@ -83,12 +83,13 @@ fn rung_at(op: Op, row: &QueueRow) -> Option<u16>
     }
 }
 
-// Whether the actor at a place isn't runnable.
+// Whether the actor at a place isn't runnable. What is pending for it is asked first, which is one
+// look.
 fn is_idle<A: SmallActor>(actor: &A, world: &World, place: ActorId) -> bool
     requires { IsFit A.means actor.now }
     ensures { result ≡ not (is_runnable A.means world.now place.0 actor.now) }
 {
-    actor.at_rest() && !world.is_pending(place)
+    !world.is_pending(place) && actor.at_rest()
 }
 
 // Whether the actor that a call rings is runnable now.
@@ -244,5 +245,23 @@ impl<A: SmallActor> Small<A> {
         ensures { result.now ≡ self.now.moment.actors }
     {
         &self.actors
+    }
+
+    /// Takes the player apart: the queues and the actors as they are, and all calls that were made
+    /// since it was made.
+    pub fn into_parts(self) -> (World, Vec<A>, Vec<Entry>)
+        ensures world { result.0 ≡ self.moment.world }
+        ensures actors { result.1.items ≡ self.moment.actors }
+        ensures journal { result.2.items ≡ self.journal }
+    {
+        let Small {
+            rows: _,
+            start: _,
+            world,
+            actors,
+            running: _,
+            journal,
+        } = self;
+        (world, actors, journal)
     }
 }

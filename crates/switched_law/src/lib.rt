@@ -1,6 +1,7 @@
 //! What holds of a switch between clients, however it is played: what each port records of what
 //! each other port sends, what is lost, how many steps it takes at most, and what is done where
-//! nobody is runnable.
+//! nobody is runnable; the laws on the order of the frames and on one moment that this follows from;
+//! and who owns each buffer.
 #![tactic(auto)]
 
 ghost use Rattle.std.specs.Prelude.{◌≡◌, ◌+◌, ◌*◌, ◌<◌, ◌≤◌, ℕ, Some, List, [], length, slice_get};

@@ -34,5 +34,5 @@ pub fn play_ports(alloc: Global, ports: &Ports, seed: u64, limit: u64) -> Result
     let actors = switch_actors(alloc, ports)?;
     let mut small: Small<Member> = Small::new(alloc, &rows, actors)?;
     let quiet = small.play(seed, limit)?;
-    report(alloc, &small, count, quiet)
+    report(alloc, small, count, quiet)
 }

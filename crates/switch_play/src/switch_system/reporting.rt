@@ -12,7 +12,6 @@ use ports_text::PortReport;
 use small_system::Small;
 use std::alloc::Global;
 use switch_class::{BUFFERS, Member};
-use wire_core::Entry;
 
 // A copy of some frames.
 fn copied(alloc: Global, frames: &FrameLog) -> Result<FrameLog, Memory>
@@ -100,39 +99,29 @@ fn lines(alloc: Global, world: &World, ports: u16) -> Result<Series<Census>, Mem
     Ok(lines)
 }
 
-// A copy of a journal.
-fn entries(alloc: Global, journal: &[Entry]) -> Result<Series<Entry>, Memory>
-    ensures { IfOk result (λ copy. copy ≡ journal.now) }
-{
-    let mut copy = Vec::with_capacity(alloc, journal.len())?;
-    for entry in journal {
-        copy.push(*entry)?;
-    }
-    Ok(Series::from_vec(copy))
-}
-
-/// The report of what a player with so many clients shows, which is quiet or not.
+/// The report of what a player with so many clients shows, which is quiet or not. It keeps the
+/// player's journal.
 pub fn report(
     alloc: Global,
-    small: &Small<Member>,
+    small: Small<Member>,
     ports: u16,
     quiet: bool,
 ) -> Result<PortReport, Memory>
     requires ports { ports ≤ 8 }
-    requires actors { length small.now.moment.actors ≡ ports + 1 }
-    requires queues { length small.now.moment.world ≤ 65536 }
-    requires few { (pool : ℕ) → pool < 2 * ports → queued small.now.moment.world pool ≤ 4 }
-    ensures { IfOk result (Tells small.now ports quiet) }
+    requires actors { length small.moment.actors ≡ ports + 1 }
+    requires queues { length small.moment.world ≤ 65536 }
+    requires few { (pool : ℕ) → pool < 2 * ports → queued small.moment.world pool ≤ 4 }
+    ensures { IfOk result (Tells small ports quiet) }
 {
-    let records = records(alloc, small.actors(), ports)?;
-    let pools = lines(alloc, small.world(), ports)?;
-    let journal = entries(alloc, small.journal())?;
+    let (world, actors, journal) = small.into_parts();
+    let records = records(alloc, &actors, ports)?;
+    let pools = lines(alloc, &world, ports)?;
     Ok(PortReport {
         quiet,
-        steps: small.journal().len() as u64,
+        steps: journal.len() as u64,
         records,
         pools,
-        lost: lost(small.actors(), ports),
-        journal,
+        lost: lost(&actors, ports),
+        journal: Series::from_vec(journal),
     })
 }

@@ -8,11 +8,11 @@ use Rattle.i2c_play.proofs.playing.report.Goals as goal
 
 pub returns-clause-told : goal.returns-clause-told
 returns-clause-told c =
-    let s = c.args.small.now in
+    let s = c.args.small in
     let n = c.args.bus.now.clients in
     record {
-      journal = c.in_ok-journal.ensures ∙ c.journal-2.ensures;
-      counted = c.len.ensures ∙ ap length (c.in_ok-journal.ensures ∙ c.journal-2.ensures);
-      replies = c.in_ok-replies.ensures ∙ ap (λ (l : List Member). map recorded (take n l)) c.actors.ensures;
-      pools = subst (λ (r : Result (List Census) _). IfOk r (λ lines. lines ≡ pool_lines n (table_after n s.rows s.journal))) c.in_ok-pools.was (subst (λ (j : List Entry). IfOk c.bus_pools.result (λ lines. lines ≡ pool_lines n (table_after n s.rows j))) c.journal.ensures (c.bus_pools.ensures s.rows));
+      journal = c.from_vec.ensures ∙ c.into_parts.ensures.journal;
+      counted = c.len.ensures ∙ ap length c.into_parts.ensures.journal;
+      replies = c.in_ok-replies.ensures ∙ ap (λ (l : List Member). map recorded (take n l)) c.into_parts.ensures.actors;
+      pools = subst (λ (r : Result (List Census) _). IfOk r (λ lines. lines ≡ pool_lines n (table_after n s.rows s.journal))) c.in_ok-pools.was (subst (λ (j : List Entry). IfOk c.bus_pools.result (λ lines. lines ≡ pool_lines n (table_after n s.rows j))) (c.deref.ensures.value ∙ c.into_parts.ensures.journal) (c.bus_pools.ensures s.rows));
     }
