@@ -4,5 +4,5 @@ use Rattle.i2c_actors.specs.declared.member.Member.{Member}
 use Rattle.i2c_actors.specs.Members.{member_means}
 use Rattle.i2c_actors.proofs.member.MemberSmallActor.at_rest.Goals as goal
 
-pub at_rest-in-Virt-requires : goal.at_rest-in-Virt-requires
-at_rest-in-Virt-requires c = (subst (λ (m : Member). IsFit member_means m) c.in-Virt.is c.requires).1.knows
+pub at_rest-requires-in-Virt : goal.at_rest-requires-in-Virt
+at_rest-requires-in-Virt c = (subst (λ (m : Member). IsFit member_means m) c.in-Virt.is c.requires).1.knows
