@@ -1,7 +1,6 @@
 //! What the report of a play tells of the last moment.
 
-ghost use Rattle.std.specs.Prelude.{◌≡◌, ◌+◌, ◌*◌, ◌<◌, ◌≤◌, ◌++◌, ℕ, IfOk, codes, length};
-ghost use Rattle.std.specs.Fmt.{decimal};
+ghost use Rattle.std.specs.Prelude.{◌≡◌, ◌+◌, ◌*◌, ◌<◌, ◌≤◌, ℕ, IfOk, length};
 ghost use Rattle.switched_law.specs.SwitchOwners.Lines.{queued};
 ghost use Rattle.switch_play.specs.SwitchSystem.Lines.{pool_name, line_of, lines_from, counted};
 ghost use Rattle.switch_play.specs.SwitchSystem.Reporting.{IsRecord, IsLost, AreRecords, Tells};
