@@ -1,0 +1,5 @@
+mod PoolLemmas
+mod ReplyLemmas
+mod CalmLemmas
+mod PlayLemmas
+pub mod ToldPlays
