@@ -1,5 +1,6 @@
-//! The Microkit's own system file of a plan: its elements by the names and defaults of the manual,
-//! and a law by which the file gives back what the plan has of them.
+//! A plan in the words of others: the Microkit's own system file, its elements by the names and
+//! defaults of the manual, with a law by which the file gives back what the plan has of them; and a
+//! header in C with the numbers of queues and buffers.
 #![tactic(auto)]
 
 mod attribute;

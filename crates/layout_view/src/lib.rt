@@ -1,4 +1,5 @@
-//! The layout of a valid plan, as a picture in SVG and as a graph in DOT.
+//! The layout of a valid plan, as a picture in SVG and as a graph in DOT: what each box, arrow, bar
+//! and label is, and how they look.
 #![tactic(auto)]
 
 mod drawing;

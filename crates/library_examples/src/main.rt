@@ -2,7 +2,6 @@
 //! main calls of one library, and gives what they come to as a text, which is printed here.
 #![tactic(auto)]
 
-mod class_example;
 mod discipline;
 mod ring;
 mod seats;

@@ -1,5 +1,5 @@
-//! A sequence chart of a journal: a lane for each actor, an arrow from each put to its take, and
-//! marks for what is done to bells.
+//! Pictures of a journal: a sequence chart, with a lane for each actor, an arrow from each put to its
+//! take and marks for what is done to bells; how full each queue was; and where the buffers are.
 #![tactic(auto)]
 
 mod arrows;

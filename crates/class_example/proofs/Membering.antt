@@ -1,0 +1,35 @@
+use Rattle.std.proofs.Common.{ap, ◌∙◌, List, Result, Ok, Err, IfOk}
+use Rattle.cargo_core.specs.declared.memory.Memory.{Memory}
+use Rattle.wire_core.specs.declared.names.QueueId.{QueueId}
+use Rattle.wire_core.specs.declared.names.Event.{Event}
+use Rattle.wire_core.specs.Lists.{Stepped}
+use Rattle.wire_core.specs.Queues.{Queue, Happens}
+use Rattle.turn_kit.specs.Turns.{Turned}
+use Rattle.small_system.specs.Meanings.{Acts}
+use Rattle.class_example.specs.declared.source.Source.{Source}
+use Rattle.class_example.specs.declared.joiner.Joiner.{Joiner}
+use Rattle.class_example.specs.declared.member.Member.TheVariants as Members
+use Rattle.class_example.specs.Sources.{SourceStandsFor, SameSource, source_round}
+use Rattle.class_example.specs.Joiners.{JoinerStandsFor, SameJoiner, joiner_round}
+use Rattle.class_example.specs.Members.{Says, Joins, member_means}
+
+-- A step of either kind of actor is one of the member.
+
+pub source_acts : (w v : List Queue) (old new : Source) (e : Event) → Stepped SourceStandsFor Happens w v old new e → Turned (source_round old) e (source_round new) → SameSource old new → Acts member_means w v (Members.Source old) (Members.Source new) e
+source_acts w v old new e st turned same = record {
+  body = st.body;
+  happened = st.happened;
+  steps = record { turned = turned; kept = st.kept; part = ap (λ (q : QueueId). Says q.0 new.script) same.output ∙ ap (Says old.output.queue.0) same.script };
+}
+
+pub joiner_acts : (w v : List Queue) (old new : Joiner) (e : Event) → Stepped JoinerStandsFor Happens w v old new e → Turned (joiner_round old) e (joiner_round new) → SameJoiner old new → Acts member_means w v (Members.Joiner old) (Members.Joiner new) e
+joiner_acts w v old new e st turned same = record {
+  body = st.body;
+  happened = st.happened;
+  steps = record { turned = turned; kept = st.kept; part = ap (λ (q : QueueId). Joins q.0 new.second.queue.0) same.first ∙ ap (λ (q : QueueId). Joins old.first.queue.0 q.0) same.second };
+}
+
+-- a step that may want memory
+pub joiner_ok : (w v : List Queue) (old new : Joiner) (r : Result Event Memory) → IfOk r (Stepped JoinerStandsFor Happens w v old new) → IfOk r (λ e. Turned (joiner_round old) e (joiner_round new)) → SameJoiner old new → IfOk r (Acts member_means w v (Members.Joiner old) (Members.Joiner new))
+joiner_ok w v old new (Ok e) st turned same = joiner_acts w v old new e st turned same
+joiner_ok w v old new (Err m) st turned same = tt

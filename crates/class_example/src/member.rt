@@ -1,0 +1,37 @@
+//! The actors of the class, of both kinds.
+ghost use Rattle.class_example.specs.Members.{member_means};
+ghost use Rattle.class_example.specs.MemberLaws.{member_lawful};
+
+use crate::joiner::Joiner;
+use crate::source::Source;
+use cargo_core::Memory;
+use plain_wires::World;
+use small_system::SmallActor;
+use wire_core::Event;
+
+/// An actor of the class.
+#[derive(Drop)]
+pub enum Member {
+    Source(Source),
+    Joiner(Joiner),
+}
+
+impl SmallActor for Member {
+    ghost means = { member_means };
+
+    fn step(&mut self, world: &mut World) -> Result<Event, Memory> {
+        match self {
+            Member::Source(source) => Ok(source.step(world)),
+            Member::Joiner(joiner) => joiner.step(world),
+        }
+    }
+
+    fn at_rest(&self) -> bool {
+        match self {
+            Member::Source(source) => source.at_rest(),
+            Member::Joiner(joiner) => joiner.at_rest(),
+        }
+    }
+
+    ghost lawful = { member_lawful };
+}
