@@ -1,5 +1,6 @@
 mod PoolLemmas
 mod ReplyLemmas
 mod CalmLemmas
+mod KindLemmas
 mod PlayLemmas
 pub mod ToldPlays
