@@ -13,6 +13,6 @@ begins-play words w at e = (false, at ∙ ap (λ (x : List ℕ). Some x) e)
 pub begins-html : (words : List (List ℕ)) (w : List ℕ) → slice_get words 0 ≡ Some w → w ≡ codes "html" → BeginsPlay words
 begins-html words w at e = (true, at ∙ ap (λ (x : List ℕ). Some x) e)
 
-pub begins-other : (words : List (List ℕ)) (w : List ℕ) → slice_get words 0 ≡ Some w → w ≢ codes "play" → w ≢ codes "html" → BeginsPlay words → ⊥
-begins-other words w at p h (false, e) = p cc
-begins-other words w at p h (true, e) = h cc
+pub begins-other : (words : List (List ℕ)) (w : List ℕ) → slice_get words 0 ≡ Some w → w ≢ codes "play" → BeginsPlay words → w ≡ codes "html"
+begins-other words w at p (false, e) = absurd (p cc)
+begins-other words w at p (true, e) = cc

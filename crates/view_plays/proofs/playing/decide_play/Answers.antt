@@ -24,7 +24,7 @@ returns-in_err-refuse_words-in-Err-clause-reads g c =
     let p = err_from_is_err_and c.from_residual-in_err-refuse_words-in-Err.result c.from_residual-in_err-refuse_words-in-Err.ensures.1 in
     rw (p.1, p.2) (record { texts = λ n. refl; opened = inl refl; last = tt; calm = tt; stopped = refl })
 
-pub returns-in_err-read_drawing-clause-reads : goal.returns-in_err-read_drawing-clause-reads
-returns-in_err-read_drawing-clause-reads g c =
+pub returns-in_err-drawing-clause-reads : goal.returns-in_err-drawing-clause-reads
+returns-in_err-drawing-clause-reads g c =
     let p = err_from_is_err_and c.from_residual.result c.from_residual.ensures.1 in
     rw (p.1, p.2) (record { texts = λ n. refl; opened = inl refl; last = tt; calm = tt; stopped = refl })
