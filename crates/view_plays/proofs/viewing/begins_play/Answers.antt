@@ -13,7 +13,7 @@ returns-then-is_empty c = (
 pub returns-then-is_word : goal.returns-then-is_word
 returns-then-is_word c = (
   λ e. begins-play (texts_of c.args.words.now) _ c.word_at-word.ensures (c.is_word.ensures.0 c.if-is_word.true),
-  λ b. refl,
+  λ b. c.if-is_word.true,
 )
 
 pub returns-else-is_word : goal.returns-else-is_word
