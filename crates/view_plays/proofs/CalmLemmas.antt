@@ -1,5 +1,5 @@
 -- A reply that was decided is no fault of reading.
-use Rattle.std.proofs.Common.{◌≡◌, ◌⊎◌, inl, inr, ℕ, Bool, true, false, List, ◌∷◌, refl, sym}
+use Rattle.std.proofs.Common.{◌≡◌, inl, inr, ℕ, Bool, true, false, List, ◌∷◌}
 use Rattle.sdf_plan.specs.declared.plan.Plan.{Plan}
 use Rattle.trace_text.specs.declared.trace.Trace.{Trace}
 use Rattle.decision_core.specs.declared.showing.Asked.{Asked}
@@ -13,6 +13,7 @@ use Rattle.decision_core.specs.Decisions.{Decision, Say, Play, Run, PlayBus, Pla
 use Rattle.decision_core.specs.declared.deciding.Decided.{Decided}
 use Rattle.decision_core.specs.declared.deciding.Decided.TheVariants as Kept
 use Rattle.decision_core.specs.Decided.{decision_of, IsPlayable}
+use Rattle.play_words.specs.declared.ask.Drawing.{Drawing}
 use Rattle.view_plays.specs.Deciding.{IsOnPlan, Answered, Drawn, Refused, DrawsPlay, no_drawing, refused, drawn, IsDrawnOf, drawn_of, ending_of}
 use Rattle.view_plays.specs.Viewed.{EndsFor}
 
@@ -107,10 +108,13 @@ ending-calm : (quiet : Bool) (steps : ℕ) → ending_of quiet steps ≡ Ended.R
 ending-calm true steps e = cc e
 ending-calm false steps e = cc e
 
+drawn-calm : (plan : Plan) (trace : Trace) (drawing : Drawing) (a : Answered) → IsDrawnOf plan trace drawing a → NoFault a
+drawn-calm plan trace drawing _ (drawn_of shown p q) = ending-calm _ _
+
 decided-calm : (reads : List ℕ → List ℕ → Type 0) (words : List (List ℕ)) (a : Answered) → DrawsPlay reads words a → NoFault a
 decided-calm reads words _ (no_drawing k h) = λ e. cc e
 decided-calm reads words _ (refused drawing status line s d) = decision-says reads _ _ d
-decided-calm reads words _ (drawn drawing plan trace asked _ s d (drawn_of shown p q)) = ending-calm _ _
+decided-calm reads words _ (drawn drawing plan trace asked a s d h) = drawn-calm plan trace drawing a h
 
 ends-calm : (a : Answered) (status : Status) → NoFault a → EndsFor a status → status ≡ Ended.ReadFault → ⊥
 ends-calm (Drawn why text) status n (inl e) f = n (cc (e, f))

@@ -18,7 +18,7 @@ use Rattle.system_core.specs.Shows.{Shown}
 use Rattle.play_words.specs.declared.ask.Drawing.{Drawing}
 use Rattle.play_words.specs.Words.{Spells, main_words}
 use Rattle.play_view.specs.Drawn.{drawn_text}
-use Rattle.view_plays.specs.Deciding.{Answered, Drawn, Refused, DrawsPlay, refused, drawn, IsDrawnOf, drawn_of, RepliesTo, ending_of, seed_of, limit_of}
+use Rattle.view_plays.specs.Deciding.{Answered, Drawn, DrawsPlay, refused, drawn, IsDrawnOf, drawn_of, RepliesTo, ending_of, seed_of, limit_of}
 
 pub draws : (reads : List ℕ → List ℕ → Type 0) (words : List (List ℕ)) (drawing : Drawing) (d : Decided) (a : Answered) → Spells words drawing
     → Decides reads (main_words words drawing.settings) (decision_of d) → RepliesTo d drawing a → DrawsPlay reads words a

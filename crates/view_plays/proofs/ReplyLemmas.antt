@@ -1,12 +1,11 @@
 -- A reply that was decided is no fault of reading, and once it is written it became what the words
 -- ask for.
-use Rattle.std.proofs.Common.{◌≡◌, ◌⊎◌, inl, inr, ℕ, Bool, true, false, Option, List, refl, sym, subst, Result, Ok, Err, IfOk}
+use Rattle.std.proofs.Common.{◌≡◌, ◌⊎◌, inl, inr, ℕ, Bool, Option, List, refl, sym, subst}
 use Rattle.decision_core.specs.declared.status.Status.{Status}
 use Rattle.decision_core.specs.declared.status.Status.TheVariants as Ended
-use Rattle.decision_core.specs.Decisions.{Decides}
-use Rattle.view_plays.specs.Deciding.{Answered, Drawn, Refused, DrawsPlay, no_drawing, refused, drawn, IsDrawnOf, drawn_of, ending_of}
+use Rattle.view_plays.specs.Deciding.{Answered, Drawn, Refused, DrawsPlay}
 use Rattle.view_plays.specs.ToldPlays.Progress.{IsProgress}
-use Rattle.view_plays.specs.Viewed.{IsTold, whole, begun, EndsFor, IsWritten, Draws, drew, refused as was_refused}
+use Rattle.view_plays.specs.Viewed.{IsTold, whole, begun, IsWritten, Draws, drew, refused as was_refused}
 
 pub told-ends : {K : Type 0} (written : K → Option (List ℕ)) (faults : K → ℕ) (failed : K → Bool) (old new : K) (text : List ℕ) (why status : Status)
     → IsTold written faults failed old new text why status → (status ≡ why) ⊎ (status ≡ Ended.WriteFault)

@@ -1,4 +1,4 @@
-use Rattle.std.proofs.Common.{refl, arith}
+use Rattle.std.proofs.Common.{arith}
 use Rattle.std.proofs.lemmas.List.{length-map}
 use Rattle.command_words.specs.Words.{texts_of}
 use Rattle.view_plays.proofs.KindLemmas.{begins-none, begins-play, begins-html, begins-other}
