@@ -15,6 +15,8 @@ use Rattle.trace_text.specs.declared.trace.Trace.{Trace}
 use Rattle.class_table.specs.Table.{Element, numbered, net_element, net_client_element, net_elements, serial_element, serial_client_element, serial_elements, blk_element, blk_client_element, blk_elements, table_of}
 use Rattle.region_layout.specs.Rows.{pool_row, pool_rows, pools_of}
 use Rattle.cast_law.specs.PoolLines.PoolLines.{table_lines}
+use Rattle.cast_law.specs.Places.{pool_place}
+use Rattle.system_core.specs.Pools.{table_after}
 use Rattle.system_core.specs.Shows.{Shown}
 use Rattle.system_core.specs.PlanPlays.{IsSystemOf}
 
@@ -73,8 +75,8 @@ as-many t first [] = refl
 as-many t first (row ∷ pools) = let e = as-many t (first + 1) pools in omega (arith, e)
 
 pub few-lines : (plan : Plan) (trace : Trace) (s : Shown) → IsNumbered plan → IsSystemOf plan trace s → length s.state.pools ≤ 2 ^ 40
-few-lines plan trace s numbered is =
+few-lines plan trace s are is =
     let lines = ap length (is.owners.lines is.owners.table is.owners.first) in
-    let many = as-many _ 0 (pools_of plan) in
-    let few = few-pools plan numbered in
+    let many = as-many (table_after (pool_place plan trace) is.owners.table s s.journal) 0 (pools_of plan) in
+    let few = few-pools plan are in
     omega (arith, lines, many, few)

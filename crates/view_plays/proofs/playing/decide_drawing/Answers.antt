@@ -1,4 +1,4 @@
-use Rattle.std.proofs.Common.{refl, subst, inl, inr}
+use Rattle.std.proofs.Common.{◌∙◌, ap, refl, subst, inl, inr}
 use Rattle.std.proofs.lemmas.Result.{err_from_is_err_and}
 use Rattle.command_words.specs.Words.{texts_of}
 use Rattle.shelf_core.specs.Reading.{WasRead}
@@ -14,7 +14,7 @@ use Rattle.view_plays.proofs.playing.decide_drawing.Goals as goal
 pub returns-clause-decides : goal.returns-clause-decides
 returns-clause-decides g c =
     draws (WasRead (g.F.Shelf.text c.args.shelf.now)) (texts_of c.args.words.now) c.args.drawing.now c.in_ok-decided.decided (decided_of c.in_ok-reply_to.field-0) c.requires
-    (subst (λ ws. Decides (WasRead (g.F.Shelf.text c.args.shelf.now)) ws (decision_of c.in_ok-decided.decided)) c.in_ok-main.ensures c.in_ok-decided.ensures.decides)
+    (subst (λ ws. Decides (WasRead (g.F.Shelf.text c.args.shelf.now)) ws (decision_of c.in_ok-decided.decided)) (ap texts_of c.deref.ensures.value ∙ c.in_ok-main.ensures) c.in_ok-decided.ensures.decides)
     c.in_ok-reply_to.ensures.replies
 
 pub returns-in_err-main-clause-reads : goal.returns-in_err-main-clause-reads
@@ -26,26 +26,26 @@ pub returns-in_err-decided-clause-reads : goal.returns-in_err-decided-clause-rea
 returns-in_err-decided-clause-reads g c =
     let p = err_from_is_err_and c.from_residual-in_err-decided.result c.from_residual-in_err-decided.ensures.1 in
     rw (p.1, p.2) (reads-stopped g.F.Shelf.text g.F.Shelf.left g.F.Shelf.opens g.F.Shelf.faults g.F.Shelf.failed
-    (OpensInTurn (WasRead (g.F.Shelf.text c.args.shelf.now)) (texts_of c.in_ok-main.main.items)) (OpensFor (WasRead (g.F.Shelf.text c.args.shelf.now)) (texts_of c.args.words.now))
-    (OfEach (ReadLast (g.F.Shelf.text c.args.shelf.now) (texts_of c.in_ok-main.main.items))) LeavesAny _ _ _ c.in_err-decided.ensures.reads
-    (λ o. inr (c.args.drawing.now, c.requires, subst (λ ws. OpensInTurn (WasRead (g.F.Shelf.text c.args.shelf.now)) ws _ _) c.in_ok-main.ensures o)))
+    (OpensInTurn (WasRead (g.F.Shelf.text c.args.shelf.now)) (texts_of c.deref.result.now)) (OpensFor (WasRead (g.F.Shelf.text c.args.shelf.now)) (texts_of c.args.words.now))
+    (OfEach (ReadLast (g.F.Shelf.text c.args.shelf.now) (texts_of c.deref.result.now))) LeavesAny _ _ _ c.in_err-decided.ensures.reads
+    (λ o. inr (c.args.drawing.now, c.requires, subst (λ ws. OpensInTurn (WasRead (g.F.Shelf.text c.args.shelf.now)) ws _ _) (ap texts_of c.deref.ensures.value ∙ c.in_ok-main.ensures) o)))
 
 pub returns-in_err-reply_to-clause-reads : goal.returns-in_err-reply_to-clause-reads
 returns-in_err-reply_to-clause-reads g c =
     let p = err_from_is_err_and c.from_residual-in_err-reply_to.result c.from_residual-in_err-reply_to.ensures.1 in
     rw p.1 (reads-starved g.F.Shelf.text g.F.Shelf.left g.F.Shelf.opens g.F.Shelf.faults g.F.Shelf.failed
-    (OpensInTurn (WasRead (g.F.Shelf.text c.args.shelf.now)) (texts_of c.in_ok-main.main.items)) (OpensFor (WasRead (g.F.Shelf.text c.args.shelf.now)) (texts_of c.args.words.now))
-    (OfEach (ReadLast (g.F.Shelf.text c.args.shelf.now) (texts_of c.in_ok-main.main.items))) LeavesAny _ _ _ _ _ c.in_ok-decided.ensures.reads p.2
-    (λ o. inr (c.args.drawing.now, c.requires, subst (λ ws. OpensInTurn (WasRead (g.F.Shelf.text c.args.shelf.now)) ws _ _) c.in_ok-main.ensures o)))
+    (OpensInTurn (WasRead (g.F.Shelf.text c.args.shelf.now)) (texts_of c.deref.result.now)) (OpensFor (WasRead (g.F.Shelf.text c.args.shelf.now)) (texts_of c.args.words.now))
+    (OfEach (ReadLast (g.F.Shelf.text c.args.shelf.now) (texts_of c.deref.result.now))) LeavesAny _ _ _ _ _ c.in_ok-decided.ensures.reads p.2
+    (λ o. inr (c.args.drawing.now, c.requires, subst (λ ws. OpensInTurn (WasRead (g.F.Shelf.text c.args.shelf.now)) ws _ _) (ap texts_of c.deref.ensures.value ∙ c.in_ok-main.ensures) o)))
 
 pub returns-clause-reads : goal.returns-clause-reads
 returns-clause-reads g c =
     reads-for g.F.Shelf.text g.F.Shelf.left g.F.Shelf.opens g.F.Shelf.faults g.F.Shelf.failed
-    (OpensInTurn (WasRead (g.F.Shelf.text c.args.shelf.now)) (texts_of c.in_ok-main.main.items)) (OpensFor (WasRead (g.F.Shelf.text c.args.shelf.now)) (texts_of c.args.words.now))
-    (OfEach (ReadLast (g.F.Shelf.text c.args.shelf.now) (texts_of c.in_ok-main.main.items))) LeavesAny _ _ _ _ c.in_ok-decided.ensures.reads
-    (λ o. inr (c.args.drawing.now, c.requires, subst (λ ws. OpensInTurn (WasRead (g.F.Shelf.text c.args.shelf.now)) ws _ _) c.in_ok-main.ensures o)) (λ l. tt)
+    (OpensInTurn (WasRead (g.F.Shelf.text c.args.shelf.now)) (texts_of c.deref.result.now)) (OpensFor (WasRead (g.F.Shelf.text c.args.shelf.now)) (texts_of c.args.words.now))
+    (OfEach (ReadLast (g.F.Shelf.text c.args.shelf.now) (texts_of c.deref.result.now))) LeavesAny _ _ _ _ c.in_ok-decided.ensures.reads
+    (λ o. inr (c.args.drawing.now, c.requires, subst (λ ws. OpensInTurn (WasRead (g.F.Shelf.text c.args.shelf.now)) ws _ _) (ap texts_of c.deref.ensures.value ∙ c.in_ok-main.ensures) o)) (λ l. tt)
 
 pub reply_to-requires : goal.reply_to-requires
 reply_to-requires g c =
-    on-plan c.in_ok-decided.decided (of-plan (WasRead (g.F.Shelf.text c.args.shelf.now)) _ (texts_of c.in_ok-main.main.items) _ c.in_ok-main.ensures c.in_ok-decided.ensures.decides)
+    on-plan c.in_ok-decided.decided (of-plan (WasRead (g.F.Shelf.text c.args.shelf.now)) _ (texts_of c.deref.result.now) _ (ap texts_of c.deref.ensures.value ∙ c.in_ok-main.ensures) c.in_ok-decided.ensures.decides)
     c.in_ok-decided.ensures.playable

@@ -14,7 +14,7 @@ returns-in-Ok-clause-reads g c = c.decide_drawing.ensures.reads
 pub returns-in_ok-refuse_words-in-Err-clause-decides : goal.returns-in_ok-refuse_words-in-Err-clause-decides
 returns-in_ok-refuse_words-in-Err-clause-decides g c =
     subst (λ x. DrawsPlay (WasRead (g.F.Shelf.text c.args.shelf.now)) (texts_of c.args.words.now) x) (sym c.in_ok-refuse_words-in-Err.ensures)
-    (no_drawing c.in-Err.place c.in-Err.ensures.err)
+    (no_drawing c.in-Err.place (rw c.in-Err.is at c.in_ok-drawing.ensures.err))
 
 pub returns-in_ok-refuse_words-in-Err-clause-reads : goal.returns-in_ok-refuse_words-in-Err-clause-reads
 returns-in_ok-refuse_words-in-Err-clause-reads g c = record { texts = λ n. refl; opened = inl refl; last = tt; calm = refl; stopped = tt }
