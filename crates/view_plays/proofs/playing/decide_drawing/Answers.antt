@@ -30,7 +30,7 @@ returns-in_err-decided-clause-reads g c =
     rw (p.1, p.2) (reads-stopped g.F.Shelf.text g.F.Shelf.left g.F.Shelf.opens g.F.Shelf.faults g.F.Shelf.failed
     (OpensInTurn (WasRead (g.F.Shelf.text c.args.shelf.now)) (texts_of c.deref.result.now)) (OpensFor (WasRead (g.F.Shelf.text c.args.shelf.now)) (texts_of c.args.words.now))
     (OfEach (ReadLast (g.F.Shelf.text c.args.shelf.now) (texts_of c.deref.result.now))) LeavesAny _ _ _ c.in_err-decided.ensures.reads
-    (λ o. inr (c.args.drawing.now, c.requires, subst (λ ws. OpensInTurn (WasRead (g.F.Shelf.text c.args.shelf.now)) ws _ _) (ap texts_of c.deref.ensures.value ∙ (c.in_ok-main.ensures ∙ ap (λ (xs : List Setting). main_words (texts_of c.args.words.now) xs) c.as_slice.ensures)) o)))
+    (λ o. inr (c.args.drawing.now, c.requires, subst (λ ws. OpensInTurn (WasRead (g.F.Shelf.text c.args.shelf.now)) ws (g.F.Shelf.opens c.args.shelf.now) (g.F.Shelf.opens c.decide_words.new.shelf)) (ap texts_of c.deref.ensures.value ∙ (c.in_ok-main.ensures ∙ ap (λ (xs : List Setting). main_words (texts_of c.args.words.now) xs) c.as_slice.ensures)) o)))
 
 pub returns-in_err-reply_to-clause-reads : goal.returns-in_err-reply_to-clause-reads
 returns-in_err-reply_to-clause-reads g c =
@@ -38,14 +38,14 @@ returns-in_err-reply_to-clause-reads g c =
     rw p.1 (reads-starved g.F.Shelf.text g.F.Shelf.left g.F.Shelf.opens g.F.Shelf.faults g.F.Shelf.failed
     (OpensInTurn (WasRead (g.F.Shelf.text c.args.shelf.now)) (texts_of c.deref.result.now)) (OpensFor (WasRead (g.F.Shelf.text c.args.shelf.now)) (texts_of c.args.words.now))
     (OfEach (ReadLast (g.F.Shelf.text c.args.shelf.now) (texts_of c.deref.result.now))) LeavesAny _ _ _ _ _ c.in_ok-decided.ensures.reads p.2
-    (λ o. inr (c.args.drawing.now, c.requires, subst (λ ws. OpensInTurn (WasRead (g.F.Shelf.text c.args.shelf.now)) ws _ _) (ap texts_of c.deref.ensures.value ∙ (c.in_ok-main.ensures ∙ ap (λ (xs : List Setting). main_words (texts_of c.args.words.now) xs) c.as_slice.ensures)) o)))
+    (λ o. inr (c.args.drawing.now, c.requires, subst (λ ws. OpensInTurn (WasRead (g.F.Shelf.text c.args.shelf.now)) ws (g.F.Shelf.opens c.args.shelf.now) (g.F.Shelf.opens c.decide_words.new.shelf)) (ap texts_of c.deref.ensures.value ∙ (c.in_ok-main.ensures ∙ ap (λ (xs : List Setting). main_words (texts_of c.args.words.now) xs) c.as_slice.ensures)) o)))
 
 pub returns-clause-reads : goal.returns-clause-reads
 returns-clause-reads g c =
     reads-for g.F.Shelf.text g.F.Shelf.left g.F.Shelf.opens g.F.Shelf.faults g.F.Shelf.failed
     (OpensInTurn (WasRead (g.F.Shelf.text c.args.shelf.now)) (texts_of c.deref.result.now)) (OpensFor (WasRead (g.F.Shelf.text c.args.shelf.now)) (texts_of c.args.words.now))
     (OfEach (ReadLast (g.F.Shelf.text c.args.shelf.now) (texts_of c.deref.result.now))) LeavesAny _ _ _ _ c.in_ok-decided.ensures.reads
-    (λ o. inr (c.args.drawing.now, c.requires, subst (λ ws. OpensInTurn (WasRead (g.F.Shelf.text c.args.shelf.now)) ws _ _) (ap texts_of c.deref.ensures.value ∙ (c.in_ok-main.ensures ∙ ap (λ (xs : List Setting). main_words (texts_of c.args.words.now) xs) c.as_slice.ensures)) o)) (λ l. tt)
+    (λ o. inr (c.args.drawing.now, c.requires, subst (λ ws. OpensInTurn (WasRead (g.F.Shelf.text c.args.shelf.now)) ws (g.F.Shelf.opens c.args.shelf.now) (g.F.Shelf.opens c.decide_words.new.shelf)) (ap texts_of c.deref.ensures.value ∙ (c.in_ok-main.ensures ∙ ap (λ (xs : List Setting). main_words (texts_of c.args.words.now) xs) c.as_slice.ensures)) o)) (λ l. tt)
 
 pub reply_to-requires : goal.reply_to-requires
 reply_to-requires g c =
