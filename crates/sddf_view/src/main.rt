@@ -3,8 +3,8 @@
 #![tactic(auto)]
 
 use std::process::ExitCode;
-use view_core::view_host;
+use view_plays::plays_host;
 
 fn main(rt: HostRuntime) -> ExitCode {
-    ExitCode::from(view_host(&rt))
+    ExitCode::from(plays_host(&rt))
 }

@@ -9,7 +9,6 @@ mod deciding;
 mod drawing;
 mod ended;
 mod err_sink;
-mod hosting;
 mod line;
 mod viewing;
 
@@ -17,5 +16,5 @@ pub use answer::Answer;
 pub use ask::{View, read_words};
 pub use deciding::decide_view;
 pub use ended::Ended;
-pub use hosting::view_host;
+pub use err_sink::ErrSink;
 pub use viewing::view;

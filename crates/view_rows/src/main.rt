@@ -7,10 +7,10 @@ use cargo_core::Memory;
 use shelf_core::{FileShelf, MemSink};
 use std::alloc::{AllocError, Global};
 use std::{fs, io, str};
-use view_core::view;
+use view_plays::view_any;
 
 /// How many bytes each sink has room for.
-const ROOM: usize = 1_048_576;
+const ROOM: usize = 2_000_000;
 
 // The words of a row.
 fn words_of(alloc: Global, row: &str) -> Result<Vec<String>, AllocError> {
@@ -52,8 +52,8 @@ fn print_row(rt: &HostRuntime, row: &str) -> io::Result<()> {
         return rt.println("no memory");
     };
     let mut shelf = FileShelf::new(rt);
-    let ended = view(rt.alloc(), &words, &mut shelf, &mut out, &mut err);
-    print!(rt; "{asked}: {} ", ended.code())?;
+    let status = view_any(rt.alloc(), &words, &mut shelf, &mut out, &mut err);
+    print!(rt; "{asked}: {status} ")?;
     if err.written().is_empty() {
         return print_shown(rt, out.written(), kept);
     }

@@ -1,0 +1,6 @@
+mod PoolLemmas
+mod ReplyLemmas
+mod CalmLemmas
+mod KindLemmas
+mod PlayLemmas
+pub mod ToldPlays

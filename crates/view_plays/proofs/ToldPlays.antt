@@ -1,0 +1,2 @@
+-- Lemmas of plays in slices.
+pub mod SliceLemmas

@@ -1,0 +1,12 @@
+//! Plays, drawn: the words `play` and `html` of the program beside the main one, and all its words.
+//! What is played is what the main program plays for the same words.
+#![tactic(auto)]
+
+mod hosting;
+mod playing;
+pub mod told_plays;
+mod viewing;
+
+pub use hosting::plays_host;
+pub use playing::{Reply, decide_play};
+pub use viewing::{view_any, view_play};
