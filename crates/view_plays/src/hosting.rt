@@ -21,7 +21,8 @@ fn words_of<R: Env + AllocGlobal>(rt: &R) -> io::Result<Vec<String>> {
 
 /// Does what the arguments behind the program's name ask for, over files, standard output and
 /// standard error, and answers the status with which the program ends. No contract tells what
-/// arguments, files and streams hold: what is promised stands at `view_any`, which it calls on them.
+/// arguments, files and streams hold: what is promised stands at `view_any`, which it calls on
+/// them.
 pub fn plays_host<R: Env + Files + Print + Eprint + AllocGlobal>(rt: &R) -> u8 {
     let Ok(words) = words_of(rt) else {
         return NO_WORDS;
