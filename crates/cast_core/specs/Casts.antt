@@ -1,10 +1,11 @@
 -- What each actor of a plan is made of, by its job, and actors that are so made.
 use Rattle.std.specs.Prelude.{◌≡◌, ◌+◌, ◌*◌, ℕ, Option, Some, List, [], length, slice_get}
-use Rattle.std.specs.Prelude.{unwrap_or}
+use Rattle.std.specs.Prelude.{unwrap_or, if◌then◌else◌}
 use Rattle.std.specs.Option.{option_map_or}
 use Rattle.sdf_plan.specs.declared.plan.Plan.{Plan}
 use Rattle.trace_text.specs.declared.trace.Trace.{Trace}
-use Rattle.trace_text.specs.Events.{net_clients, serial_clients, blk_clients}
+use Rattle.trace_text.specs.Events.{net_clients, serial_clients, blk_clients, is_net_rogue}
+use Rattle.trace_text.specs.Events.{is_serial_rogue, is_blk_rogue}
 use Rattle.trace_text.specs.Limits.{frame_most}
 use Rattle.trace_text.specs.Traces.{per_client}
 use Rattle.region_layout.specs.Rows.{actors_of, pools_of}
@@ -14,7 +15,7 @@ use Rattle.net_law.specs.Parts.Numbers.{device_at, driver_at, receiver_at, copie
 use Rattle.net_law.specs.TxParts.Numbers.{NetPlace, own_pools, sender_at}
 use Rattle.blk_law.specs.Sheets.Numbers.{BlkPlace, disk_at, blk_driver_at, virt_at, blk_client_at}
 use Rattle.actor_set.specs.Parts.{Part, UartPart, DriverPart, RxPart, TxPart, ClientPart}
-use Rattle.actor_set.specs.Parts.{NetworkPart, SendingPart, BlockPart}
+use Rattle.actor_set.specs.Parts.{NetworkPart, SendingPart, BlockPart, HostilePart}
 use Rattle.actor_set.specs.Actors.{part_of}
 use Rattle.actor_set.specs.StartStates.{IsNew}
 use Rattle.actor_set.specs.declared.actor.Actor.{Actor}
@@ -22,6 +23,7 @@ use Rattle.play_core.specs.Sheets.{Scene}
 use Rattle.expect_core.specs.Expected.{client_asks, client_entry}
 use Rattle.cast_core.specs.Sources.{every_second, first_serial, pool_at, pools_at, client_mac}
 use Rattle.cast_core.specs.Sources.{client_program, first_blk, first_blk_pool}
+use Rattle.cast_core.specs.Hostile.{acts_at, net_rogue_at, serial_rogue_at, blk_rogue_at}
 use Rattle.layout_laws.specs.Jobs.Jobs.{Job, EthDevice, EthDriver, NetReceiver, NetSender}
 use Rattle.layout_laws.specs.Jobs.Jobs.{NetCopier, NetClient, UartDevice, UartDriver}
 use Rattle.layout_laws.specs.Jobs.Jobs.{SerialReceiver, SerialSender, SerialClient, DiskDevice}
@@ -58,6 +60,31 @@ blk_place plan trace = record {
   pools = per_client (length (blk_clients plan)) (client_pool plan);
 }
 
+-- the part of the network client of a number, hostile or not
+abbrev pub any_net_client : Plan → Trace → ℕ → Part
+any_net_client plan trace c =
+    if is_net_rogue plan c
+    then HostilePart (net_rogue_at 0 c (client_pools plan c) (acts_at trace.net_acts c))
+    else NetworkPart (client_at 0 c (client_program plan trace c) (client_mac plan c)
+    (own_pools (client_pools plan c)))
+
+-- the part of the serial client of a number, hostile or not
+abbrev pub any_serial_client : Plan → Trace → ℕ → Part
+any_serial_client plan trace c =
+    if is_serial_rogue plan c
+    then HostilePart (serial_rogue_at (first_serial plan) c (acts_at trace.serial_acts c))
+    else ClientPart (first_serial plan + 4 + 2 * c) (first_serial plan + 5 + 2 * c)
+    (unwrap_or (slice_get trace.says c) [])
+
+-- the part of the block client of a number, hostile or not
+abbrev pub any_blk_client : Plan → Trace → ℕ → Part
+any_blk_client plan trace c =
+    if is_blk_rogue plan c
+    then HostilePart
+    (blk_rogue_at (first_blk plan) c (client_pool plan c) (acts_at trace.blk_acts c))
+    else BlockPart
+    (blk_client_at (first_blk plan) c (client_asks trace c) (client_pool plan c))
+
 -- the part of an actor of a job
 abbrev pub job_part : Plan → Trace → Job → Option Part
 job_part plan trace EthDevice = Some (NetworkPart (device_at 0 trace.frames))
@@ -67,9 +94,7 @@ job_part plan trace NetReceiver = Some (NetworkPart
 job_part plan trace NetSender =
     Some (SendingPart (sender_at 0 (frame_most plan) (net_place plan trace).pools))
 job_part plan trace (NetCopier c) = Some (NetworkPart (copier_at 0 c))
-job_part plan trace (NetClient c) = Some (NetworkPart
-    (client_at 0 c (client_program plan trace c)
-    (client_mac plan c) (own_pools (client_pools plan c))))
+job_part plan trace (NetClient c) = Some (any_net_client plan trace c)
 job_part plan trace UartDevice = Some (UartPart
     (first_serial plan) (first_serial plan + 1) trace.input)
 job_part plan trace UartDriver = Some (DriverPart (first_serial plan) (first_serial plan + 1)
@@ -78,13 +103,11 @@ job_part plan trace SerialReceiver = Some (RxPart (first_serial plan + 2)
     (every_second (first_serial plan + 4) (length (serial_clients plan))))
 job_part plan trace SerialSender = Some (TxPart (first_serial plan + 3)
     (every_second (first_serial plan + 5) (length (serial_clients plan))))
-job_part plan trace (SerialClient c) = Some (ClientPart (first_serial plan + 4 + 2 * c)
-    (first_serial plan + 5 + 2 * c) (unwrap_or (slice_get trace.says c) []))
+job_part plan trace (SerialClient c) = Some (any_serial_client plan trace c)
 job_part plan trace DiskDevice = Some (BlockPart (disk_at (blk_place plan trace)))
 job_part plan trace DiskDriver = Some (BlockPart (blk_driver_at (first_blk plan)))
 job_part plan trace BlkVirtualiser = Some (BlockPart (virt_at (blk_place plan trace)))
-job_part plan trace (BlkClient c) = Some (BlockPart
-    (blk_client_at (first_blk plan) c (client_asks trace c) (client_pool plan c)))
+job_part plan trace (BlkClient c) = Some (any_blk_client plan trace c)
 
 -- what a trace gives the classes that a plan has: the frames to the network class, and the image to
 -- the block class

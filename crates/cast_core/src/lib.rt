@@ -4,6 +4,7 @@
 
 mod actors;
 mod block;
+mod hostile;
 mod jobs;
 mod network;
 mod pools;
