@@ -1,5 +1,5 @@
 -- No job of a plan makes a hostile actor.
-use Rattle.std.proofs.Common.{◌≡◌, ℕ, Some, List, map, sym, ap, ◌∙◌, refl}
+use Rattle.std.proofs.Common.{◌≡◌, Some, List, map, sym, ap, ◌∙◌}
 use Rattle.sdf_plan.specs.declared.plan.Plan.{Plan}
 use Rattle.trace_text.specs.declared.trace.Trace.{Trace}
 use Rattle.play_core.specs.Manners.{Calm}

@@ -1,6 +1,5 @@
 -- Each actor conserves buffers one by one, over the ends that its sheet gives.
 use Rattle.std.proofs.Common.{◌≡◌, ℕ, List, [], ◌∷◌, ◌++◌, length, refl, sym, ap, ◌∙◌, arith}
-use Rattle.std.specs.List.{sum_by}
 use Rattle.std.proofs.lemmas.List.{length-map}
 use Rattle.std.proofs.lemmas.List.Sums.{sum_by-cons}
 use Rattle.wire_core.specs.Lists.{Passed}
@@ -32,9 +31,9 @@ use Rattle.blk_quiet.proofs.PoolsLemmas.Holding.{sharers_came, sharers_went}
 use Rattle.actor_set.specs.Actors.{ActorStandsFor, IsWhole, actor_hand, part_of, numbers}
 use Rattle.actor_set.specs.declared.actor.Actor.{Actor}
 use Rattle.actor_set.specs.declared.actor.Actor.TheVariants as Kinds
-use Rattle.actor_set.specs.Laws.Kinds.{manner_of, sheet}
-use Rattle.play_core.specs.Manners.{Calm}
-use Rattle.cast_law.specs.Pages.Paging.{actor_kept, actor_start, part_pools, pool_weighs}
+use Rattle.actor_set.specs.Laws.Kinds.{sheet}
+use Rattle.actor_set.proofs.RogueLemmas.Ends.{pages_counted}
+use Rattle.cast_law.specs.Pages.Paging.{actor_kept, actor_start, part_weighs, pool_weighs}
 use Rattle.cast_law.proofs.PoolsLemmas.Acting.{ins_came, ins_went, outs_came, outs_went, both_came, both_went}
 
 module _ (scene : Scene) (passed : Passed) where
@@ -75,23 +74,23 @@ module _ (scene : Scene) (passed : Passed) where
       let outs : List ℕ = numbers x.outputs.items in
       omega (arith, st f, ap (counted f) (both_came passed ins outs), ap (counted f) (both_went passed ins outs))
 
--- what it had at the start is all of its pools
+-- what it had at the start is all of its pools, and its pages
 module _ (passed : Passed) (f : Count) where
-  pub start_weighs : (x : Actor) → manner_of (part_of x) ≡ Calm → IsWhole x → (st : ActorStandsFor x passed) → counted f (actor_start x passed st) ≡ sum_by (pool_weighs f) (part_pools (part_of x))
-  start_weighs (Kinds.UartDevice x) calm whole st = refl
-  start_weighs (Kinds.UartDriver x) calm whole st = refl
-  start_weighs (Kinds.SerialVirtRx x) calm whole st = refl
-  start_weighs (Kinds.SerialVirtTx x) calm whole st = refl
-  start_weighs (Kinds.SerialClient x) calm whole st = refl
-  start_weighs (Kinds.EthDevice x) calm whole st = refl
-  start_weighs (Kinds.EthDriver x) calm whole st = refl
-  start_weighs (Kinds.NetVirtRx x) calm whole st =
+  pub start_weighs : (x : Actor) → IsWhole x → (st : ActorStandsFor x passed) → counted f (actor_start x passed st) ≡ part_weighs f (part_of x)
+  start_weighs (Kinds.UartDevice x) whole st = refl
+  start_weighs (Kinds.UartDriver x) whole st = refl
+  start_weighs (Kinds.SerialVirtRx x) whole st = refl
+  start_weighs (Kinds.SerialVirtTx x) whole st = refl
+  start_weighs (Kinds.SerialClient x) whole st = refl
+  start_weighs (Kinds.EthDevice x) whole st = refl
+  start_weighs (Kinds.EthDriver x) whole st = refl
+  start_weighs (Kinds.NetVirtRx x) whole st =
       let s = x.work.stock in
       let pages = pool_weight f s.base s.pool s.size st.start st.is_start.are_pool in
       let many = ap (sum_below (λ b. f s.pool b s.size)) st.is_start.many in
       omega (arith, pages, many, sum_by-cons (pool_weighs f) (stock_pool s) [])
-  start_weighs (Kinds.NetCopier x) calm whole st = refl
-  start_weighs (Kinds.NetClient x) calm whole st =
+  start_weighs (Kinds.NetCopier x) whole st = refl
+  start_weighs (Kinds.NetClient x) whole st =
       let s = x.stock in
       let t = x.outbox.stock in
       let both = counted-append f (page_bodies st.start) (page_bodies st.sends.start) in
@@ -100,19 +99,19 @@ module _ (passed : Passed) (f : Count) where
       let rx_many = ap (sum_below (λ b. f s.pool b s.size)) st.is_start.many in
       let tx_many = ap (sum_below (λ b. f t.pool b t.size)) st.sends.is_start.many in
       omega (arith, both, rx, tx, rx_many, tx_many, sum_by-cons (pool_weighs f) (stock_pool s) (stock_pool t ∷ []), sum_by-cons (pool_weighs f) (stock_pool t) [])
-  start_weighs (Kinds.NetVirtTx x) calm whole st = refl
-  start_weighs (Kinds.DiskDevice x) calm whole st = refl
-  start_weighs (Kinds.BlkDriver x) calm whole st = refl
-  start_weighs (Kinds.BlkVirt x) calm whole st =
+  start_weighs (Kinds.NetVirtTx x) whole st = refl
+  start_weighs (Kinds.DiskDevice x) whole st = refl
+  start_weighs (Kinds.BlkDriver x) whole st = refl
+  start_weighs (Kinds.BlkVirt x) whole st =
       let own = st.stands.is_start in
       let own_pool : PoolAt = record { number = x.work.opening.own.pool.0; base = x.work.opening.base; buffers = 1; size = 32768 } in
       let name = ap (λ n. f n.pool n.no (length st.start.bytes)) own in
       let first = ap (λ n. f x.work.opening.own.pool n (length st.start.bytes)) whole.first in
       let long = ap (f x.work.opening.own.pool 0) st.long in
       omega (arith, name, first, long, sum_by-cons (pool_weighs f) own_pool [])
-  start_weighs (Kinds.BlkClient x) calm whole st =
+  start_weighs (Kinds.BlkClient x) whole st =
       let pages = pool_weight f 0 x.asking.pool 32768 st.start st.is_start.are_pool in
       let many = ap (sum_below (λ b. f x.asking.pool b 32768)) st.is_start.many in
       let pool : PoolAt = record { number = x.asking.pool.0; base = 0; buffers = x.asking.buffers; size = 32768 } in
       omega (arith, pages, many, sum_by-cons (pool_weighs f) pool [])
-  start_weighs (Kinds.Rogue x) calm whole st = absurd cc
+  start_weighs (Kinds.Rogue x) whole st = omega (arith, pages_counted f x.start.value.items)

@@ -21,12 +21,13 @@ use Rattle.page_law.proofs.ActorsLemmas.Pages.{same_sum, none_sum, first_sum}
 use Rattle.page_law.proofs.LawLemmas.Placing.{below_at}
 use Rattle.net_law.specs.Parts.Parts.{NetDevice, NetDriver, NetReceiver, NetCopier, NetClient}
 use Rattle.blk_law.specs.Sheets.Parts.{DiskDevice, BlkDriver, BlkVirt, BlkClient}
-use Rattle.actor_set.specs.Parts.{HostilePart, Part, UartPart, DriverPart, RxPart, TxPart, ClientPart, NetworkPart, SendingPart, BlockPart}
+use Rattle.actor_set.specs.Parts.{PageAt, Part, UartPart, DriverPart, RxPart, TxPart, ClientPart, NetworkPart, SendingPart, BlockPart, HostilePart}
 use Rattle.actor_set.specs.Laws.Kinds.{manner_of, AllCalm, sheet, scene_of}
+use Rattle.actor_set.specs.Rogues.{page_weighs, pages_in, pages_weigh}
 use Rattle.play_core.specs.Manners.{Calm}
 use Rattle.cast_law.specs.Pools.Places.{PoolPlace, IsPlaced, HasPools, place_sizes}
 use Rattle.cast_law.specs.Pools.Pooling.{keepers_at}
-use Rattle.cast_law.specs.Pages.Paging.{part_pools, pool_weighs, pools_weigh}
+use Rattle.cast_law.specs.Pages.Paging.{part_pages, part_pools, part_weighs, pool_weighs, pools_weigh}
 use Rattle.cast_law.proofs.PoolsLemmas.Dealing.{owner, are_spread, pool_owned}
 
 abbrev pick : Bool → ℕ
@@ -60,36 +61,68 @@ module _ (pool number : ℕ) where
   one_count : (p : PoolAt) → sum_by (pool_weighs the) (p ∷ []) ≡ count_by (λ x. x == number) (pool_hand p pool)
   one_count p = omega (arith, sum_by-cons (pool_weighs the) p [], page_count p)
 
-  part_count : (scene : Scene) (p : Part) → manner_of p ≡ Calm → sum_by (pool_weighs the) (part_pools p) ≡ at_start (sheet scene p).hand buffer
-  part_count scene (UartPart rx tx input) calm = refl
-  part_count scene (DriverPart device_rx device_tx rx tx) calm = refl
-  part_count scene (RxPart rx clients) calm = refl
-  part_count scene (TxPart tx clients) calm = refl
-  part_count scene (ClientPart rx tx script) calm = refl
-  part_count scene (NetworkPart (NetDevice rx_free rx_active tx_active tx_free frames)) calm = refl
-  part_count scene (NetworkPart (NetDriver ways)) calm = refl
-  part_count scene (NetworkPart (NetReceiver active free p clients)) calm = one_count p
-  part_count scene (NetworkPart (NetCopier lease_active lease_free rx_active rx_free)) calm = refl
-  part_count scene (NetworkPart (NetClient program mac rx_active rx_free tx_active tx_free rx tx)) calm =
+  -- so it is counted where a page is told of it
+  told_count : (pages : List PageAt) → pages_weigh the pages ≡ count_by (λ x. x == number) (pages_in pages pool)
+  told_count [] = refl
+  told_count (p ∷ ps) = omega (arith, sum_by-cons (page_weighs the) p ps, by (p.pool == pool) (told_count ps))
+    where
+      by : (t : Bool) → pages_weigh the ps ≡ count_by (λ x. x == number) (pages_in ps pool) → pick (t && (p.number == number)) + pages_weigh the ps ≡ count_by (λ x. x == number) (cond t (p.number ∷ pages_in ps pool) (pages_in ps pool))
+      by true rest = omega (arith, rest, sum_by-cons (λ x. cond {A = ℕ} (x == number) 1 0) p.number (pages_in ps pool))
+      by false rest = omega (arith, rest)
+
+  part_count : (scene : Scene) (p : Part) → part_weighs the p ≡ at_start (sheet scene p).hand buffer
+  part_count scene (UartPart rx tx input) = refl
+  part_count scene (DriverPart device_rx device_tx rx tx) = refl
+  part_count scene (RxPart rx clients) = refl
+  part_count scene (TxPart tx clients) = refl
+  part_count scene (ClientPart rx tx script) = refl
+  part_count scene (NetworkPart (NetDevice rx_free rx_active tx_active tx_free frames)) = refl
+  part_count scene (NetworkPart (NetDriver ways)) = refl
+  part_count scene (NetworkPart (NetReceiver active free p clients)) = omega (arith, one_count p)
+  part_count scene (NetworkPart (NetCopier lease_active lease_free rx_active rx_free)) = refl
+  part_count scene (NetworkPart (NetClient program mac rx_active rx_free tx_active tx_free rx tx)) =
       let both = sum_by-append (λ x. cond {A = ℕ} (x == number) 1 0) (pool_hand rx pool) (pool_hand tx pool) in
       omega (arith, both, sum_by-cons (pool_weighs the) rx (tx ∷ []), page_count rx, one_count tx)
-  part_count scene (SendingPart p) calm = refl
-  part_count scene (BlockPart (DiskDevice req resp image)) calm = refl
-  part_count scene (BlockPart (BlkDriver ways)) calm = refl
-  part_count scene (BlockPart (BlkVirt req resp sectors p clients)) calm = one_count p
-  part_count scene (BlockPart (BlkClient req resp asks p)) calm = one_count p
-  part_count scene (HostilePart p) calm = absurd cc
+  part_count scene (SendingPart p) = refl
+  part_count scene (BlockPart (DiskDevice req resp image)) = refl
+  part_count scene (BlockPart (BlkDriver ways)) = refl
+  part_count scene (BlockPart (BlkVirt req resp sectors p clients)) = omega (arith, one_count p)
+  part_count scene (BlockPart (BlkClient req resp asks p)) = omega (arith, one_count p)
+  part_count scene (HostilePart p) = omega (arith, told_count p.pages)
 
-  parts_count : (scene : Scene) (cast : List Part) → AllCalm cast → pools_weigh the cast ≡ sum_by (λ (k : Keeper). at_start k.hand buffer) (map (λ p. keeper_of (sheet scene p)) cast)
-  parts_count scene [] calm = refl
-  parts_count scene (p ∷ cast) calm =
+  parts_count : (scene : Scene) (cast : List Part) → pools_weigh the cast ≡ sum_by (λ (k : Keeper). at_start k.hand buffer) (map (λ p. keeper_of (sheet scene p)) cast)
+  parts_count scene [] = refl
+  parts_count scene (p ∷ cast) =
       omega (
         arith,
-        sum_by-cons (λ (q : Part). sum_by (pool_weighs the) (part_pools q)) p cast,
+        sum_by-cons (part_weighs the) p cast,
         sum_by-cons (λ (k : Keeper). at_start k.hand buffer) (keeper_of (sheet scene p)) (map (λ q. keeper_of (sheet scene q)) cast),
-        part_count scene p (calm 0 p refl),
-        parts_count scene cast (λ k q at. calm (suc k) q at),
+        part_count scene p,
+        parts_count scene cast,
       )
+
+-- a part that isn't hostile has its pools alone
+no_pages : (p : Part) → manner_of p ≡ Calm → part_pages p ≡ []
+no_pages (UartPart rx tx input) calm = refl
+no_pages (DriverPart device_rx device_tx rx tx) calm = refl
+no_pages (RxPart rx clients) calm = refl
+no_pages (TxPart tx clients) calm = refl
+no_pages (ClientPart rx tx script) calm = refl
+no_pages (NetworkPart p) calm = refl
+no_pages (SendingPart p) calm = refl
+no_pages (BlockPart p) calm = refl
+no_pages (HostilePart p) calm = absurd cc
+
+calm_weigh : (f : Count) (cast : List Part) → AllCalm cast → pools_weigh f cast ≡ sum_by (λ p. sum_by (pool_weighs f) (part_pools p)) cast
+calm_weigh f [] calm = refl
+calm_weigh f (p ∷ cast) calm =
+    omega (
+      arith,
+      sum_by-cons (part_weighs f) p cast,
+      sum_by-cons (λ (q : Part). sum_by (pool_weighs f) (part_pools q)) p cast,
+      ap (pages_weigh f) (no_pages p (calm 0 p refl)),
+      calm_weigh f cast (λ k q at. calm (suc k) q at),
+    )
 
 at_least : {X : Type 0} (g : X → ℕ) (xs : List X) (k : ℕ) (x : X) → slice_get xs k ≡ Some x → g x ≤ sum_by g xs
 at_least g [] k x at = cc
@@ -111,7 +144,7 @@ module _ (rows : List QueueRow) (pools : List PoolRow) (place : PoolPlace) (cast
   pub few : (pool number : ℕ) → pools_weigh (the_page (record { 0 = pool }) number) cast ≤ 1
   few pool number =
       let dealt = spread_dealt (place_sizes place) owns (keepers_at cast) (are_spread rows cast calm seated place.net place.blk placed.net placed.blk has.numbered) (record { pool = pool; no = number }) in
-      omega (arith, parts_count pool number (scene_of cast) cast calm, dealt)
+      omega (arith, parts_count pool number (scene_of cast) cast, dealt)
 
   pub pages_once : (pool number : ℕ) → number < place_sizes place pool → pools_weigh (the_page (record { 0 = pool }) number) cast ≡ 1
   pages_once pool number lt = by (pool_owned rows cast calm seated place.net place.blk placed.net placed.blk has.numbered pool)
@@ -125,11 +158,11 @@ module _ (rows : List QueueRow) (pools : List PoolRow) (place : PoolPlace) (cast
           let mine : at_start p.0.hand (record { pool = pool; no = number }) ≡ count_by (λ x. x == number) (numbers_from 0 (place_sizes place pool)) = ap (count_by (λ x. x == number)) hand in
           let some = number_there 0 (place_sizes place pool) number (omega arith) (omega (arith, lt)) in
           let all = at_least (λ (k : Keeper). at_start k.hand (record { pool = pool; no = number })) (keepers_at cast) (owns pool) p.0 p.1 in
-          omega (arith, parts_count pool number (scene_of cast) cast calm, few pool number, mine, some, all)
+          omega (arith, parts_count pool number (scene_of cast) cast, few pool number, mine, some, all)
       by (inr none) = absurd (omega (arith, none, lt))
 
   flat : (f : Count) → sum_by (pool_weighs f) (flat_map part_pools cast) ≡ pools_weigh f cast
-  flat f = sum_flat (pool_weighs f) part_pools cast
+  flat f = sum_flat (pool_weighs f) part_pools cast ∙ sym (calm_weigh f cast calm)
 
   -- a pool's first buffer is counted
   first_there : (number : ℕ) (p : PoolAt) → p.number ≡ number → 1 ≤ p.buffers → 1 ≤ pool_weighs (the_page (record { 0 = number }) 0) p

@@ -31,12 +31,12 @@ use Rattle.page_law.proofs.LawLemmas.Summing.{whole}
 use Rattle.actor_set.specs.Parts.{Part}
 use Rattle.actor_set.specs.Actors.{IsWhole, actor_hand, part_of}
 use Rattle.actor_set.specs.declared.actor.Actor.{Actor}
-use Rattle.actor_set.specs.Laws.Kinds.{AllCalm, sheet, scene_of}
+use Rattle.actor_set.specs.Laws.Kinds.{sheet, scene_of}
 use Rattle.actor_set.proofs.LawsLemmas.Starts.{fits_whole}
 use Rattle.wired_law.specs.Wiring.{AreAtWork}
 use Rattle.cast_law.specs.Pools.Places.{PoolPlace, IsPlaced, HasPools, cast_naming, place_sizes}
 use Rattle.cast_law.specs.Pools.Pooling.{AreAtPlay}
-use Rattle.cast_law.specs.Pages.Paging.{AllStand, actor_lends, shown_bodies, page_holder, page_holders, actor_weighs, cast_weighs, part_pools, pool_weighs, pools_weigh}
+use Rattle.cast_law.specs.Pages.Paging.{AllStand, actor_lends, shown_bodies, page_holder, page_holders, actor_weighs, cast_weighs, part_pools, part_weighs, pools_weigh}
 use Rattle.cast_law.proofs.PoolsLemmas.Apart.{ends_apart}
 use Rattle.cast_law.proofs.PoolsLemmas.Naming.{names_at}
 use Rattle.cast_law.proofs.PagesLemmas.Lending.{kept_lends}
@@ -62,16 +62,16 @@ has_weighs f scene (x ∷ actors) passed stand =
     let rest = page_holders scene actors passed (λ k y at. stand (suc k) y at) in
     omega (arith, sum_by-cons (has f) (page_holder scene x passed (stand 0 x refl)) rest, sum_by-cons (actor_weighs f passed) x actors, has_weighs f scene actors passed (λ k y at. stand (suc k) y at))
 
-starts_weigh : (f : Count) (scene : Scene) (actors : List Actor) (passed : Passed) (stand : AllStand actors passed) → AllCalm (map part_of actors) → ((k : ℕ) (x : Actor) → slice_get actors k ≡ Some x → IsWhole x) → start_counted f (page_holders scene actors passed stand) ≡ pools_weigh f (map part_of actors)
-starts_weigh f scene [] passed stand calm fit = refl
-starts_weigh f scene (x ∷ actors) passed stand calm fit =
+starts_weigh : (f : Count) (scene : Scene) (actors : List Actor) (passed : Passed) (stand : AllStand actors passed) → ((k : ℕ) (x : Actor) → slice_get actors k ≡ Some x → IsWhole x) → start_counted f (page_holders scene actors passed stand) ≡ pools_weigh f (map part_of actors)
+starts_weigh f scene [] passed stand fit = refl
+starts_weigh f scene (x ∷ actors) passed stand fit =
     let rest = page_holders scene actors passed (λ k y at. stand (suc k) y at) in
     omega (
       arith,
       sum_by-cons (λ (h : PageHolder). counted f h.start) (page_holder scene x passed (stand 0 x refl)) rest,
-      sum_by-cons (λ (p : Part). sum_by (pool_weighs f) (part_pools p)) (part_of x) (map part_of actors),
-      start_weighs passed f x (calm 0 (part_of x) refl) (fit 0 x refl) (stand 0 x refl),
-      starts_weigh f scene actors passed (λ k y at. stand (suc k) y at) (λ k p at. calm (suc k) p at) (λ k y at. fit (suc k) y at),
+      sum_by-cons (part_weighs f) (part_of x) (map part_of actors),
+      start_weighs passed f x (fit 0 x refl) (stand 0 x refl),
+      starts_weigh f scene actors passed (λ k y at. stand (suc k) y at) (λ k y at. fit (suc k) y at),
     )
 
 rest_is : (xs ys : List Cargo) → drop (length xs) (xs ++ ys) ≡ ys
@@ -128,10 +128,10 @@ module _ (ends : Role → ℕ → End) (rows : List QueueRow) (actors : List Act
   }
 
   -- what the queues and the actors have is what all pools weigh
-  pub work_weighs : AllCalm parts → (f : Count) → sum_below (queue_has f passed) (length rows) + sum_by (actor_weighs f passed) actors ≡ pools_weigh f parts
-  work_weighs calm f =
+  pub work_weighs : (f : Count) → sum_below (queue_has f passed) (length rows) + sum_by (actor_weighs f passed) actors ≡ pools_weigh f parts
+  work_weighs f =
       let all = whole f passed rows kept work_held in
-      let start = starts_weigh f (scene_of parts) actors passed work.stands calm all_whole in
+      let start = starts_weigh f (scene_of parts) actors passed work.stands all_whole in
       let hands = has_weighs f (scene_of parts) actors passed work.stands in
       omega (arith, all, start, hands)
 
@@ -153,7 +153,7 @@ module _ (history : History) (rows : List QueueRow) (actors : List Actor) (journ
 
   pub cast_whole : (f : Count) → cast_weighs f passed world actors ≡ pools_weigh f cast
   cast_whole f =
-      let all = work_weighs (end_at world) rows actors passed play.peopled play.seated play.filled work play.calm f in
+      let all = work_weighs (end_at world) rows actors passed play.peopled play.seated play.filled work f in
       let each = same_sum (queue_has f passed) (λ n. weighed f (queue_at world n).entries) (length rows) (λ n lt. ap (weighed f) (ap (drop (length (passed.taken n))) (play.stands_there n) ∙ rest_is (passed.taken n) (queue_at world n).entries)) in
       let many = ap (sum_below (λ n. weighed f (queue_at world n).entries)) (sym play.size) in
       let queues = queues_weigh f world in

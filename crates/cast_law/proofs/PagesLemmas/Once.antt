@@ -44,7 +44,7 @@ module _ (ends : Role → ℕ → End) (rows : List QueueRow) (actors : List Act
   cast = map part_of actors
 
   in_pools : (f : Count) → in_cast f rows actors passed ≤ pools_weigh f cast
-  in_pools f = omega (arith, work_weighs ends rows actors passed peopled seated filled work calm f, hands_few f passed actors)
+  in_pools f = omega (arith, work_weighs ends rows actors passed peopled seated filled work f, hands_few f passed actors)
 
   -- the pool of a block client is one of the cast's
   holder_long : (k : ℕ) (v : BlkVirt) → slice_get actors k ≡ Some (Kinds.BlkVirt v) → (j : ℕ) (h : Holder) → slice_get (holders v.work.desk) j ≡ Some h → pools_weigh (of_other_length h.pool blk_buffer_bytes) cast ≡ 0

@@ -18,11 +18,12 @@ use Rattle.net_law.specs.Parts.Parts.{NetClient}
 use Rattle.blk_law.specs.Sheets.Parts.{BlkPart, DiskDevice, BlkDriver, BlkVirt, BlkClient}
 use Rattle.page_law.specs.Holders.{PageHolder}
 use Rattle.actor_set.specs.Parts.{Part, UartPart, DriverPart, RxPart, TxPart, ClientPart}
-use Rattle.actor_set.specs.Parts.{HostilePart, NetworkPart, SendingPart, BlockPart}
+use Rattle.actor_set.specs.Parts.{NetworkPart, SendingPart, BlockPart, HostilePart, PageAt}
 use Rattle.actor_set.specs.Actors.{ActorStandsFor, actor_hand, part_of}
 use Rattle.actor_set.specs.declared.actor.Actor.{Actor}
 use Rattle.actor_set.specs.declared.actor.Actor.TheVariants as Kinds
 use Rattle.actor_set.specs.Laws.Kinds.{sheet}
+use Rattle.actor_set.specs.Rogues.{pages_weigh}
 
 -- what an actor keeps for good, or lends: of the serial class, which has no buffers, what a
 -- terminal or the receiving virtualiser took; and what the network's receiving virtualiser has lent
@@ -120,8 +121,7 @@ blk_part_pools (BlkDriver ways) = []
 blk_part_pools (BlkVirt req resp sectors pool clients) = pool ∷ []
 blk_part_pools (BlkClient req resp asks pool) = pool ∷ []
 
--- the pools whose buffers a part has at the start; of a hostile client's pages its part tells the
--- names alone
+-- the pools whose buffers a part has at the start, all of each
 abbrev pub part_pools : Part → List PoolAt
 part_pools (UartPart rx tx input) = []
 part_pools (DriverPart device_rx device_tx rx tx) = []
@@ -133,13 +133,29 @@ part_pools (SendingPart p) = []
 part_pools (BlockPart p) = blk_part_pools p
 part_pools (HostilePart p) = []
 
+-- the buffers that a part has at the start and that are no whole pool: a hostile client's pages
+abbrev pub part_pages : Part → List PageAt
+part_pages (UartPart rx tx input) = []
+part_pages (DriverPart device_rx device_tx rx tx) = []
+part_pages (RxPart rx clients) = []
+part_pages (TxPart tx clients) = []
+part_pages (ClientPart rx tx script) = []
+part_pages (NetworkPart p) = []
+part_pages (SendingPart p) = []
+part_pages (BlockPart p) = []
+part_pages (HostilePart p) = p.pages
+
 -- what all buffers of a pool weigh, each of its pool's length
 abbrev pub pool_weighs : Count → PoolAt → ℕ
 pool_weighs f p = sum_below (λ no. f (record { 0 = p.number }) no p.size) p.buffers
 
--- what those of all pools of a cast weigh
+-- what all that a part has at the start weighs: the buffers of its pools, and its pages
+abbrev pub part_weighs : Count → Part → ℕ
+part_weighs f p = sum_by (pool_weighs f) (part_pools p) + pages_weigh f (part_pages p)
+
+-- what all that a cast has at the start weighs
 abbrev pub pools_weigh : Count → List Part → ℕ
-pools_weigh f cast = sum_by (λ p. sum_by (pool_weighs f) (part_pools p)) cast
+pools_weigh f cast = sum_by (part_weighs f) cast
 
 -- what an actor has
 abbrev pub actor_weighs : Count → Passed → Actor → ℕ
