@@ -26,9 +26,11 @@ use Rattle.client_programs.specs.Rogue.Clients.{AreApart, IsActOf, IsNewRogue, l
 use Rattle.actor_set.specs.Actors.{numbers, pages_at, part_of}
 use Rattle.actor_set.specs.Parts.{HostilePart, PageAt, Part}
 use Rattle.actor_set.specs.declared.actor.Actor.TheVariants as Kinds
+use Rattle.layout_laws.specs.Jobs.Jobs.{Job, EthDevice, EthDriver, NetReceiver, NetSender, NetCopier, NetClient, UartDevice, UartDriver, SerialReceiver, SerialSender, SerialClient, DiskDevice, DiskDriver, BlkVirtualiser, BlkClient}
+use Rattle.cast_core.specs.Casts.{calm_part, job_part}
 use Rattle.cast_core.specs.Sources.{pool_at}
 use Rattle.cast_core.specs.Making.{new_page}
-use Rattle.cast_core.specs.Hostile.{HasActs, acts_at, pool_pages, rogue_with}
+use Rattle.cast_core.specs.Hostile.{HasActs, HasNoRogue, acts_at, pool_pages, rogue_with}
 
 mapped : {A B : Type 0} (f : A → B) (n : ℕ) (value : ℕ → A) (told : ℕ → B) → ((k : ℕ) → f (value k) ≡ told k) → map f (per_client n value) ≡ per_client n told
 mapped f zero value told same = refl
@@ -104,3 +106,21 @@ module _ (plan : Plan) (trace : Trace) (read : IsReadFor plan trace) where
 
   pub blk_acts : HasActs Of.Blk trace.blk_acts (length (blk_clients plan))
   blk_acts = let kept = limits_kept plan trace read in let few = kept.acts in record { count = kept.blk_acts; few = each_few 1024 trace.blk_acts (omega (arith, few)); on = (shapes-read plan trace read).blk_acts }
+
+-- no job of a plan without hostile clients makes a hostile actor
+pub calm_jobs : (plan : Plan) (trace : Trace) (job : Job) → HasNoRogue plan → job_part plan trace job ≡ calm_part plan trace job
+calm_jobs plan trace EthDevice none = refl
+calm_jobs plan trace EthDriver none = refl
+calm_jobs plan trace NetReceiver none = refl
+calm_jobs plan trace NetSender none = refl
+calm_jobs plan trace (NetCopier c) none = refl
+calm_jobs plan trace (NetClient c) none = rw (none.net c) refl
+calm_jobs plan trace UartDevice none = refl
+calm_jobs plan trace UartDriver none = refl
+calm_jobs plan trace SerialReceiver none = refl
+calm_jobs plan trace SerialSender none = refl
+calm_jobs plan trace (SerialClient c) none = rw (none.serial c) refl
+calm_jobs plan trace DiskDevice none = refl
+calm_jobs plan trace DiskDriver none = refl
+calm_jobs plan trace BlkVirtualiser none = refl
+calm_jobs plan trace (BlkClient c) none = rw (none.blk c) refl

@@ -60,54 +60,51 @@ blk_place plan trace = record {
   pools = per_client (length (blk_clients plan)) (client_pool plan);
 }
 
--- the part of the network client of a number, hostile or not
-abbrev pub any_net_client : Plan → Trace → ℕ → Part
-any_net_client plan trace c =
-    if is_net_rogue plan c
-    then HostilePart (net_rogue_at 0 c (client_pools plan c) (acts_at trace.net_acts c))
-    else NetworkPart (client_at 0 c (client_program plan trace c) (client_mac plan c)
-    (own_pools (client_pools plan c)))
-
--- the part of the serial client of a number, hostile or not
-abbrev pub any_serial_client : Plan → Trace → ℕ → Part
-any_serial_client plan trace c =
-    if is_serial_rogue plan c
-    then HostilePart (serial_rogue_at (first_serial plan) c (acts_at trace.serial_acts c))
-    else ClientPart (first_serial plan + 4 + 2 * c) (first_serial plan + 5 + 2 * c)
-    (unwrap_or (slice_get trace.says c) [])
-
--- the part of the block client of a number, hostile or not
-abbrev pub any_blk_client : Plan → Trace → ℕ → Part
-any_blk_client plan trace c =
-    if is_blk_rogue plan c
-    then HostilePart
-    (blk_rogue_at (first_blk plan) c (client_pool plan c) (acts_at trace.blk_acts c))
-    else BlockPart
-    (blk_client_at (first_blk plan) c (client_asks trace c) (client_pool plan c))
-
--- the part of an actor of a job
-abbrev pub job_part : Plan → Trace → Job → Option Part
-job_part plan trace EthDevice = Some (NetworkPart (device_at 0 trace.frames))
-job_part plan trace EthDriver = Some (NetworkPart (driver_at 0))
-job_part plan trace NetReceiver = Some (NetworkPart
+-- the part of an actor of a job, where its client isn't hostile
+abbrev pub calm_part : Plan → Trace → Job → Option Part
+calm_part plan trace EthDevice = Some (NetworkPart (device_at 0 trace.frames))
+calm_part plan trace EthDriver = Some (NetworkPart (driver_at 0))
+calm_part plan trace NetReceiver = Some (NetworkPart
     (receiver_at 0 (net_place plan trace).pool (net_place plan trace).macs))
-job_part plan trace NetSender =
+calm_part plan trace NetSender =
     Some (SendingPart (sender_at 0 (frame_most plan) (net_place plan trace).pools))
-job_part plan trace (NetCopier c) = Some (NetworkPart (copier_at 0 c))
-job_part plan trace (NetClient c) = Some (any_net_client plan trace c)
-job_part plan trace UartDevice = Some (UartPart
+calm_part plan trace (NetCopier c) = Some (NetworkPart (copier_at 0 c))
+calm_part plan trace (NetClient c) = Some (NetworkPart
+    (client_at 0 c (client_program plan trace c)
+    (client_mac plan c) (own_pools (client_pools plan c))))
+calm_part plan trace UartDevice = Some (UartPart
     (first_serial plan) (first_serial plan + 1) trace.input)
-job_part plan trace UartDriver = Some (DriverPart (first_serial plan) (first_serial plan + 1)
+calm_part plan trace UartDriver = Some (DriverPart (first_serial plan) (first_serial plan + 1)
     (first_serial plan + 2) (first_serial plan + 3))
-job_part plan trace SerialReceiver = Some (RxPart (first_serial plan + 2)
+calm_part plan trace SerialReceiver = Some (RxPart (first_serial plan + 2)
     (every_second (first_serial plan + 4) (length (serial_clients plan))))
-job_part plan trace SerialSender = Some (TxPart (first_serial plan + 3)
+calm_part plan trace SerialSender = Some (TxPart (first_serial plan + 3)
     (every_second (first_serial plan + 5) (length (serial_clients plan))))
-job_part plan trace (SerialClient c) = Some (any_serial_client plan trace c)
-job_part plan trace DiskDevice = Some (BlockPart (disk_at (blk_place plan trace)))
-job_part plan trace DiskDriver = Some (BlockPart (blk_driver_at (first_blk plan)))
-job_part plan trace BlkVirtualiser = Some (BlockPart (virt_at (blk_place plan trace)))
-job_part plan trace (BlkClient c) = Some (any_blk_client plan trace c)
+calm_part plan trace (SerialClient c) = Some (ClientPart (first_serial plan + 4 + 2 * c)
+    (first_serial plan + 5 + 2 * c) (unwrap_or (slice_get trace.says c) []))
+calm_part plan trace DiskDevice = Some (BlockPart (disk_at (blk_place plan trace)))
+calm_part plan trace DiskDriver = Some (BlockPart (blk_driver_at (first_blk plan)))
+calm_part plan trace BlkVirtualiser = Some (BlockPart (virt_at (blk_place plan trace)))
+calm_part plan trace (BlkClient c) = Some (BlockPart
+    (blk_client_at (first_blk plan) c (client_asks trace c) (client_pool plan c)))
+
+-- the part of an actor of a job: of a client that is hostile, what the trace has it do
+abbrev pub job_part : Plan → Trace → Job → Option Part
+job_part plan trace (NetClient c) =
+    if is_net_rogue plan c
+    then Some (HostilePart (net_rogue_at 0 c (client_pools plan c) (acts_at trace.net_acts c)))
+    else calm_part plan trace (NetClient c)
+job_part plan trace (SerialClient c) =
+    if is_serial_rogue plan c
+    then Some (HostilePart
+    (serial_rogue_at (first_serial plan) c (acts_at trace.serial_acts c)))
+    else calm_part plan trace (SerialClient c)
+job_part plan trace (BlkClient c) =
+    if is_blk_rogue plan c
+    then Some (HostilePart
+    (blk_rogue_at (first_blk plan) c (client_pool plan c) (acts_at trace.blk_acts c)))
+    else calm_part plan trace (BlkClient c)
+job_part plan trace job = calm_part plan trace job
 
 -- what a trace gives the classes that a plan has: the frames to the network class, and the image to
 -- the block class

@@ -1,11 +1,13 @@
 -- What a plan's hostile clients are made of: at the queues of a client of their class, with the
 -- buffers of its pools, and with the acts that a trace has for them.
 use Rattle.std.specs.Prelude.{◌≡◌, ◌+◌, ◌*◌, ◌≤◌, ℕ, List, [], ◌∷◌, ◌++◌, All, length}
-use Rattle.std.specs.Prelude.{slice_get, unwrap_or, false}
+use Rattle.std.specs.Prelude.{false, slice_get, unwrap_or}
 use Rattle.cargo_core.specs.declared.act.Act.{Act}
 use Rattle.cargo_core.specs.declared.item.QueueKind.{QueueKind}
 use Rattle.cargo_core.specs.declared.item.QueueKind.TheVariants as Kind
+use Rattle.sdf_plan.specs.declared.plan.Plan.{Plan}
 use Rattle.trace_text.specs.declared.class.Class.{Class}
+use Rattle.trace_text.specs.Events.{is_net_rogue, is_serial_rogue, is_blk_rogue}
 use Rattle.trace_text.specs.Shapes.{IsActOn}
 use Rattle.trace_text.specs.Traces.{per_client}
 use Rattle.net_law.specs.Parts.Numbers.{client_first}
@@ -57,3 +59,9 @@ pub record HasActs (class : Class) (acts : List (List Act)) (clients : ℕ) : Ty
   pub count : length acts ≡ clients
   pub few : All (λ own. length own ≤ 1024) acts
   pub on : All (All (IsActOn class)) acts
+
+-- a plan has no hostile client
+pub record HasNoRogue (plan : Plan) : Type 0 where
+  pub net : (c : ℕ) → is_net_rogue plan c ≡ false
+  pub serial : (c : ℕ) → is_serial_rogue plan c ≡ false
+  pub blk : (c : ℕ) → is_blk_rogue plan c ≡ false

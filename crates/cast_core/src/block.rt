@@ -15,7 +15,8 @@ ghost use Rattle.blk_law.specs.Sheets.Playing.{virt_part, blk_client_part};
 ghost use Rattle.expect_core.specs.Expected.{client_asks, client_entry};
 ghost use Rattle.cast_core.specs.Sources.{first_blk, first_blk_pool, pool_at};
 ghost use Rattle.trace_text.specs.declared.class.Class.TheVariants as Of;
-ghost use Rattle.cast_core.specs.Casts.{any_blk_client, job_part};
+ghost use Rattle.layout_laws.specs.Jobs.Jobs as jobs;
+ghost use Rattle.cast_core.specs.Casts.{job_part};
 ghost use Rattle.cast_core.specs.Hostile.{HasActs};
 ghost use Rattle.cast_core.specs.Known.{blk_job, blk_within};
 ghost use Rattle.cast_core.specs.Making.{blk_ends, HasAsks, HasBlkPools, HasPool};
@@ -197,7 +198,8 @@ fn any_client(
     requires asks { HasAsks trace.now clients }
     requires acts { HasActs Of.Blk trace.now.blk_acts clients }
     ensures new { IfOk result IsNew }
-    ensures part { IfOk result (λ a. part_of a ≡ any_blk_client plan.now trace.now number) }
+    ensures part { IfOk result (λ a. job_part plan.now trace.now (jobs.BlkClient number)
+        ≡ Some (part_of a)) }
 {
     if is_blk_rogue(plan, number as u64) {
         let pool = first_blk_pool(plan) + 1 + number;

@@ -2,14 +2,18 @@
 //! buffers of its pools, and has its acts from the trace.
 ghost use Rattle.std.specs.Prelude.{◌≡◌, ◌<◌, ◌≤◌, ◌+◌, ◌*◌, length, IfOk};
 ghost use Rattle.cargo_core.specs.Blocks.{blk_buffer_bytes};
+ghost use Rattle.sdf_plan.specs.declared.plan.Plan.{Plan};
+ghost use Rattle.trace_text.specs.declared.trace.Trace.{Trace};
 ghost use Rattle.trace_text.specs.declared.class.Class.TheVariants as Of;
+ghost use Rattle.layout_laws.specs.Jobs.Jobs.{Job};
 ghost use Rattle.actor_set.specs.Actors.{part_of};
 ghost use Rattle.actor_set.specs.Parts.{HostilePart};
 ghost use Rattle.actor_set.specs.StartStates.{IsNew};
+ghost use Rattle.cast_core.specs.Casts.{calm_part, job_part};
 ghost use Rattle.cast_core.specs.Sources.{pool_at, pools_at};
 ghost use Rattle.cast_core.specs.Making.{HasNetPool, HasPool};
 ghost use Rattle.cast_core.specs.Hostile.{acts_at, blk_rogue_at, net_rogue_at, serial_rogue_at};
-ghost use Rattle.cast_core.specs.Hostile.{HasActs};
+ghost use Rattle.cast_core.specs.Hostile.{HasActs, HasNoRogue};
 
 use crate::pools::{pages, pool_row};
 use actor_set::Actor;
@@ -72,7 +76,14 @@ pub fn serial_rogue(
     let inputs = vec![in alloc; QueueId(rx)]?;
     let outputs = vec![in alloc; QueueId(rx + 1)]?;
     let acts = Vec::from_slice(alloc, trace.acts(1, client as u32))?;
-    Ok(Rogue::new(alloc, QueueKind::Byte, inputs, outputs, Vec::new(alloc), acts)?)
+    Ok(Rogue::new(
+        alloc,
+        QueueKind::Byte,
+        inputs,
+        outputs,
+        Vec::new(alloc),
+        acts,
+    )?)
 }
 
 /// The hostile block client of a number, where the class begins at this queue, and its pool has
@@ -103,3 +114,9 @@ pub fn blk_rogue(
     let acts = Vec::from_slice(alloc, trace.acts(2, client as u32))?;
     Ok(Rogue::new(alloc, QueueKind::Req, inputs, outputs, own, acts)?)
 }
+
+/// No job of a plan without hostile clients makes a hostile actor.
+pub fn calm_law()
+    ensures { (plan : Plan) (trace : Trace) (job : Job) → HasNoRogue plan
+        → job_part plan trace job ≡ calm_part plan trace job }
+{}

@@ -21,7 +21,8 @@ ghost use Rattle.actor_set.specs.StartStates.{IsNewClientOf};
 ghost use Rattle.cast_core.specs.Sources.{client_kind, client_mac, client_program, is_echo};
 ghost use Rattle.cast_core.specs.Sources.{pool_at, pools_at};
 ghost use Rattle.trace_text.specs.declared.class.Class.TheVariants as Of;
-ghost use Rattle.cast_core.specs.Casts.{any_net_client, job_part};
+ghost use Rattle.layout_laws.specs.Jobs.Jobs as jobs;
+ghost use Rattle.cast_core.specs.Casts.{job_part};
 ghost use Rattle.cast_core.specs.Hostile.{HasActs};
 ghost use Rattle.cast_core.specs.Known.{net_job, net_within};
 ghost use Rattle.cast_core.specs.Making.{lease_ends, tx_ends, AreShort, HasNetPool, HasPools};
@@ -252,7 +253,8 @@ fn any_client(
     requires frames { HasFrames trace.now clients }
     requires acts { HasActs Of.Net trace.now.net_acts clients }
     ensures new { IfOk result IsNew }
-    ensures part { IfOk result (λ a. part_of a ≡ any_net_client plan.now trace.now number) }
+    ensures part { IfOk result (λ a. job_part plan.now trace.now (jobs.NetClient number)
+        ≡ Some (part_of a)) }
 {
     if is_net_rogue(plan, number as u64) {
         Ok(Actor::Rogue(net_rogue(alloc, pools, trace, clients, number)?))

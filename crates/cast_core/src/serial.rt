@@ -7,7 +7,8 @@ ghost use Rattle.actor_set.specs.Parts.{UartPart, DriverPart, RxPart, TxPart, Cl
 ghost use Rattle.actor_set.specs.StartStates.{IsNew};
 ghost use Rattle.cast_core.specs.Sources.{every_second, first_serial};
 ghost use Rattle.trace_text.specs.declared.class.Class.TheVariants as Of;
-ghost use Rattle.cast_core.specs.Casts.{any_serial_client, job_part};
+ghost use Rattle.layout_laws.specs.Jobs.Jobs as jobs;
+ghost use Rattle.cast_core.specs.Casts.{job_part};
 ghost use Rattle.cast_core.specs.Hostile.{HasActs};
 ghost use Rattle.cast_core.specs.Known.{serial_job, serial_within};
 
@@ -117,7 +118,8 @@ fn any_client(
     requires says { length trace.now.says ≡ clients }
     requires acts { HasActs Of.Serial trace.now.serial_acts clients }
     ensures new { IfOk result IsNew }
-    ensures part { IfOk result (λ a. part_of a ≡ any_serial_client plan.now trace.now number) }
+    ensures part { IfOk result (λ a. job_part plan.now trace.now (jobs.SerialClient number)
+        ≡ Some (part_of a)) }
 {
     let first = first_serial(plan);
     if is_serial_rogue(plan, number as u64) {
