@@ -25,9 +25,10 @@ use Rattle.client_programs.specs.Rogue.Acts.{Left}
 use Rattle.client_programs.specs.Rogue.Clients.{AreApart, IsActOf, IsNewRogue, left_at_start}
 use Rattle.actor_set.specs.Actors.{numbers, pages_at, part_of}
 use Rattle.actor_set.specs.Parts.{HostilePart, PageAt, Part}
+use Rattle.actor_set.specs.declared.actor.Actor.{Actor}
 use Rattle.actor_set.specs.declared.actor.Actor.TheVariants as Kinds
 use Rattle.layout_laws.specs.Jobs.Jobs.{Job, EthDevice, EthDriver, NetReceiver, NetSender, NetCopier, NetClient, UartDevice, UartDriver, SerialReceiver, SerialSender, SerialClient, DiskDevice, DiskDriver, BlkVirtualiser, BlkClient}
-use Rattle.cast_core.specs.Casts.{calm_part, job_part}
+use Rattle.cast_core.specs.Casts.{AreCalmCast, AreCast, calm_part, job_part}
 use Rattle.cast_core.specs.Sources.{pool_at}
 use Rattle.cast_core.specs.Making.{new_page}
 use Rattle.cast_core.specs.Hostile.{HasActs, HasNoRogue, acts_at, pool_pages, rogue_with}
@@ -124,3 +125,9 @@ calm_jobs plan trace DiskDevice none = refl
 calm_jobs plan trace DiskDriver none = refl
 calm_jobs plan trace BlkVirtualiser none = refl
 calm_jobs plan trace (BlkClient c) none = rw (none.blk c) refl
+
+pub calm_cast : (plan : Plan) (trace : Trace) (actors : List Actor) → HasNoRogue plan → AreCast plan trace actors → AreCalmCast plan trace actors
+calm_cast plan trace actors none cast = record {
+  count_is = cast.count_is;
+  each = λ k x at. let one = cast.each k x at in record { job = one.job; has = one.has; new = one.new; part = sym (calm_jobs plan trace one.job none) ∙ one.part };
+}

@@ -114,14 +114,26 @@ scene_for plan trace = record {
   image = option_map_or (λ blk. trace.image) plan.blk [];
 }
 
--- an actor in its start state, with the part of the job that the plan gives its number
-pub record IsCast (plan : Plan) (trace : Trace) (k : ℕ) (x : Actor) : Type 0 where
+-- an actor in its start state, with the part that the job has which the plan gives its number
+pub record IsCastBy (parts : Job → Option Part) (plan : Plan) (k : ℕ) (x : Actor) : Type 0 where
   pub job : Job
   pub has : HasJob plan job k
   pub new : IsNew x
-  pub part : job_part plan trace job ≡ Some (part_of x)
+  pub part : parts job ≡ Some (part_of x)
+
+-- all actors of a plan, with such parts
+pub record AreCastBy (parts : Job → Option Part) (plan : Plan) (actors : List Actor) : Type 0 where
+  pub count_is : length actors ≡ length (actors_of plan)
+  pub each : (k : ℕ) (x : Actor) → slice_get actors k ≡ Some x → IsCastBy parts plan k x
+
+-- an actor as the plan and the trace have it
+abbrev pub IsCast : Plan → Trace → ℕ → Actor → Type 0
+IsCast plan trace k x = IsCastBy (job_part plan trace) plan k x
 
 -- all actors of a plan
-pub record AreCast (plan : Plan) (trace : Trace) (actors : List Actor) : Type 0 where
-  pub count_is : length actors ≡ length (actors_of plan)
-  pub each : (k : ℕ) (x : Actor) → slice_get actors k ≡ Some x → IsCast plan trace k x
+abbrev pub AreCast : Plan → Trace → List Actor → Type 0
+AreCast plan trace actors = AreCastBy (job_part plan trace) plan actors
+
+-- the same where no client is hostile
+abbrev pub AreCalmCast : Plan → Trace → List Actor → Type 0
+AreCalmCast plan trace actors = AreCastBy (calm_part plan trace) plan actors

@@ -1,6 +1,6 @@
 //! The hostile clients of a plan: each stands at the queues of a client of its class, with the
 //! buffers of its pools, and has its acts from the trace.
-ghost use Rattle.std.specs.Prelude.{◌≡◌, ◌<◌, ◌≤◌, ◌+◌, ◌*◌, length, IfOk};
+ghost use Rattle.std.specs.Prelude.{◌≡◌, ◌<◌, ◌≤◌, ◌+◌, ◌*◌, List, length, IfOk};
 ghost use Rattle.cargo_core.specs.Blocks.{blk_buffer_bytes};
 ghost use Rattle.sdf_plan.specs.declared.plan.Plan.{Plan};
 ghost use Rattle.trace_text.specs.declared.trace.Trace.{Trace};
@@ -9,7 +9,7 @@ ghost use Rattle.layout_laws.specs.Jobs.Jobs.{Job};
 ghost use Rattle.actor_set.specs.Actors.{part_of};
 ghost use Rattle.actor_set.specs.Parts.{HostilePart};
 ghost use Rattle.actor_set.specs.StartStates.{IsNew};
-ghost use Rattle.cast_core.specs.Casts.{calm_part, job_part};
+ghost use Rattle.cast_core.specs.Casts.{AreCalmCast, AreCast, calm_part, job_part};
 ghost use Rattle.cast_core.specs.Sources.{pool_at, pools_at};
 ghost use Rattle.cast_core.specs.Making.{HasNetPool, HasPool};
 ghost use Rattle.cast_core.specs.Hostile.{acts_at, blk_rogue_at, net_rogue_at, serial_rogue_at};
@@ -115,8 +115,10 @@ pub fn blk_rogue(
     Ok(Rogue::new(alloc, QueueKind::Req, inputs, outputs, own, acts)?)
 }
 
-/// No job of a plan without hostile clients makes a hostile actor.
+/// No job of a plan without hostile clients makes a hostile actor, so none of its actors is one.
 pub fn calm_law()
-    ensures { (plan : Plan) (trace : Trace) (job : Job) → HasNoRogue plan
+    ensures parts { (plan : Plan) (trace : Trace) (job : Job) → HasNoRogue plan
         → job_part plan trace job ≡ calm_part plan trace job }
+    ensures cast { (plan : Plan) (trace : Trace) (actors : List Actor) → HasNoRogue plan
+        → AreCast plan trace actors → AreCalmCast plan trace actors }
 {}
