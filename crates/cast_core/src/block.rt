@@ -14,10 +14,14 @@ ghost use Rattle.blk_law.specs.Sheets.Numbers.{blk_driver_at, blk_client_at, sha
 ghost use Rattle.blk_law.specs.Sheets.Playing.{virt_part, blk_client_part};
 ghost use Rattle.expect_core.specs.Expected.{client_asks, client_entry};
 ghost use Rattle.cast_core.specs.Sources.{first_blk, first_blk_pool, pool_at};
+ghost use Rattle.trace_text.specs.declared.class.Class.TheVariants as Of;
+ghost use Rattle.layout_laws.specs.Jobs.Jobs as jobs;
 ghost use Rattle.cast_core.specs.Casts.{job_part};
+ghost use Rattle.cast_core.specs.Hostile.{HasActs};
 ghost use Rattle.cast_core.specs.Known.{blk_job, blk_within};
 ghost use Rattle.cast_core.specs.Making.{blk_ends, HasAsks, HasBlkPools, HasPool};
 
+use crate::hostile::blk_rogue;
 use crate::jobs::BlkJob;
 use crate::pools::{pages, pool_row};
 use crate::shared::first_blk;
@@ -29,7 +33,7 @@ use client_programs::blk::BlkClient;
 use expect_core::client_entry;
 use sdf_plan::Plan;
 use std::alloc::Global;
-use trace_text::Trace;
+use trace_text::{Trace, is_blk_rogue};
 use wire_core::{PoolRow, QueueId};
 
 // The number of the virtualiser's pool: those of the network stand before it.
@@ -176,6 +180,36 @@ fn client(
     Ok(BlkClient::new(alloc, QueueId(req), QueueId(req + 1), pages, asks))
 }
 
+// The client of a number, hostile or not.
+fn any_client(
+    alloc: Global,
+    plan: &Plan,
+    pools: &[PoolRow],
+    trace: &Trace,
+    clients: u16,
+    number: u16,
+) -> Result<Actor, Memory>
+    requires few { clients ≤ 8 }
+    requires there { number < clients }
+    requires queues { first_blk plan.now ≤ 100 }
+    requires numbers { first_blk_pool plan.now ≤ 100 }
+    requires rows { pools.now ≡ pools_of plan.now }
+    requires pools { HasBlkPools plan.now pools.now clients }
+    requires asks { HasAsks trace.now clients }
+    requires acts { HasActs Of.Blk trace.now.blk_acts clients }
+    ensures new { IfOk result IsNew }
+    ensures part { IfOk result (λ a. job_part plan.now trace.now (jobs.BlkClient number)
+        ≡ Some (part_of a)) }
+{
+    if is_blk_rogue(plan, number as u64) {
+        let pool = first_blk_pool(plan) + 1 + number;
+        let first = first_blk(plan);
+        Ok(Actor::Rogue(blk_rogue(alloc, first, pool, pools, trace, clients, number)?))
+    } else {
+        Ok(Actor::BlkClient(client(alloc, plan, pools, trace, number)?))
+    }
+}
+
 /// The actor of a job of the block class, which has so many clients.
 pub fn blk_actor(
     alloc: Global,
@@ -193,6 +227,7 @@ pub fn blk_actor(
     requires pools { HasBlkPools plan.now pools.now clients }
     requires entries { (c : ℕ) → c < clients → client_entry plan.now c < 4 }
     requires asks { HasAsks trace.now clients }
+    requires acts { HasActs Of.Blk trace.now.blk_acts clients }
     requires there { blk_within clients job }
     ensures new { IfOk result IsNew }
     ensures part { IfOk result (λ a. job_part plan.now trace.now (blk_job job)
@@ -204,6 +239,6 @@ pub fn blk_actor(
         BlkJob::Virtualiser => {
             Ok(Actor::BlkVirt(virtualiser(alloc, plan, pools, trace, clients)?))
         }
-        BlkJob::Client(c) => Ok(Actor::BlkClient(client(alloc, plan, pools, trace, c)?)),
+        BlkJob::Client(c) => any_client(alloc, plan, pools, trace, clients, c),
     }
 }

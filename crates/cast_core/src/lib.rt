@@ -4,6 +4,7 @@
 
 mod actors;
 mod block;
+mod hostile;
 mod jobs;
 mod network;
 mod pools;
@@ -11,6 +12,7 @@ mod serial;
 mod shared;
 
 pub use actors::cast;
+pub use hostile::calm_law;
 pub use jobs::{BlkJob, Job, NetJob, SerialJob};
 pub use network::copied_frames;
 pub use shared::{copies, first_blk, first_serial};

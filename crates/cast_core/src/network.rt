@@ -20,11 +20,15 @@ ghost use Rattle.actor_set.specs.StartStates.{IsNew, IsNewReceiving, IsNewLender
 ghost use Rattle.actor_set.specs.StartStates.{IsNewClientOf};
 ghost use Rattle.cast_core.specs.Sources.{client_kind, client_mac, client_program, is_echo};
 ghost use Rattle.cast_core.specs.Sources.{pool_at, pools_at};
+ghost use Rattle.trace_text.specs.declared.class.Class.TheVariants as Of;
+ghost use Rattle.layout_laws.specs.Jobs.Jobs as jobs;
 ghost use Rattle.cast_core.specs.Casts.{job_part};
+ghost use Rattle.cast_core.specs.Hostile.{HasActs};
 ghost use Rattle.cast_core.specs.Known.{net_job, net_within};
 ghost use Rattle.cast_core.specs.Making.{lease_ends, tx_ends, AreShort, HasNetPool, HasPools};
 ghost use Rattle.cast_core.specs.Making.{HasFrames};
 
+use crate::hostile::net_rogue;
 use crate::jobs::NetJob;
 use crate::pools::{pages, pool_row, ranges, tx_ends};
 use actor_set::Actor;
@@ -39,7 +43,7 @@ use net_virt_rx::{LeaseEnds, NetVirtRx};
 use net_virt_tx::NetVirtTx;
 use sdf_plan::Plan;
 use std::alloc::Global;
-use trace_text::{Trace, frame_most, is_source, runs};
+use trace_text::{Trace, frame_most, is_net_rogue, is_source, runs};
 use wire_core::{PoolRow, QueueId};
 
 /// The address that no client of a valid plan has.
@@ -233,6 +237,32 @@ fn client(
     ))
 }
 
+// The client of a number, hostile or not.
+fn any_client(
+    alloc: Global,
+    plan: &Plan,
+    pools: &[PoolRow],
+    trace: &Trace,
+    clients: u16,
+    number: u16,
+) -> Result<Actor, Memory>
+    requires few { clients ≤ 8 }
+    requires there { number < clients }
+    requires rows { pools.now ≡ pools_of plan.now }
+    requires pools { HasPools pools.now clients }
+    requires frames { HasFrames trace.now clients }
+    requires acts { HasActs Of.Net trace.now.net_acts clients }
+    ensures new { IfOk result IsNew }
+    ensures part { IfOk result (λ a. job_part plan.now trace.now (jobs.NetClient number)
+        ≡ Some (part_of a)) }
+{
+    if is_net_rogue(plan, number as u64) {
+        Ok(Actor::Rogue(net_rogue(alloc, pools, trace, clients, number)?))
+    } else {
+        Ok(Actor::NetClient(client(alloc, plan, pools, trace, number)?))
+    }
+}
+
 /// The actor of a job of the network class, which has so many clients.
 pub fn net_actor(
     alloc: Global,
@@ -248,6 +278,7 @@ pub fn net_actor(
     requires longest { frame_most plan.now < 2 ^ 16 }
     requires pools { HasPools pools.now clients }
     requires frames { HasFrames trace.now clients }
+    requires acts { HasActs Of.Net trace.now.net_acts clients }
     requires there { net_within clients job }
     ensures new { IfOk result IsNew }
     ensures part { IfOk result (λ a. job_part plan.now trace.now (net_job job)
@@ -259,6 +290,6 @@ pub fn net_actor(
         NetJob::Receiver => Ok(Actor::NetVirtRx(receiver(alloc, plan, pools, clients)?)),
         NetJob::Sender => Ok(Actor::NetVirtTx(sender(alloc, plan, pools, clients)?)),
         NetJob::Copier(c) => Ok(Actor::NetCopier(copier(c))),
-        NetJob::Client(c) => Ok(Actor::NetClient(client(alloc, plan, pools, trace, c)?)),
+        NetJob::Client(c) => any_client(alloc, plan, pools, trace, clients, c),
     }
 }

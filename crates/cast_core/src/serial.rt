@@ -6,9 +6,13 @@ ghost use Rattle.actor_set.specs.Actors.{part_of, numbers};
 ghost use Rattle.actor_set.specs.Parts.{UartPart, DriverPart, RxPart, TxPart, ClientPart};
 ghost use Rattle.actor_set.specs.StartStates.{IsNew};
 ghost use Rattle.cast_core.specs.Sources.{every_second, first_serial};
+ghost use Rattle.trace_text.specs.declared.class.Class.TheVariants as Of;
+ghost use Rattle.layout_laws.specs.Jobs.Jobs as jobs;
 ghost use Rattle.cast_core.specs.Casts.{job_part};
+ghost use Rattle.cast_core.specs.Hostile.{HasActs};
 ghost use Rattle.cast_core.specs.Known.{serial_job, serial_within};
 
+use crate::hostile::serial_rogue;
 use crate::jobs::SerialJob;
 use crate::shared::first_serial;
 use actor_set::Actor;
@@ -18,7 +22,7 @@ use device_model::UartDevice;
 use sdf_plan::Plan;
 use serial_virt::{SerialVirtRx, SerialVirtTx};
 use std::alloc::Global;
-use trace_text::Trace;
+use trace_text::{Trace, is_serial_rogue};
 use uart_driver::UartDriver;
 use wire_core::QueueId;
 
@@ -100,6 +104,31 @@ fn client(alloc: Global, first: u16, client: u16, trace: &Trace) -> Result<Seria
     Ok(SerialClient::new(alloc, QueueId(rx), QueueId(rx + 1), script))
 }
 
+// The client of a number, hostile or not.
+fn any_client(
+    alloc: Global,
+    plan: &Plan,
+    trace: &Trace,
+    clients: u16,
+    number: u16,
+) -> Result<Actor, Memory>
+    requires few { clients ≤ 8 }
+    requires there { number < clients }
+    requires numbered { first_serial plan.now + 4 + 2 * clients ≤ 65536 }
+    requires says { length trace.now.says ≡ clients }
+    requires acts { HasActs Of.Serial trace.now.serial_acts clients }
+    ensures new { IfOk result IsNew }
+    ensures part { IfOk result (λ a. job_part plan.now trace.now (jobs.SerialClient number)
+        ≡ Some (part_of a)) }
+{
+    let first = first_serial(plan);
+    if is_serial_rogue(plan, number as u64) {
+        Ok(Actor::Rogue(serial_rogue(alloc, first, trace, clients, number)?))
+    } else {
+        Ok(Actor::SerialClient(client(alloc, first, number, trace)?))
+    }
+}
+
 /// The actor of a job of the serial class, which has so many clients.
 pub fn serial_actor(
     alloc: Global,
@@ -113,6 +142,7 @@ pub fn serial_actor(
     requires few { clients ≤ 8 }
     requires numbered { first_serial plan.now + 4 + 2 * clients ≤ 65536 }
     requires says { length trace.now.says ≡ clients }
+    requires acts { HasActs Of.Serial trace.now.serial_acts clients }
     requires there { serial_within clients job }
     ensures new { IfOk result IsNew }
     ensures part { IfOk result (λ a. job_part plan.now trace.now (serial_job job)
@@ -124,6 +154,6 @@ pub fn serial_actor(
         SerialJob::Driver => Ok(Actor::UartDriver(driver(first))),
         SerialJob::Receiver => Ok(Actor::SerialVirtRx(receiver(alloc, first, clients)?)),
         SerialJob::Sender => Ok(Actor::SerialVirtTx(sender(alloc, first, clients)?)),
-        SerialJob::Client(c) => Ok(Actor::SerialClient(client(alloc, first, c, trace)?)),
+        SerialJob::Client(c) => any_client(alloc, plan, trace, clients, c),
     }
 }

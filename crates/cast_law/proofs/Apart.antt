@@ -36,7 +36,7 @@ use Rattle.actor_set.specs.declared.actor.Actor.{Actor}
 use Rattle.actor_set.specs.declared.actor.Actor.TheVariants as Kinds
 use Rattle.actor_set.proofs.LawsLemmas.PartEnds.{number_there}
 use Rattle.layout_laws.specs.Jobs.Jobs.{Job, EthDevice, EthDriver, NetReceiver, NetSender, NetCopier, NetClient, UartDevice, UartDriver, SerialReceiver, SerialSender, SerialClient, DiskDevice, DiskDriver, BlkVirtualiser, BlkClient}
-use Rattle.cast_core.specs.Casts.{net_place, blk_place, job_part}
+use Rattle.cast_core.specs.Casts.{net_place, blk_place, calm_part}
 use Rattle.cast_core.specs.Sources.{first_serial, first_blk}
 use Rattle.cast_law.proofs.Numbers.{lessee_numbers, shipper_numbers, sharer_numbers, second_apart}
 
@@ -214,7 +214,7 @@ driver_apart = (
 
 -- the part of a job is so
 module _ (plan : Plan) (trace : Trace) where
-  apart_in : (job : Job) (p : Part) → job_part plan trace job ≡ Some p → ApartIn p
+  apart_in : (job : Job) (p : Part) → calm_part plan trace job ≡ Some p → ApartIn p
   apart_in EthDevice p is = subst ApartIn (some_is is) (λ e. omega (arith, e), λ e. omega (arith, e))
   apart_in EthDriver p is = subst ApartIn (some_is is) driver_apart
   apart_in NetReceiver p is = subst ApartIn (some_is is) (leases_apart (net_place plan trace).pool (net_place plan trace).macs)
@@ -231,5 +231,5 @@ module _ (plan : Plan) (trace : Trace) where
   apart_in BlkVirtualiser p is = subst ApartIn (some_is is) (asks_apart (first_blk plan) (blk_place plan trace).entries (blk_place plan trace).pools)
   apart_in (BlkClient c) p is = subst ApartIn (some_is is) tt
 
-  pub cast_apart : (job : Job) (x : Actor) → job_part plan trace job ≡ Some (part_of x) → IsWhole x → HasApartEnds x
+  pub cast_apart : (job : Job) (x : Actor) → calm_part plan trace job ≡ Some (part_of x) → IsWhole x → HasApartEnds x
   cast_apart job x is whole = apart_of x whole (apart_in job (part_of x) is)

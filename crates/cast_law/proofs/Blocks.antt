@@ -42,7 +42,7 @@ use Rattle.actor_set.specs.Parts.{Part, BlockPart}
 use Rattle.actor_set.specs.Actors.{part_of}
 use Rattle.actor_set.specs.declared.actor.Actor.{Actor}
 use Rattle.layout_laws.specs.Jobs.Jobs.{Job, EthDevice, EthDriver, NetReceiver, NetSender, NetCopier, NetClient, UartDevice, UartDriver, SerialReceiver, SerialSender, SerialClient, DiskDevice, DiskDriver, BlkVirtualiser, BlkClient, HasJob}
-use Rattle.cast_core.specs.Casts.{client_pool, blk_place, job_part, AreCast}
+use Rattle.cast_core.specs.Casts.{client_pool, blk_place, calm_part, AreCalmCast}
 use Rattle.expect_core.specs.Expected.{client_asks, client_entry}
 use Rattle.cast_core.specs.Sources.{pool_at, first_blk_pool}
 use Rattle.cast_core.proofs.Listing.{value_count, value_at, value_is}
@@ -79,7 +79,7 @@ pools_before plan = go plan.net
         let one : length (net_pools plan net) ≡ suc (length (each_client (net_client_pools plan) 0 net.client)) = refl in
         omega (arith, each, one)
 
-module _ (plan : Plan) (trace : Trace) (actors : List Actor) (valid : Valid plan) (made : AreCast plan trace actors) (read : IsReadFor plan trace) (blk : Blk) (is : plan.blk ≡ Some blk) where
+module _ (plan : Plan) (trace : Trace) (actors : List Actor) (valid : Valid plan) (made : AreCalmCast plan trace actors) (read : IsReadFor plan trace) (blk : Blk) (is : plan.blk ≡ Some blk) where
   abbrev cast : List Part
   cast = map part_of actors
 
@@ -101,7 +101,7 @@ module _ (plan : Plan) (trace : Trace) (actors : List Actor) (valid : Valid plan
   shapes : HasShapes plan trace
   shapes = shapes-read plan trace read
 
-  at : (job : Job) (k : ℕ) → HasJob plan job k → slice_get cast k ≡ job_part plan trace job
+  at : (job : Job) (k : ℕ) → HasJob plan job k → slice_get cast k ≡ calm_part plan trace job
   at job k has = part_at plan trace actors valid made job k has
 
   pub asks_many : length place.asks ≡ length place.entries
@@ -124,14 +124,14 @@ module _ (plan : Plan) (trace : Trace) (actors : List Actor) (valid : Valid plan
       let a = value_is count (client_asks trace) k asks of.has_asks in
       let p = value_is count (client_pool plan) k pool of.has_pool in
       let c = client_of k a.0 in
-      let same : job_part plan trace (BlkClient k) ≡ Some (BlockPart (blk_client_at place.first k asks pool)) =
+      let same : calm_part plan trace (BlkClient k) ≡ Some (BlockPart (blk_client_at place.first k asks pool)) =
       ap (λ xs. Some (BlockPart (blk_client_at place.first k xs (client_pool plan k)))) (sym a.1) ∙ ap (λ q. Some (BlockPart (blk_client_at place.first k asks q))) (sym p.1) in
       ((actor_named plan c.0.pd).0, at (BlkClient k) (actor_named plan c.0.pd).0 (named.client k c.0 c.1) ∙ same)
 
   block_is : {p q : BlkPart} → Some (BlockPart p) ≡ Some (BlockPart q) → q ≡ p
   block_is e = cc
 
-  one_of : (job : Job) (q : BlkPart) → job_part plan trace job ≡ Some (BlockPart q) → IsOf plan job → IsOfBlock place q
+  one_of : (job : Job) (q : BlkPart) → calm_part plan trace job ≡ Some (BlockPart q) → IsOf plan job → IsOfBlock place q
   one_of EthDevice q e of = absurd cc
   one_of EthDriver q e of = absurd cc
   one_of NetReceiver q e of = absurd cc
@@ -245,7 +245,7 @@ module _ (plan : Plan) (trace : Trace) (actors : List Actor) (valid : Valid plan
   }
 
 -- a part of the block class has a job of the class
-blk_job : (plan : Plan) (trace : Trace) (job : Job) (q : BlkPart) → job_part plan trace job ≡ Some (BlockPart q) → IsOf plan job → HasBlk plan
+blk_job : (plan : Plan) (trace : Trace) (job : Job) (q : BlkPart) → calm_part plan trace job ≡ Some (BlockPart q) → IsOf plan job → HasBlk plan
 blk_job plan trace EthDevice q e of = absurd cc
 blk_job plan trace EthDriver q e of = absurd cc
 blk_job plan trace NetReceiver q e of = absurd cc
@@ -262,7 +262,7 @@ blk_job plan trace DiskDriver q e of = of
 blk_job plan trace BlkVirtualiser q e of = of
 blk_job plan trace (BlkClient c) q e of = of.0
 
-pub no_block : (plan : Plan) (trace : Trace) (actors : List Actor) → Valid plan → AreCast plan trace actors → plan.blk ≡ None → HasNoBlock (map part_of actors)
+pub no_block : (plan : Plan) (trace : Trace) (actors : List Actor) → Valid plan → AreCalmCast plan trace actors → plan.blk ≡ None → HasNoBlock (map part_of actors)
 no_block plan trace actors valid made none k q at =
     let one = job_of plan trace actors valid made k (BlockPart q) at in
     let has = blk_job plan trace one.0 q one.2 (job_is_of plan one.0 k one.1) in

@@ -9,9 +9,9 @@ use Rattle.actor_set.specs.Parts.{Part}
 use Rattle.actor_set.specs.Actors.{part_of}
 use Rattle.actor_set.specs.declared.actor.Actor.{Actor}
 use Rattle.actor_set.specs.Laws.Kinds.{AllCalm, manner_of}
-use Rattle.cast_core.specs.Casts.{job_part, AreCast}
+use Rattle.cast_core.specs.Casts.{calm_part, AreCalmCast}
 
-calm_job : (plan : Plan) (trace : Trace) (job : Job) (p : Part) → job_part plan trace job ≡ Some p → manner_of p ≡ Calm
+calm_job : (plan : Plan) (trace : Trace) (job : Job) (p : Part) → calm_part plan trace job ≡ Some p → manner_of p ≡ Calm
 calm_job plan trace EthDevice p is = ap manner_of (some_is (sym is))
 calm_job plan trace EthDriver p is = ap manner_of (some_is (sym is))
 calm_job plan trace NetReceiver p is = ap manner_of (some_is (sym is))
@@ -29,7 +29,7 @@ calm_job plan trace BlkVirtualiser p is = ap manner_of (some_is (sym is))
 calm_job plan trace (BlkClient c) p is = ap manner_of (some_is (sym is))
 
 -- so no actor of a plan is
-pub all_calm : (plan : Plan) (trace : Trace) (actors : List Actor) → AreCast plan trace actors → AllCalm (map part_of actors)
+pub all_calm : (plan : Plan) (trace : Trace) (actors : List Actor) → AreCalmCast plan trace actors → AllCalm (map part_of actors)
 all_calm plan trace actors cast k p at =
     let x = map_from part_of actors k p at in
     let one = cast.each k x.0 x.1 in

@@ -16,7 +16,7 @@ use Rattle.actor_set.specs.Laws.Kinds.{part_kind, sheet}
 use Rattle.actor_set.proofs.LawsLemmas.Seating.{kind_is as kind_of_actor}
 use Rattle.actor_set.proofs.LawsLemmas.PartEnds.{to_part, from_part, end_seat, seat_end}
 use Rattle.layout_laws.specs.Jobs.Jobs.{Job, EthDevice, EthDriver, NetReceiver, NetSender, NetCopier, NetClient, UartDevice, UartDriver, SerialReceiver, SerialSender, SerialClient, DiskDevice, DiskDriver, BlkVirtualiser, BlkClient}
-use Rattle.cast_core.specs.Casts.{client_pools, net_place, client_pool, blk_place, job_part}
+use Rattle.cast_core.specs.Casts.{client_pools, net_place, client_pool, blk_place, calm_part}
 use Rattle.expect_core.specs.Expected.{client_entry}
 use Rattle.cast_core.specs.Sources.{first_serial, first_blk, client_mac}
 use Rattle.cast_core.proofs.Listing.{value_count}
@@ -43,7 +43,7 @@ module _ (plan : Plan) (trace : Trace) where
   blk_pools_counted : length (blk_place plan trace).pools ≡ length (blk_place plan trace).entries
   blk_pools_counted = value_count (length (blk_clients plan)) (client_pool plan) ∙ sym (value_count (length (blk_clients plan)) (client_entry plan))
 
-  pub ends_are : (job : Job) (p : Part) → job_part plan trace job ≡ Some p → part_ends p ≡ job_ends plan job
+  pub ends_are : (job : Job) (p : Part) → calm_part plan trace job ≡ Some p → part_ends p ≡ job_ends plan job
   ends_are EthDevice p is = subst (λ q. part_ends q ≡ job_ends plan EthDevice) (some_is is) refl
   ends_are EthDriver p is = subst (λ q. part_ends q ≡ job_ends plan EthDriver) (some_is is) refl
   ends_are NetReceiver p is = subst (λ q. part_ends q ≡ job_ends plan NetReceiver) (some_is is)
@@ -66,17 +66,17 @@ module _ (plan : Plan) (trace : Trace) where
   ends_are (BlkClient c) p is = subst (λ q. part_ends q ≡ job_ends plan (BlkClient c)) (some_is is) refl
 
   -- an actor's ends are those of its job
-  pub end_is : (job : Job) (x : Actor) → job_part plan trace job ≡ Some (part_of x) → IsWhole x → (r : Role) (n : ℕ) → ActorEnd x r n → (i : ℕ) × (slice_get (job_ends plan job) i ≡ Some (record { queue = n; role = r }))
+  pub end_is : (job : Job) (x : Actor) → calm_part plan trace job ≡ Some (part_of x) → IsWhole x → (r : Role) (n : ℕ) → ActorEnd x r n → (i : ℕ) × (slice_get (job_ends plan job) i ≡ Some (record { queue = n; role = r }))
   end_is job x is whole r n end =
       let s = end_seat bare (part_of x) r n (to_part x r n whole end) in
       (s.0, subst (λ ends. slice_get ends s.0 ≡ Some (record { queue = n; role = r })) (ends_are job (part_of x) is) s.1)
 
-  pub is_end : (job : Job) (x : Actor) → job_part plan trace job ≡ Some (part_of x) → (r : Role) (n i : ℕ) → slice_get (job_ends plan job) i ≡ Some (record { queue = n; role = r }) → ActorEnd x r n
+  pub is_end : (job : Job) (x : Actor) → calm_part plan trace job ≡ Some (part_of x) → (r : Role) (n i : ℕ) → slice_get (job_ends plan job) i ≡ Some (record { queue = n; role = r }) → ActorEnd x r n
   is_end job x is r n i at =
       from_part x r n (seat_end bare (part_of x) i (record { queue = n; role = r }) (subst (λ ends. slice_get ends i ≡ Some (record { queue = n; role = r })) (sym (ends_are job (part_of x) is)) at))
 
   -- what the queues of a part carry
-  kind_of_job : (job : Job) (p : Part) → job_part plan trace job ≡ Some p → (r : Role) (n : ℕ) → part_kind p r n ≡ job_kind plan job r n
+  kind_of_job : (job : Job) (p : Part) → calm_part plan trace job ≡ Some p → (r : Role) (n : ℕ) → part_kind p r n ≡ job_kind plan job r n
   kind_of_job EthDevice p is r n = ap (λ q. part_kind q r n) (sym (some_is is))
   kind_of_job EthDriver p is r n = ap (λ q. part_kind q r n) (sym (some_is is))
   kind_of_job NetReceiver p is r n = ap (λ q. part_kind q r n) (sym (some_is is))
@@ -97,5 +97,5 @@ module _ (plan : Plan) (trace : Trace) where
   kind_of_job (BlkClient c) p is Consumer n = ap (λ q. part_kind q Consumer n) (sym (some_is is))
   kind_of_job (BlkClient c) p is Producer n = ap (λ q. part_kind q Producer n) (sym (some_is is))
 
-  pub kind_is : (job : Job) (x : Actor) → job_part plan trace job ≡ Some (part_of x) → (r : Role) (n : ℕ) → kind_at x r n ≡ job_kind plan job r n
+  pub kind_is : (job : Job) (x : Actor) → calm_part plan trace job ≡ Some (part_of x) → (r : Role) (n : ℕ) → kind_at x r n ≡ job_kind plan job r n
   kind_is job x is r n = kind_of_actor x r n ∙ kind_of_job job (part_of x) is r n

@@ -1,5 +1,5 @@
 -- Actors that are cast are seated at the rows.
-use Rattle.std.proofs.Common.{◌≡◌, ◌<◌, ◌≤◌, ℕ, Some, List, length, map, slice_get, sym, ap, ◌∙◌, subst, arith}
+use Rattle.std.proofs.Common.{◌≡◌, ◌<◌, ◌≤◌, ℕ, Option, Some, List, length, map, slice_get, sym, ap, ◌∙◌, subst, arith}
 use Rattle.wire_core.specs.declared.names.QueueRow.{QueueRow}
 use Rattle.wire_core.specs.Ends.{Role, Consumer, Producer}
 use Rattle.wire_core.specs.Journal.{owner_of}
@@ -13,12 +13,13 @@ use Rattle.layout_laws.proofs.Queues.{queues_sound}
 use Rattle.layout_laws.proofs.Owners.{queues_owned}
 use Rattle.play_core.proofs.Lists.{map_get, there_is}
 use Rattle.actor_set.specs.Actors.{ActorEnd, IsWhole, part_of}
+use Rattle.actor_set.specs.Parts.{Part}
 use Rattle.actor_set.specs.StartStates.{HasApartEnds, HasSeat, kind_at}
 use Rattle.actor_set.specs.declared.actor.Actor.{Actor}
 use Rattle.actor_set.proofs.LawsLemmas.Starts.{new_whole}
 use Rattle.layout_laws.specs.Jobs.Jobs.{Job, HasJob}
 use Rattle.layout_laws.proofs.JobsLemmas.Having.{same_job, job_below}
-use Rattle.cast_core.specs.Casts.{job_part, IsCast, AreCast}
+use Rattle.cast_core.specs.Casts.{calm_part, IsCastBy, AreCastBy, AreCalmCast}
 use Rattle.layout_laws.proofs.SeatsLemmas.Having.{job_is_of}
 use Rattle.layout_laws.proofs.SeatsLemmas.Seats.{has_seat, has_end, not_both}
 use Rattle.wired_law.specs.Wiring.{IsWired}
@@ -28,18 +29,18 @@ use Rattle.cast_law.proofs.Apart.{cast_apart}
 use Rattle.cast_law.proofs.Calming.{all_calm}
 
 -- the actor of a job has the job's part
-pub part_there : (plan : Plan) (trace : Trace) (actors : List Actor) → Valid plan → AreCast plan trace actors → (job : Job) (k : ℕ) → HasJob plan job k → slice_get (map part_of actors) k ≡ job_part plan trace job
-part_there plan trace actors valid cast job k has =
+pub part_there : (parts : Job → Option Part) (plan : Plan) (actors : List Actor) → Valid plan → AreCastBy parts plan actors → (job : Job) (k : ℕ) → HasJob plan job k → slice_get (map part_of actors) k ≡ parts job
+part_there parts plan actors valid cast job k has =
     let below = job_below plan valid job k has in
     let many = cast.count_is in
     let x = there_is actors k (omega (arith, below, many)) in
     let c = cast.each k x.0 x.1 in
-    map_get part_of actors k x.0 x.1 ∙ (sym c.part ∙ ap (job_part plan trace) (same_job plan valid c.job job k c.has has))
+    map_get part_of actors k x.0 x.1 ∙ (sym c.part ∙ ap parts (same_job plan valid c.job job k c.has has))
 
-module _ (plan : Plan) (trace : Trace) (actors : List Actor) (valid : Valid plan) (cast : AreCast plan trace actors) where
+module _ (plan : Plan) (trace : Trace) (actors : List Actor) (valid : Valid plan) (cast : AreCalmCast plan trace actors) where
   -- the ends of an actor are those of its job
   module _ (k : ℕ) (x : Actor) (at : slice_get actors k ≡ Some x) where
-    abbrev own : IsCast plan trace k x
+    abbrev own : IsCastBy (calm_part plan trace) plan k x
     own = cast.each k x at
 
     whole : IsWhole x

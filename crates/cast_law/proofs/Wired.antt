@@ -50,7 +50,7 @@ use Rattle.layout_laws.specs.Seats.Named.{AreNetNamed}
 use Rattle.layout_laws.proofs.SeatsLemmas.Having.{job_is_of}
 use Rattle.layout_laws.proofs.SeatsLemmas.Carrying.{net_kinds}
 use Rattle.layout_laws.proofs.SeatsLemmas.Naming.{net_named, blk_named}
-use Rattle.cast_core.specs.Casts.{client_pools, net_place, blk_place, job_part, scene_for, AreCast}
+use Rattle.cast_core.specs.Casts.{client_pools, net_place, blk_place, calm_part, scene_for, AreCalmCast}
 use Rattle.cast_core.specs.Sources.{first_blk_pool, pool_at, no_mac, client_mac, client_kind, client_program}
 use Rattle.cast_core.proofs.Joining.{frames_few}
 use Rattle.cast_core.proofs.Rooms.{net_size}
@@ -88,27 +88,27 @@ script_is Programs.Sink sent script e = absurd cc
 script_is Programs.Source sent script e = cc
 script_is Programs.Echo sent script e = absurd cc
 
-module _ (plan : Plan) (trace : Trace) (actors : List Actor) (valid : Valid plan) (made : AreCast plan trace actors) where
+module _ (plan : Plan) (trace : Trace) (actors : List Actor) (valid : Valid plan) (made : AreCalmCast plan trace actors) where
   abbrev cast : List Part
   cast = map part_of actors
 
   -- the actor of a job has the job's part, and each part is that of a job
-  pub part_at : (job : Job) (k : ℕ) → HasJob plan job k → slice_get cast k ≡ job_part plan trace job
+  pub part_at : (job : Job) (k : ℕ) → HasJob plan job k → slice_get cast k ≡ calm_part plan trace job
   part_at job k has =
       let below = job_below plan valid job k has in
       let many = made.count_is in
       let x = there_is actors k (omega (arith, below, many)) in
       let one = made.each k x.0 x.1 in
-      map_get part_of actors k x.0 x.1 ∙ (sym one.part ∙ ap (job_part plan trace) (same_job plan valid one.job job k one.has has))
+      map_get part_of actors k x.0 x.1 ∙ (sym one.part ∙ ap (calm_part plan trace) (same_job plan valid one.job job k one.has has))
 
-  pub job_of : (k : ℕ) (p : Part) → slice_get cast k ≡ Some p → (job : Job) × HasJob plan job k × (job_part plan trace job ≡ Some p)
+  pub job_of : (k : ℕ) (p : Part) → slice_get cast k ≡ Some p → (job : Job) × HasJob plan job k × (calm_part plan trace job ≡ Some p)
   job_of k p at =
       let x = map_from part_of actors k p at in
       let one = made.each k x.0 x.1 in
       (one.job, one.has, one.part ∙ ap (λ (q : Part). Some q) x.2)
 
   -- the frames of the scene are those of the device
-  frames_by : (job : Job) (p : Part) → job_part plan trace job ≡ Some p → (job ≡ EthDevice → ⊥) → frames_of p ≡ []
+  frames_by : (job : Job) (p : Part) → calm_part plan trace job ≡ Some p → (job ≡ EthDevice → ⊥) → frames_of p ≡ []
   frames_by EthDevice p is not_device = absurd (not_device refl)
   frames_by EthDriver p is not_device = ap frames_of (sym (some_is is))
   frames_by NetReceiver p is not_device = ap frames_of (sym (some_is is))
@@ -126,7 +126,7 @@ module _ (plan : Plan) (trace : Trace) (actors : List Actor) (valid : Valid plan
   frames_by (BlkClient c) p is not_device = ap frames_of (sym (some_is is))
 
   -- and the image is that of the disk
-  image_by : (job : Job) (p : Part) → job_part plan trace job ≡ Some p → (job ≡ DiskDevice → ⊥) → image_of p ≡ []
+  image_by : (job : Job) (p : Part) → calm_part plan trace job ≡ Some p → (job ≡ DiskDevice → ⊥) → image_of p ≡ []
   image_by EthDevice p is not_disk = ap image_of (sym (some_is is))
   image_by EthDriver p is not_disk = ap image_of (sym (some_is is))
   image_by NetReceiver p is not_disk = ap image_of (sym (some_is is))
@@ -189,7 +189,7 @@ module _ (plan : Plan) (trace : Trace) (actors : List Actor) (valid : Valid plan
       with_disk (Some blk) is = image_there blk is ∙ sym (ap (λ (o : Option Blk). option_map_or (λ (blk : Blk). trace.image) o []) is)
 
   -- a part of the network has a job of the network class
-  net_job : (job : Job) (q : NetPart) → job_part plan trace job ≡ Some (NetworkPart q) → IsOf plan job → HasNet plan
+  net_job : (job : Job) (q : NetPart) → calm_part plan trace job ≡ Some (NetworkPart q) → IsOf plan job → HasNet plan
   net_job EthDevice q e of = of
   net_job EthDriver q e of = of
   net_job NetReceiver q e of = of
@@ -207,7 +207,7 @@ module _ (plan : Plan) (trace : Trace) (actors : List Actor) (valid : Valid plan
   net_job (BlkClient c) q e of = absurd cc
 
   -- and the sending virtualiser's part is that of its job
-  send_job : (job : Job) (q : SendPart) → job_part plan trace job ≡ Some (SendingPart q) → job ≡ NetSender
+  send_job : (job : Job) (q : SendPart) → calm_part plan trace job ≡ Some (SendingPart q) → job ≡ NetSender
   send_job EthDevice q e = absurd cc
   send_job EthDriver q e = absurd cc
   send_job NetReceiver q e = absurd cc
@@ -265,7 +265,7 @@ module _ (plan : Plan) (trace : Trace) (actors : List Actor) (valid : Valid plan
     client_below : (c : ℕ) → c < net_count plan → c < count
     client_below c lt = let a = class_count in let b = counted in omega (arith, lt, a, b)
 
-    net_is : (job : Job) (q : NetPart) → job_part plan trace job ≡ Some (NetworkPart q) → IsOf plan job → IsOfNetwork place (scene_of cast).frames (NetworkPart q)
+    net_is : (job : Job) (q : NetPart) → calm_part plan trace job ≡ Some (NetworkPart q) → IsOf plan job → IsOfNetwork place (scene_of cast).frames (NetworkPart q)
     net_is EthDevice q e of = inl (sym (some_is e) ∙ ap (λ fs. NetworkPart (device_at 0 fs)) (sym frames_here))
     net_is EthDriver q e of = inr (inl (sym (some_is e)))
     net_is NetReceiver q e of = inr (inr (inl (sym (some_is e))))
@@ -293,7 +293,7 @@ module _ (plan : Plan) (trace : Trace) (actors : List Actor) (valid : Valid plan
     client_of : (k : ℕ) → k < count → (c : NetClientKeys) × (slice_get net.client k ≡ Some c)
     client_of k lt = there_is net.client k (let a = counted in omega (arith, lt, a))
 
-    client_part_is : (k : ℕ) (program : Program) (mac : Mac) (q : ClientPools) → program ≡ client_program plan trace k → mac ≡ client_mac plan k → q ≡ client_pools plan k → job_part plan trace (NetClient k) ≡ Some (NetworkPart (client_at 0 k program mac (own_pools q)))
+    client_part_is : (k : ℕ) (program : Program) (mac : Mac) (q : ClientPools) → program ≡ client_program plan trace k → mac ≡ client_mac plan k → q ≡ client_pools plan k → calm_part plan trace (NetClient k) ≡ Some (NetworkPart (client_at 0 k program mac (own_pools q)))
     client_part_is k program mac q a b c =
         ap (λ p. Some (NetworkPart (client_at 0 k p (client_mac plan k) (own_pools (client_pools plan k))))) (sym a)
         ∙ (ap (λ m. Some (NetworkPart (client_at 0 k program m (own_pools (client_pools plan k))))) (sym b)
@@ -327,7 +327,7 @@ module _ (plan : Plan) (trace : Trace) (actors : List Actor) (valid : Valid plan
       only = λ k p at. let one = job_of k (NetworkPart p) at in net_is one.0 p one.2 (job_is_of plan one.0 k one.1);
       only_sender = λ k p at.
           let one = job_of k (SendingPart p) at in
-          let same : job_part plan trace NetSender ≡ Some (SendingPart p) = ap (job_part plan trace) (sym (send_job one.0 p one.2)) ∙ one.2 in
+          let same : calm_part plan trace NetSender ≡ Some (SendingPart p) = ap (calm_part plan trace) (sym (send_job one.0 p one.2)) ∙ one.2 in
           inr (inr (inr (inl (sym (some_is same)))));
       kinds = λ i lt.
           let row = net_kinds plan net is i (let a = macs_many in omega (arith, lt, a)) in

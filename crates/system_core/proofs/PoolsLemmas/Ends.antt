@@ -20,7 +20,7 @@ use Rattle.owner_law.specs.Pools.Places.{PoolAt}
 use Rattle.actor_set.specs.Parts.{Part}
 use Rattle.actor_set.specs.Laws.Kinds.{sheet}
 use Rattle.layout_laws.specs.Jobs.Jobs.{Job, EthDevice, EthDriver, NetReceiver, NetSender, NetCopier, NetClient, UartDevice, UartDriver, SerialReceiver, SerialSender, SerialClient, DiskDevice, DiskDriver, BlkVirtualiser, BlkClient}
-use Rattle.cast_core.specs.Casts.{net_place, blk_place, job_part}
+use Rattle.cast_core.specs.Casts.{net_place, blk_place, calm_part}
 use Rattle.cast_core.specs.Sources.{every_second, first_serial, first_blk}
 
 -- ends that labels tell apart
@@ -153,7 +153,7 @@ asks_rise first k (e ∷ entries) [] ins outs below under = tt
 asks_rise first k (e ∷ entries) (p ∷ pools) ins outs below under = (omega (arith, below), (omega (arith, under), asks_rise first (k + 1) entries pools (first + 4 + 2 * k + 1) (first + 5 + 2 * k + 1) (omega arith) (omega arith)))
 
 -- the part of each job
-pub job_apart : (plan : Plan) (trace : Trace) (scene : Scene) (job : Job) (p : Part) → job_part plan trace job ≡ Some p → AreApart (sheet scene p).ends
+pub job_apart : (plan : Plan) (trace : Trace) (scene : Scene) (job : Job) (p : Part) → calm_part plan trace job ≡ Some p → AreApart (sheet scene p).ends
 job_apart plan trace scene EthDevice p is = subst (λ q. AreApart (sheet scene q).ends) (some_is is) (by_turns 0 1 2 3 (λ e. omega (arith, e)) (λ e. omega (arith, e)))
 job_apart plan trace scene EthDriver p is = subst (λ q. AreApart (sheet scene q).ends) (some_is is) (driver_apart scene)
 job_apart plan trace scene NetReceiver p is = subst (λ q. AreApart (sheet scene q).ends) (some_is is)

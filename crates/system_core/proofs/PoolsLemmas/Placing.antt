@@ -17,7 +17,7 @@ use Rattle.layout_laws.specs.Jobs.Jobs.{Job, EthDevice, EthDriver, NetReceiver, 
 use Rattle.layout_laws.proofs.JobsLemmas.Having.{some_job}
 use Rattle.layout_laws.specs.Seats.Ends.{HasNet, HasBlk, IsOf}
 use Rattle.layout_laws.proofs.SeatsLemmas.Having.{job_is_of}
-use Rattle.cast_core.specs.Casts.{net_place, blk_place, job_part}
+use Rattle.cast_core.specs.Casts.{net_place, blk_place, calm_part}
 use Rattle.cast_law.specs.Pools.Places.{HasNetAt, HasBlkAt, IsPlaced}
 use Rattle.cast_law.specs.Places.{pool_place}
 use Rattle.cast_law.proofs.Pooled.{apart_pools}
@@ -25,7 +25,7 @@ use Rattle.system_core.specs.Shows.{Shown}
 use Rattle.system_core.specs.Builds.{IsCastOf}
 
 -- a part of a class has a job of the class
-net_job : (plan : Plan) (trace : Trace) (job : Job) (q : NetPart) → job_part plan trace job ≡ Some (NetworkPart q) → IsOf plan job → HasNet plan
+net_job : (plan : Plan) (trace : Trace) (job : Job) (q : NetPart) → calm_part plan trace job ≡ Some (NetworkPart q) → IsOf plan job → HasNet plan
 net_job plan trace EthDevice q e of = of
 net_job plan trace EthDriver q e of = of
 net_job plan trace NetReceiver q e of = of
@@ -42,7 +42,7 @@ net_job plan trace DiskDriver q e of = absurd cc
 net_job plan trace BlkVirtualiser q e of = absurd cc
 net_job plan trace (BlkClient c) q e of = absurd cc
 
-send_job : (plan : Plan) (trace : Trace) (job : Job) (q : SendPart) → job_part plan trace job ≡ Some (SendingPart q) → IsOf plan job → HasNet plan
+send_job : (plan : Plan) (trace : Trace) (job : Job) (q : SendPart) → calm_part plan trace job ≡ Some (SendingPart q) → IsOf plan job → HasNet plan
 send_job plan trace EthDevice q e of = of
 send_job plan trace EthDriver q e of = of
 send_job plan trace NetReceiver q e of = of
@@ -59,7 +59,7 @@ send_job plan trace DiskDriver q e of = absurd cc
 send_job plan trace BlkVirtualiser q e of = absurd cc
 send_job plan trace (BlkClient c) q e of = absurd cc
 
-blk_job : (plan : Plan) (trace : Trace) (job : Job) (q : BlkPart) → job_part plan trace job ≡ Some (BlockPart q) → IsOf plan job → HasBlk plan
+blk_job : (plan : Plan) (trace : Trace) (job : Job) (q : BlkPart) → calm_part plan trace job ≡ Some (BlockPart q) → IsOf plan job → HasBlk plan
 blk_job plan trace EthDevice q e of = absurd cc
 blk_job plan trace EthDriver q e of = absurd cc
 blk_job plan trace NetReceiver q e of = absurd cc
@@ -81,7 +81,7 @@ module _ (plan : Plan) (trace : Trace) (s : Shown) (valid : Valid plan) (cast_is
   cast = s.setting.cast
 
   -- the job of an actor
-  pub job_at : (k : ℕ) (p : Part) → slice_get cast k ≡ Some p → (job : Job) × HasJob plan job k × (job_part plan trace job ≡ Some p)
+  pub job_at : (k : ℕ) (p : Part) → slice_get cast k ≡ Some p → (job : Job) × HasJob plan job k × (calm_part plan trace job ≡ Some p)
   job_at k p at =
       let below = there_below cast k p at in
       let job = some_job plan valid k (omega (arith, below, cast_is.count)) in

@@ -3,9 +3,12 @@ use Rattle.expect_core.proofs.Replying.{entry_few}
 use Rattle.region_layout.specs.Rows.{queues_of, pools_of}
 use Rattle.cast_core.specs.declared.jobs.Job.TheVariants as Class
 use Rattle.cast_core.specs.Known.{HasRows, IsKnown, net_job, serial_job, blk_job}
+use Rattle.trace_text.specs.declared.class.Class.TheVariants as Of
+use Rattle.cast_core.specs.Hostile.{HasActs}
 use Rattle.cast_core.specs.Making.{HasPools, HasFrames, HasBlkPools, HasAsks}
 use Rattle.cast_core.proofs.Tables.{has_rows, some_known, known_has}
 use Rattle.cast_core.proofs.Rooms.{has_pools, has_blk_pools}
+use Rattle.cast_core.proofs.Hostile.{net_acts, serial_acts, blk_acts}
 use Rattle.cast_core.proofs.Joining.{queues_are, pools_are, net_count, net_few, frames_few, serial_few, serial_some, first_few, has_frames, says_count, is_cast, blk_count, blk_few, first_blk_few, first_blk_pool_few, has_asks}
 use Rattle.cast_core.proofs.actors.actor.Goals as goal
 
@@ -104,3 +107,12 @@ returns-in-Blk c =
     let rows : c.queues.result.now ≡ queues_of c.args.plan.now = c.queues.ensures ∙ queues_are c.args.plan.now c.args.layout.now c.requires.layout in
     let has = known_has c.args.plan.now (Class.Blk c.in-Blk.job) c.args.number (subst (λ l. IsKnown c.args.plan.now l c.args.number (Class.Blk c.in-Blk.job)) rows c.in-Blk.ensures) in
     is_cast c.args.plan.now c.args.trace.now c.args.number (blk_job c.in-Blk.job) c.blk_actor.result has c.blk_actor.ensures.new c.blk_actor.ensures.part
+
+pub net_actor-requires-clause-acts : goal.net_actor-requires-clause-acts
+net_actor-requires-clause-acts c = subst (HasActs Of.Net c.args.trace.now.net_acts) (sym c.net_clients.ensures) (net_acts c.args.plan.now c.args.trace.now c.requires.trace)
+
+pub serial_actor-requires-clause-acts : goal.serial_actor-requires-clause-acts
+serial_actor-requires-clause-acts c = subst (HasActs Of.Serial c.args.trace.now.serial_acts) (sym c.serial_clients.ensures) (serial_acts c.args.plan.now c.args.trace.now c.requires.trace)
+
+pub blk_actor-requires-clause-acts : goal.blk_actor-requires-clause-acts
+blk_actor-requires-clause-acts c = subst (HasActs Of.Blk c.args.trace.now.blk_acts) (sym c.blk_clients.ensures) (blk_acts c.args.plan.now c.args.trace.now c.requires.trace)
