@@ -22,9 +22,11 @@ use Rattle.trace_text.proofs.Shapes.{shapes-read}
 use Rattle.layout_laws.proofs.Lists.{all-at}
 use Rattle.client_programs.specs.declared.rogue.Rogue.{Rogue}
 use Rattle.client_programs.specs.Rogue.Acts.{Left}
-use Rattle.client_programs.specs.Rogue.Clients.{AreApart, IsActOf, IsNewRogue, left_at_start}
+use Rattle.client_programs.specs.Rogue.Clients.{AreApart, IsActOf, IsNewRogue, left_at_start, left_of}
+use Rattle.buffer_kit.specs.Pools.{page_bodies}
 use Rattle.actor_set.specs.Actors.{numbers, pages_at, part_of}
 use Rattle.actor_set.specs.Parts.{HostilePart, PageAt, Part}
+use Rattle.actor_set.specs.StartStates.{IsNew}
 use Rattle.actor_set.specs.declared.actor.Actor.{Actor}
 use Rattle.actor_set.specs.declared.actor.Actor.TheVariants as Kinds
 use Rattle.layout_laws.specs.Jobs.Jobs.{Job, EthDevice, EthDriver, NetReceiver, NetSender, NetCopier, NetClient, UartDevice, UartDriver, SerialReceiver, SerialSender, SerialClient, DiskDevice, DiskDriver, BlkVirtualiser, BlkClient}
@@ -67,6 +69,19 @@ rogue_is kind inputs outputs pages acts r new told pages_told =
     ∙ (ap (λ l. made kind inputs l (left_at_start r) (pages_at r.start.value.items)) new.to
     ∙ (ap (λ s. made kind inputs outputs s (pages_at r.start.value.items)) start
     ∙ ap (made kind inputs outputs (record { acts = acts; looked = false; kept = length told })) (ap pages_at new.had ∙ pages_told))))
+
+-- it is in its start state
+pub rogue_new : (kind : QueueKind) (inputs outputs : List QueueId) (pages : List Paged) (acts : List Act) (r : Rogue) → IsNewRogue kind inputs outputs pages acts r → IsNew (Kinds.Rogue r)
+rogue_new kind inputs outputs pages acts r new = record {
+  is = new.is;
+  puts = refl;
+  from = refl;
+  to = refl;
+  left = ap (λ n. record { acts = (left_of r).acts; looked = (left_of r).looked; kept = n }) (ap (λ (l : Left). l.kept) new.left ∙ ap length (sym new.had)) ∙ ap (λ b. record { acts = (left_of r).acts; looked = b; kept = length r.start.value.items }) (ap (λ (l : Left). l.looked) new.left);
+  keeps = new.keeps ∙ ap page_bodies (sym new.had);
+  had = refl;
+  start = new.start;
+}
 
 -- acts at queues such as a client of a class has are acts of a client that has these
 one_fits : (class : Class) (x : Act) → IsActOn class x → IsActOf (inputs_of class) (2 * inputs_of class) x

@@ -75,15 +75,9 @@ pub fn serial_rogue(
     let rx = first + 4 + 2 * client;
     let inputs = vec![in alloc; QueueId(rx)]?;
     let outputs = vec![in alloc; QueueId(rx + 1)]?;
+    let own = Vec::new(alloc);
     let acts = Vec::from_slice(alloc, trace.acts(1, client as u32))?;
-    Ok(Rogue::new(
-        alloc,
-        QueueKind::Byte,
-        inputs,
-        outputs,
-        Vec::new(alloc),
-        acts,
-    )?)
+    Ok(Rogue::new(alloc, QueueKind::Byte, inputs, outputs, own, acts)?)
 }
 
 /// The hostile block client of a number, where the class begins at this queue, and its pool has
