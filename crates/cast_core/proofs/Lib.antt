@@ -7,4 +7,4 @@ pub mod Blocks
 pub mod SerialStarts
 pub mod Growing
 pub mod Joining
-pub mod Hostile
+pub mod HostileLemmas

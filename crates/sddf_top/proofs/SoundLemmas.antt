@@ -13,7 +13,7 @@ use Rattle.decision_core.specs.Judged.{IsAcceptedPlan}
 use Rattle.decision_core.specs.Decided.{decision_of, IsSound, AsksToRun}
 use Rattle.decision_core.specs.Rogues.{first_rogue}
 use Rattle.decision_core.proofs.FriendlyLemmas.{IsFriendlyPlay, decided-friendly, no-net, no-serial, no-blk}
-use Rattle.cast_core.proofs.Hostile.{no_rogue}
+use Rattle.cast_core.proofs.HostileLemmas.{no_rogue}
 use Rattle.sddf_top.specs.Friendly.{IsFriendly}
 use Rattle.i2c_text.specs.Buses.{IsReadBus}
 use Rattle.ports_text.specs.Given.{ArePorts}

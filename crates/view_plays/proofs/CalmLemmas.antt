@@ -15,7 +15,7 @@ use Rattle.decision_core.specs.declared.deciding.Decided.TheVariants as Kept
 use Rattle.decision_core.specs.Decided.{decision_of, IsPlayable}
 use Rattle.decision_core.specs.Rogues.{first_rogue}
 use Rattle.decision_core.proofs.FriendlyLemmas.{IsFriendlyPlay, no-net, no-serial, no-blk}
-use Rattle.cast_core.proofs.Hostile.{no_rogue}
+use Rattle.cast_core.proofs.HostileLemmas.{no_rogue}
 use Rattle.play_words.specs.declared.ask.Drawing.{Drawing}
 use Rattle.view_plays.specs.Deciding.{IsOnPlan, Answered, Drawn, Refused, DrawsPlay, no_drawing, refused, drawn, IsDrawnOf, drawn_of, ending_of}
 use Rattle.view_plays.specs.Viewed.{EndsFor}

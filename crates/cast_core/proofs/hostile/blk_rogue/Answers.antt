@@ -12,7 +12,7 @@ use Rattle.cast_core.specs.Making.{new_page}
 use Rattle.cast_core.specs.Hostile.{pool_pages, rogue_with}
 use Rattle.cast_core.proofs.Listing.{value_count}
 use Rattle.cast_core.proofs.Blocks.{block_fits, block_size}
-use Rattle.cast_core.proofs.Hostile.{acts_are, acts_few, acts_fit, one_apart, pool_told, rogue_is, rogue_new}
+use Rattle.cast_core.proofs.HostileLemmas.{acts_are, acts_few, acts_fit, one_apart, pool_told, rogue_is, rogue_new}
 use Rattle.cast_core.proofs.hostile.blk_rogue.Goals as goal
 
 pub acts-requires : goal.acts-requires
@@ -57,4 +57,4 @@ returns-clause-part c =
     rogue_is Kind.Req c.in_ok-inputs.inputs.items c.in_ok-outputs.outputs.items c.in_ok-own.own.items c.in_ok-acts.acts.items c.in_ok-new.field-0 c.in_ok-new.ensures.new told
     (pool_told rows n 32768 c.pool_row.result.now.buffers c.in_ok-own.own.items c.in_ok-own.ensures c.pool_row.ensures.buffers (sym (block_size rows n c.requires.pool)))
     ∙ (ap₂ (λ (i o : List QueueId). HostilePart (rogue_with Kind.Req (numbers i) (numbers o) told c.in_ok-acts.acts.items)) c.in_ok-inputs.ensures.items c.in_ok-outputs.ensures.items
-    ∙ ap₂ (λ (n : ℕ) (l : List Act). HostilePart (rogue_with Kind.Req (n ∷ []) (first + 4 + 2 * k ∷ []) told l)) next acts)
+    ∙ ap₂ (λ (n : ℕ) (l : List Act). HostilePart (rogue_with Kind.Req (n ∷ []) ((first + 4 + 2 * k) ∷ []) told l)) next acts)

@@ -1,5 +1,5 @@
 use Rattle.std.proofs.Common.{◌∙◌, sym, arith}
-use Rattle.cast_core.proofs.Hostile.{eight_calm, none_at, one_calm_more, some_at}
+use Rattle.cast_core.proofs.HostileLemmas.{eight_calm, none_at, one_calm_more, some_at}
 use Rattle.cast_core.proofs.hostile.has_no_rogue.Goals as goal
 
 pub loop-client-init : goal.loop-client-init

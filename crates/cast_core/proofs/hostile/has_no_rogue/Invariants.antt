@@ -1,5 +1,5 @@
 use Rattle.std.proofs.Common.{ℕ, ◌<◌}
-use Rattle.cast_core.proofs.Hostile.{AreCalmAt}
+use Rattle.cast_core.proofs.HostileLemmas.{AreCalmAt}
 use Rattle.cast_core.proofs.hostile.has_no_rogue.Given as goal
 
 abbrev pub invariant-loop-client : goal.invariant-loop-client

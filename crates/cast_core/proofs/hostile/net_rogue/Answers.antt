@@ -12,7 +12,7 @@ use Rattle.cast_core.specs.Making.{new_page}
 use Rattle.cast_core.specs.Hostile.{pool_pages, rogue_with}
 use Rattle.cast_core.proofs.Listing.{value_count}
 use Rattle.cast_core.proofs.Making.{pool_fits}
-use Rattle.cast_core.proofs.Hostile.{acts_are, acts_few, acts_fit, pool_told, pools_told, rogue_is, rogue_new, two_apart}
+use Rattle.cast_core.proofs.HostileLemmas.{acts_are, acts_few, acts_fit, pool_told, pools_told, rogue_is, rogue_new, two_apart}
 use Rattle.cast_core.proofs.hostile.net_rogue.Goals as goal
 
 pub acts-requires : goal.acts-requires
@@ -62,4 +62,4 @@ returns-clause-part c =
     let acts = c.in_ok-acts.ensures.items ∙ sym (acts_are c.args.trace.now.net_acts k c.acts.result.now c.acts.ensures) in
     rogue_is Kind.Net c.in_ok-inputs.inputs.items c.in_ok-outputs.outputs.items c.append.new.self.items c.in_ok-acts.acts.items c.in_ok-new.field-0 c.in_ok-new.ensures.new told pages
     ∙ (ap₂ (λ (i o : List QueueId). HostilePart (rogue_with Kind.Net (numbers i) (numbers o) told c.in_ok-acts.acts.items)) c.in_ok-inputs.ensures.items c.in_ok-outputs.ensures.items
-    ∙ ap (λ (l : List Act). HostilePart (rogue_with Kind.Net (8 + 6 * k + 2 ∷ 8 + 6 * k + 5 ∷ []) (8 + 6 * k + 3 ∷ 8 + 6 * k + 4 ∷ []) told l)) acts)
+    ∙ ap (λ (l : List Act). HostilePart (rogue_with Kind.Net ((8 + 6 * k + 2) ∷ (8 + 6 * k + 5) ∷ []) ((8 + 6 * k + 3) ∷ (8 + 6 * k + 4) ∷ []) told l)) acts)

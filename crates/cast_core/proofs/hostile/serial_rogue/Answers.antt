@@ -8,7 +8,7 @@ use Rattle.client_programs.specs.Rogue.Clients.{AreApart, IsActOf}
 use Rattle.actor_set.specs.Actors.{numbers, pages_at}
 use Rattle.actor_set.specs.Parts.{HostilePart}
 use Rattle.cast_core.specs.Hostile.{rogue_with}
-use Rattle.cast_core.proofs.Hostile.{acts_are, acts_few, acts_fit, one_apart, rogue_is, rogue_new}
+use Rattle.cast_core.proofs.HostileLemmas.{acts_are, acts_few, acts_fit, one_apart, rogue_is, rogue_new}
 use Rattle.cast_core.proofs.hostile.serial_rogue.Goals as goal
 
 pub acts-requires : goal.acts-requires
@@ -44,4 +44,4 @@ returns-clause-part c =
     let next : first + 4 + 2 * k + 1 ≡ first + 5 + 2 * k = omega arith in
     rogue_is Kind.Byte c.in_ok-inputs.inputs.items c.in_ok-outputs.outputs.items c.new-own.result.items c.in_ok-acts.acts.items c.in_ok-new.field-0 c.in_ok-new.ensures.new [] (ap pages_at c.new-own.ensures.items)
     ∙ (ap₂ (λ (i o : List QueueId). HostilePart (rogue_with Kind.Byte (numbers i) (numbers o) [] c.in_ok-acts.acts.items)) c.in_ok-inputs.ensures.items c.in_ok-outputs.ensures.items
-    ∙ ap₂ (λ (n : ℕ) (l : List Act). HostilePart (rogue_with Kind.Byte (first + 4 + 2 * k ∷ []) (n ∷ []) [] l)) next acts)
+    ∙ ap₂ (λ (n : ℕ) (l : List Act). HostilePart (rogue_with Kind.Byte ((first + 4 + 2 * k) ∷ []) (n ∷ []) [] l)) next acts)

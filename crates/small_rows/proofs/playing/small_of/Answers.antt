@@ -1,5 +1,5 @@
 use Rattle.std.proofs.Common.{◌∙◌}
-use Rattle.cast_core.proofs.Hostile.{calm_cast}
+use Rattle.cast_core.proofs.HostileLemmas.{calm_cast}
 use Rattle.system_core.proofs.Built.{layout_queues, are_seated}
 use Rattle.small_rows.proofs.Seats.{wrapped_begin}
 use Rattle.small_rows.proofs.playing.small_of.Goals as goal

@@ -178,7 +178,7 @@ none_at plan c none = by (is_net_rogue plan c) (is_serial_rogue plan c) (is_blk_
     by false false false e f g h = record { net = e; serial = f; blk = g }
 
 pub some_at : (plan : Plan) (c : ℕ) → (is_net_rogue plan c || is_serial_rogue plan c || is_blk_rogue plan c) ≡ true → HasNoRogue plan → ⊥
-some_at plan c some none = let no : false ≡ true = subst (λ a. (a || is_serial_rogue plan c || is_blk_rogue plan c) ≡ true) (none.net c) (subst (λ b. (is_net_rogue plan c || b || is_blk_rogue plan c) ≡ true) (none.serial c) (subst (λ d. (is_net_rogue plan c || is_serial_rogue plan c || d) ≡ true) (none.blk c) some)) in cc
+some_at plan c some none = let no : false ≡ true = subst (λ a. (a || false || false) ≡ true) (none.net c) (subst (λ b. (is_net_rogue plan c || b || false) ≡ true) (none.serial c) (subst (λ d. (is_net_rogue plan c || is_serial_rogue plan c || d) ≡ true) (none.blk c) some)) in cc
 
 -- a valid plan has at most eight clients of a class
 pub eight_calm : (plan : Plan) → Valid plan → (n : ℕ) → 8 ≤ n → ((c : ℕ) → c < n → AreCalmAt plan c) → HasNoRogue plan
