@@ -5,7 +5,7 @@ use Rattle.cargo_core.specs.declared.item.QueueKind.TheVariants as Kind
 use Rattle.wire_core.specs.declared.names.QueueId.{QueueId}
 use Rattle.trace_text.specs.declared.class.Class.TheVariants as Of
 use Rattle.client_programs.specs.Rogue.Clients.{AreApart, IsActOf}
-use Rattle.actor_set.specs.Actors.{numbers, pages_at}
+use Rattle.actor_set.specs.Actors.{numbers}
 use Rattle.actor_set.specs.Parts.{HostilePart}
 use Rattle.cast_core.specs.Sources.{pool_at}
 use Rattle.cast_core.specs.Making.{new_page}
