@@ -26,7 +26,7 @@ use Rattle.blk_quiet.proofs.PoolsLemmas.Naming.{sharer_from}
 use Rattle.layout_laws.proofs.SeatsLemmas.Counts.{each_count}
 use Rattle.actor_set.specs.Actors.{part_of}
 use Rattle.actor_set.specs.declared.actor.Actor.{Actor}
-use Rattle.cast_core.specs.Casts.{client_pools, client_pool, net_place, blk_place, AreCalmCast}
+use Rattle.cast_core.specs.Casts.{client_pools, client_pool, net_place, blk_place, AreCast}
 use Rattle.cast_core.specs.Making.{HasPool}
 use Rattle.cast_core.specs.Sources.{pool_at, first_blk_pool}
 use Rattle.cast_core.proofs.Blocks.{block_size}
@@ -239,7 +239,7 @@ module _ (plan : Plan) (trace : Trace) where
         }
 
     -- the classes with pools stand at the plan's place
-    pub placed : (actors : List Actor) → IsReadFor plan trace → AreCalmCast plan trace actors → IsPlaced (queues_of plan) (pool_place plan trace) (map part_of actors)
+    pub placed : (actors : List Actor) → IsReadFor plan trace → AreCast plan trace actors → IsPlaced (queues_of plan) (pool_place plan trace) (map part_of actors)
     placed actors read cast = record { net = first plan.net refl; blk = behind plan.blk refl }
       where
         first : (n : Option Net) → plan.net ≡ n → HasNetAt (queues_of plan) (option_map (λ net. net_place plan trace) n) (map part_of actors)
@@ -250,5 +250,5 @@ module _ (plan : Plan) (trace : Trace) where
         behind None none = no_block plan trace actors valid cast none
         behind (Some blk) is = (whole_block plan trace actors valid read cast blk is, apart_pools blk is)
 
-    pub are_pooled : (actors : List Actor) → IsReadFor plan trace → AreCalmCast plan trace actors → ArePooled (queues_of plan) (pools_of plan) (map part_of actors)
+    pub are_pooled : (actors : List Actor) → IsReadFor plan trace → AreCast plan trace actors → ArePooled (queues_of plan) (pools_of plan) (map part_of actors)
     are_pooled actors read cast = (pool_place plan trace, placed actors read cast, pooled)
