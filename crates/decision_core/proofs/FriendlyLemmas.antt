@@ -29,20 +29,18 @@ use Rattle.decision_core.proofs.GenLemmas.{one-plan}
 abbrev Misses : {T : Type 0} (is : T → Bool) → List T → Type 0
 Misses {T} is xs = (k : ℕ) (x : T) → slice_get xs k ≡ Some x → is x ≡ false
 
+-- where the first is not so and no other is, none is
+first-misses : {T : Type 0} (is : T → Bool) (y : T) (xs : List T) → is y ≡ false → Misses is xs → Misses is (y ∷ xs)
+first-misses is y xs here rest zero x at = let e : y ≡ x = cc in subst (λ z. is z ≡ false) e here
+first-misses is y xs here rest (suc k) x at = rest k x at
+
+first-found : {T : Type 0} (is : T → Bool) (y : T) (xs : List T) (b : Bool) → is y ≡ b → find is (y ∷ xs) ≡ None → (b ≡ false) × (find is xs ≡ None)
+first-found is y xs true here none = absurd (let some : find is (y ∷ xs) ≡ Some y = rw here refl in cc)
+first-found is y xs false here none = (refl, sym (rw here refl) ∙ none)
+
 found-none : {T : Type 0} (is : T → Bool) (xs : List T) → find is xs ≡ None → Misses is xs
 found-none is [] none k x at = absurd cc
-found-none is (y ∷ xs) none k x at = by (is y) refl none
-  where
-    by : (b : Bool) → is y ≡ b → find is (y ∷ xs) ≡ None → is x ≡ false
-    by true here no = absurd (let some : find is (y ∷ xs) ≡ Some y = rw here refl in cc)
-    by false here no = later k at
-      where
-        rest : find is xs ≡ None
-        rest = sym (rw here refl) ∙ no
-
-        later : (j : ℕ) → slice_get (y ∷ xs) j ≡ Some x → is x ≡ false
-        later zero a = let e : y ≡ x = cc in subst (λ z. is z ≡ false) e here
-        later (suc j) a = found-none is xs rest j x a
+found-none is (y ∷ xs) none = let first = first-found is y xs (is y) refl none in first-misses is y xs first.0 (found-none is xs first.1)
 
 misses-right : {T : Type 0} (is : T → Bool) (xs ys : List T) → Misses is (xs ++ ys) → Misses is ys
 misses-right is [] ys h = h
