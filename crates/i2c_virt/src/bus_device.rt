@@ -118,11 +118,14 @@ impl BusDevice {
         requires { FitsBus (W.ends wires.old) self.old }
         ensures fits { FitsBus (W.ends wires.new) self.new }
         ensures same { SameBus self.old self.new }
-        ensures stepped { Stepped BusStandsFor W.did wires.old wires.new self.old self.new event.new }
+        ensures stepped { Stepped BusStandsFor W.did wires.old wires.new self.old self.new
+            event.new }
         ensures posted { Posted (intake_post self.old.input) (is_serving self.old) event.new
             (intake_post self.new.input) }
-        ensures load { is_mark event.new.op event.new.answer ≡ false → self.new.load ≡ self.old.load }
-        ensures stray { is_mark event.new.op event.new.answer ≡ false → self.new.stray ≡ self.old.stray }
+        ensures load { is_mark event.new.op event.new.answer ≡ false
+            → self.new.load ≡ self.old.load }
+        ensures stray { is_mark event.new.op event.new.answer ≡ false
+            → self.new.stray ≡ self.old.stray }
         ensures output { self.new.output ≡ self.old.output }
         ensures turn { self.new.turn ≡ self.old.turn }
     {
@@ -139,10 +142,12 @@ impl BusDevice {
         requires { FitsBus (W.ends wires.old) self.old }
         ensures fits { FitsBus (W.ends wires.new) self.new }
         ensures same { SameBus self.old self.new }
-        ensures stepped { Stepped BusStandsFor W.did wires.old wires.new self.old self.new event.new }
+        ensures stepped { Stepped BusStandsFor W.did wires.old wires.new self.old self.new
+            event.new }
         ensures posted { Posted (outlet_post self.old.output) (is_some self.old.load) event.new
             (outlet_post self.new.output) }
-        ensures load { is_mark event.new.op event.new.answer ≡ false → self.new.load ≡ self.old.load }
+        ensures load { is_mark event.new.op event.new.answer ≡ false
+            → self.new.load ≡ self.old.load }
         ensures others { self.new ≡ record self.old
             { output = self.new.output; load = self.new.load } }
     {
@@ -154,7 +159,8 @@ impl BusDevice {
         requires { FitsBus (W.ends wires.old) self.old }
         ensures fits { FitsBus (W.ends wires.new) self.new }
         ensures same { SameBus self.old self.new }
-        ensures stepped { Stepped BusStandsFor W.did wires.old wires.new self.old self.new event.new }
+        ensures stepped { Stepped BusStandsFor W.did wires.old wires.new self.old self.new
+            event.new }
         ensures turned { Turned (bus_round self.old) event.new (bus_round self.new) }
     {
         match self.choose() {

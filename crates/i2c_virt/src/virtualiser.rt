@@ -251,7 +251,8 @@ impl I2cVirt {
         ensures same { SameI2cVirt self.old self.new }
         ensures stepped { Stepped I2cVirtStandsFor W.did wires.old wires.new
             self.old self.new event.new }
-        ensures posted { PostedAt (virt_posts self.old.ends) 0 (is_none self.old.work.stray) event.new
+        ensures posted { PostedAt (virt_posts self.old.ends) 0 (is_none self.old.work.stray)
+            event.new
             (virt_posts self.new.ends) }
         ensures still { is_mark event.new.op event.new.answer ≡ false
             → WorkIsStill self.old.work self.new.work }
@@ -324,7 +325,8 @@ impl I2cVirt {
         ensures stepped { Stepped I2cVirtStandsFor W.did wires.old wires.new
             self.old self.new event.new }
         ensures posted { PostedAt (virt_posts self.old.ends)
-            (2 + length (from_queues self.old.ends) + place) (gives_at self.old.work place) event.new
+            (2 + length (from_queues self.old.ends) + place) (gives_at self.old.work place)
+            event.new
             (virt_posts self.new.ends) }
         ensures still { is_mark event.new.op event.new.answer ≡ false
             → WorkIsStill self.old.work self.new.work }

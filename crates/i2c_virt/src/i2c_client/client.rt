@@ -128,12 +128,19 @@ impl BusClient {
             (intake_post self.new.responses) }
         ensures asking { is_mark event.new.op event.new.answer ≡ false
             → self.new.asking ≡ self.old.asking }
-        ensures stray { is_mark event.new.op event.new.answer ≡ false → self.new.stray ≡ self.old.stray }
+        ensures stray { is_mark event.new.op event.new.answer ≡ false
+            → self.new.stray ≡ self.old.stray }
         ensures requests { self.new.requests ≡ self.old.requests }
         ensures turn { self.new.turn ≡ self.old.turn }
     {
         let mut got = None;
-        pull(&mut self.responses, wires, self.stray.is_none(), &mut got, event);
+        pull(
+            &mut self.responses,
+            wires,
+            self.stray.is_none(),
+            &mut got,
+            event,
+        );
         if let Some(entry) = got {
             self.receive(entry);
         }
@@ -164,8 +171,8 @@ impl BusClient {
         }
     }
 
-    /// Makes one call on one of its ends, which `event` tells then. The memory of the next reply is taken first; after want
-    /// of memory no call was made and nothing changed.
+    /// Makes one call on one of its ends, which `event` tells then. The memory of the next reply is
+    /// taken first; after want of memory no call was made and nothing changed.
     pub fn step<W: Wires>(&mut self, wires: &mut W, event: &mut Event) -> Result<(), Memory>
         requires { FitsClient (W.ends wires.old) self.old }
         ensures fits { FitsClient (W.ends wires.new) self.new }

@@ -1,7 +1,7 @@
-use Rattle.std.proofs.Common.{None, sym, ap, ◌∙◌, arith}
+use Rattle.std.proofs.Common.{ap, ◌∙◌, arith}
 use Rattle.turn_kit.specs.Turns.{chosen_place, last_after}
 use Rattle.turn_kit.proofs.Unsettled.{first_chosen, last_stays, first_within}
-use Rattle.pipe_driver.proofs.Counting.{pipes_choice, pipes_count, pipes_first, post_count}
+use Rattle.pipe_driver.proofs.Counting.{pipes_choice, pipes_count, pipes_first}
 use Rattle.i2c_virt.specs.Drivers.{pipes_of, driver_round}
 use Rattle.i2c_virt.proofs.driver.BusDriver.choose.Goals as goal
 
