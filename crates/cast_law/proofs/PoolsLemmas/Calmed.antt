@@ -45,7 +45,7 @@ no_rogues rows n b cast calm = record {
 }
 
 -- the calm client of a hostile one's number, by its class
-record NetFor (n : Option NetPlace) (r : RoguePart) (p : Part) : Type 0 where
+pub record NetFor (n : Option NetPlace) (r : RoguePart) (p : Part) : Type 0 where
   pub net : NetPlace
   pub k : ℕ
   pub program : Program
@@ -56,7 +56,7 @@ record NetFor (n : Option NetPlace) (r : RoguePart) (p : Part) : Type 0 where
   pub rogue : IsNetRogue net k pools r
   pub is : p ≡ NetworkPart (client_at net.first k program mac (own_pools pools))
 
-record BlkFor (b : Option BlkPlace) (r : RoguePart) (p : Part) : Type 0 where
+pub record BlkFor (b : Option BlkPlace) (r : RoguePart) (p : Part) : Type 0 where
   pub blk : BlkPlace
   pub k : ℕ
   pub entry : ℕ
@@ -67,11 +67,11 @@ record BlkFor (b : Option BlkPlace) (r : RoguePart) (p : Part) : Type 0 where
   pub rogue : IsBlkRogue blk k pool r
   pub is : p ≡ BlockPart (blk_client_at blk.first k asks pool)
 
-record BareFor (r : RoguePart) (p : Part) : Type 0 where
+pub record BareFor (r : RoguePart) (p : Part) : Type 0 where
   pub rogue : IsBareRogue r
   pub is : p ≡ ClientPart rogue.input rogue.output []
 
-abbrev IsFor : Option NetPlace → Option BlkPlace → RoguePart → Part → Type 0
+abbrev pub IsFor : Option NetPlace → Option BlkPlace → RoguePart → Part → Type 0
 IsFor n b r p = NetFor n r p ⊎ BlkFor b r p ⊎ BareFor r p
 
 -- the same part, or the calm client for a hostile one
@@ -216,7 +216,7 @@ module _ (rows : List QueueRow) (n : Option NetPlace) (b : Option BlkPlace) (cas
 
   -- the ends of a calm client are those of the hostile one
   module _ (j : ℕ) (r : RoguePart) (at : slice_get cast j ≡ Some (HostilePart r)) where
-    net_seat : (first k : ℕ) → r.inputs ≡ client_first first k + 2 ∷ client_first first k + 5 ∷ [] → r.outputs ≡ client_first first k + 3 ∷ client_first first k + 4 ∷ [] → (i : ℕ) (s : Seat) → slice_get (intake (client_first first k + 2) ∷ outlet (client_first first k + 3) ∷ intake (client_first first k + 5) ∷ outlet (client_first first k + 4) ∷ []) i ≡ Some s → IsSeat rows j s
+    net_seat : (first k : ℕ) → r.inputs ≡ (client_first first k + 2) ∷ (client_first first k + 5) ∷ [] → r.outputs ≡ (client_first first k + 3) ∷ (client_first first k + 4) ∷ [] → (i : ℕ) (s : Seat) → slice_get (intake (client_first first k + 2) ∷ outlet (client_first first k + 3) ∷ intake (client_first first k + 5) ∷ outlet (client_first first k + 4) ∷ []) i ≡ Some s → IsSeat rows j s
     net_seat first k ins outs i s here = by i here
       where
         ends : (sheet scene (HostilePart r)).ends ≡ intake (client_first first k + 2) ∷ intake (client_first first k + 5) ∷ outlet (client_first first k + 3) ∷ outlet (client_first first k + 4) ∷ []

@@ -16,15 +16,15 @@ use Rattle.cast_core.specs.Hostile.{pool_pages}
 -- the hostile network client of a number, with these pools
 pub record IsNetRogue (net : NetPlace) (k : ℕ) (q : ClientPools) (p : RoguePart) : Type 0 where
   pub there : slice_get net.pools k ≡ Some q
-  pub inputs : p.inputs ≡ client_first net.first k + 2 ∷ client_first net.first k + 5 ∷ []
-  pub outputs : p.outputs ≡ client_first net.first k + 3 ∷ client_first net.first k + 4 ∷ []
+  pub inputs : p.inputs ≡ (client_first net.first k + 2) ∷ (client_first net.first k + 5) ∷ []
+  pub outputs : p.outputs ≡ (client_first net.first k + 3) ∷ (client_first net.first k + 4) ∷ []
   pub pages : p.pages ≡ pool_pages q.rx ++ pool_pages q.tx
 
 -- the hostile block client of a number, with this pool
 pub record IsBlkRogue (blk : BlkPlace) (k : ℕ) (q : PoolAt) (p : RoguePart) : Type 0 where
   pub there : slice_get blk.pools k ≡ Some q
-  pub inputs : p.inputs ≡ blk.first + 5 + 2 * k ∷ []
-  pub outputs : p.outputs ≡ blk.first + 4 + 2 * k ∷ []
+  pub inputs : p.inputs ≡ (blk.first + 5 + 2 * k) ∷ []
+  pub outputs : p.outputs ≡ (blk.first + 4 + 2 * k) ∷ []
   pub pages : p.pages ≡ pool_pages q
 
 -- a hostile client of a class without pools
