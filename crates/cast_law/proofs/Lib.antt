@@ -10,6 +10,7 @@ pub mod Blocks
 pub mod Joined
 pub mod QuietLemmas
 pub mod PoolsLemmas
+pub mod BesideLemmas
 pub mod PastOwners
 pub mod PoolLines
 pub mod PagesLemmas

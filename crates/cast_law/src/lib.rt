@@ -24,6 +24,7 @@ ghost use Rattle.cast_law.specs.Pools.Places.{IsPlaced, HasPools};
 ghost use Rattle.cast_law.specs.Places.{pool_place};
 ghost use Rattle.cast_law.specs.Seats.{AreSeated};
 
+pub mod beside;
 pub mod gone;
 pub mod pages;
 pub mod past_owners;

@@ -8,9 +8,8 @@ use Rattle.wire_core.specs.Ends.{Role, End}
 use Rattle.wire_core.specs.Lists.{Passed, with_deed}
 use Rattle.wire_core.specs.Queues.{items_of}
 use Rattle.play_core.specs.Moved.{Moved}
-use Rattle.play_core.specs.Names.{Wild, wild_in}
-use Rattle.play_core.specs.Rests.Showing.{HaveItems}
-use Rattle.play_core.specs.Sheets.{AreSeated}
+use Rattle.play_core.specs.Names.{Wild, names_at, wild_in}
+use Rattle.play_core.specs.Sheets.{AreFilled, AreSeated}
 use Rattle.owner_law.specs.Pages.{as_page}
 use Rattle.owner_law.specs.Things.{Buffer, Window, Names, NoBuffers, Buffers, Frames, Leases}
 use Rattle.owner_law.specs.Things.{Returns, Answers, Naming, as_buffer, requests_of, thing_at}
@@ -23,7 +22,8 @@ use Rattle.page_law.specs.WildPages.Rounds.{AllMove}
 use Rattle.actor_set.specs.Actors.{IsActorCall, part_of}
 use Rattle.actor_set.specs.declared.actor.Actor.{Actor}
 use Rattle.actor_set.specs.Laws.Kinds.{hostiles, scene_of, sheet}
-use Rattle.wired_law.specs.Wiring.{AreAtWork, AreInTurn, ClientsSend}
+use Rattle.actor_set.specs.Laws.Scenes.{ToldInTurn}
+use Rattle.wired_law.specs.Wiring.{AreAtWork}
 use Rattle.cast_law.specs.Pools.Places.{PoolPlace, IsPlaced, cast_naming}
 
 -- a pool, by its number, is one of the two of a network client at whose queue a hostile actor has
@@ -81,13 +81,19 @@ RoguesAsk wild place passed = (blk : BlkPlace) → place.blk ≡ Some blk → (k
     → slice_get blk.pools k ≡ Some q → wild (blk.first + 4 + 2 * k) ≡ true
     → AllMove (passed.sent (blk.first + 4 + 2 * k))
 
+-- nothing came out of turn at any actor by the names of all that was put
+abbrev pub AllTold : List QueueRow → List Actor → Passed → Type 0
+AllTold rows actors passed = (k : ℕ) (x : Actor) → slice_get actors k ≡ Some x
+    → ToldInTurn (scene_of (map part_of actors)) (wild_in (hostiles (map part_of actors)) rows)
+    (names_at passed) x passed
+
 -- actors were at work, and the one of a number made a call at an end of its own, or a store; they
--- are at work after it, and nothing comes out of turn then; their clients that aren't hostile put
--- good descriptors and requests alone
+-- are at work after it; nothing came out of turn by the names of all that was put, before and after
 pub record IsCallAmong (rows : List QueueRow) (place : PoolPlace) (olds news : List Actor)
     (passed : Passed) (d : Deed) (k : ℕ) : Type 0 where
   pub placed : IsPlaced rows place (map part_of news)
   pub seated : AreSeated (sheet (scene_of (map part_of news))) rows (map part_of news)
+  pub filled : AreFilled (sheet (scene_of (map part_of news))) rows (map part_of news)
   pub split : (n : ℕ) (row : QueueRow) → slice_get rows n ≡ Some row
       → row.producer.0 ≡ row.consumer.0 → ⊥
   pub same : map part_of news ≡ map part_of olds
@@ -95,8 +101,8 @@ pub record IsCallAmong (rows : List QueueRow) (place : PoolPlace) (olds news : L
   pub worked : AreAtWork before rows olds passed
   pub ends : Role → ℕ → End
   pub works : AreAtWork ends rows news (with_deed passed d)
-  pub in_turn : AreInTurn (wild_in (hostiles (map part_of news)) rows) news (with_deed passed d)
-  pub sends : ClientsSend rows (map part_of news) (with_deed passed d)
+  pub was_told : AllTold rows olds passed
+  pub told : AllTold rows news (with_deed passed d)
   pub asks : RoguesAsk (wild_in (hostiles (map part_of news)) rows) place (with_deed passed d)
   pub there : Actor
   pub here : slice_get news k ≡ Some there

@@ -1,0 +1,7 @@
+-- What entries carry beside hostile clients.
+pub mod Queues
+pub mod Naming
+pub mod Sending
+pub mod Serving
+pub mod Around
+pub mod Hands
