@@ -5,3 +5,5 @@ pub mod Sending
 pub mod Serving
 pub mod Around
 pub mod Hands
+pub mod Rounds
+pub mod Carrying

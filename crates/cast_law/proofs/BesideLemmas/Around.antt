@@ -188,7 +188,7 @@ module _ (rows : List QueueRow) (place : PoolPlace) (actors : List Actor) (passe
 
     module _ (here : place.blk ≡ Some blk) where
       -- a client whose answers go where no hostile actor has an end isn't hostile
-      asks_calm : (k : ℕ) (p : PoolAt) → slice_get blk.pools k ≡ Some p → wild (blk.first + 5 + 2 * k) ≡ false → wild (blk.first + 4 + 2 * k) ≡ false
+      pub asks_calm : (k : ℕ) (p : PoolAt) → slice_get blk.pools k ≡ Some p → wild (blk.first + 5 + 2 * k) ≡ false → wild (blk.first + 4 + 2 * k) ≡ false
       asks_calm k p at calm = by (wild (blk.first + 4 + 2 * k)) refl
         where
           by : (t : Bool) → wild (blk.first + 4 + 2 * k) ≡ t → t ≡ false
@@ -197,7 +197,7 @@ module _ (rows : List QueueRow) (place : PoolPlace) (actors : List Actor) (passe
               let r = a.placed.rogues.blk blk here k p at e in
               absurd (let both = (blk_wild rows place.net place.blk cast a.placed.net a.placed.blk a.placed.rogues a.seated a.filled blk k p r.0 r.1 r.2 r.3).0 in cc)
 
-      client_there : (k : ℕ) (p : PoolAt) → slice_get blk.pools k ≡ Some p → wild (blk.first + 4 + 2 * k) ≡ false → (asks : List Ask) × HasPart cast (BlockPart (blk_client_at blk.first k asks p))
+      pub client_there : (k : ℕ) (p : PoolAt) → slice_get blk.pools k ≡ Some p → wild (blk.first + 4 + 2 * k) ≡ false → (asks : List Ask) × HasPart cast (BlockPart (blk_client_at blk.first k asks p))
       client_there k p at calm =
           let below = Rattle.play_core.proofs.Lists.there_below blk.pools k p at in
           let entry = there_is blk.entries k (omega (arith, below, has.pools_many)) in

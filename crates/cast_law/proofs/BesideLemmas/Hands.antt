@@ -169,7 +169,7 @@ weighs_none b [] none k c at = cc
 weighs_none b (d ∷ cs) none zero c at = let same = ap (λ (x : Cargo). as_page b x.1) (some_is at) in omega (arith, none, weighs_page b d.1, same)
 weighs_none b (d ∷ cs) none (suc k) c at = weighs_none b cs (omega (arith, none)) k c at
 
-first_move : (xs ys : List Cargo) → AllMove (xs ++ ys) → AllMove xs
+pub first_move : (xs ys : List Cargo) → AllMove (xs ++ ys) → AllMove xs
 first_move [] ys h = tt
 first_move (x ∷ xs) ys h = (h.0, first_move xs ys h.1)
 
@@ -216,7 +216,7 @@ module _ (rows : List QueueRow) (place : PoolPlace) (actors : List Actor) (passe
         aloof (inr (inl x)) = let e = x.2 in cc
         aloof (inr (inr x)) = let e = x.2 in cc
 
-    lease_calm : (k : ℕ) → k < length net.macs → (w (client_first net.first k) ≡ false) × (w (client_first net.first k + 1) ≡ false)
+    pub lease_calm : (k : ℕ) → k < length net.macs → (w (client_first net.first k) ≡ false) × (w (client_first net.first k + 1) ≡ false)
     lease_calm k lt =
         let mac = there_is net.macs k lt in
         let c = lessee_in net.first 0 net.macs k mac.0 mac.1 in
@@ -264,7 +264,7 @@ module _ (rows : List QueueRow) (place : PoolPlace) (actors : List Actor) (passe
   copier_is net frames c (inr (inr (inr (inr (inl k))))) = let e = k.2 in (k.0, k.1, cc)
   copier_is net frames c (inr (inr (inr (inr (inr k))))) = let e = k.5 in absurd cc
 
-  copier_queues : (first k : ℕ) (c : NetCopier) → copier_part c ≡ copier_at first k → (c.lease_input.queue.0 ≡ client_first first k) × (c.lease_output.queue.0 ≡ client_first first k + 1) × (c.buffer_output.queue.0 ≡ client_first first k + 2) × (c.buffer_input.queue.0 ≡ client_first first k + 3)
+  pub copier_queues : (first k : ℕ) (c : NetCopier) → copier_part c ≡ copier_at first k → (c.lease_input.queue.0 ≡ client_first first k) × (c.lease_output.queue.0 ≡ client_first first k + 1) × (c.buffer_output.queue.0 ≡ client_first first k + 2) × (c.buffer_input.queue.0 ≡ client_first first k + 3)
   copier_queues first k c e = (cc, cc, cc, cc)
 
   copier_puts : (j : ℕ) (c : NetCopier) (at : slice_get actors j ≡ Some (Kinds.NetCopier c)) → Takes (part_of (Kinds.NetCopier c)) → Puts (part_of (Kinds.NetCopier c))
@@ -600,7 +600,7 @@ module _ (rows : List QueueRow) (place : PoolPlace) (actors : List Actor) (passe
       aloof (inr (inl y)) = let e = y.2 in cc
       aloof (inr (inr y)) = let e = y.2 in cc
   each_puts asks k (Kinds.BlkVirt x) at takes = virt_puts asks k x at takes
-  each_puts asks k (Kinds.BlkClient x) at takes = let ends = ends_calm k (Kinds.BlkClient x) at refl aloof in plain k (Kinds.BlkClient x) at refl ends (client_off (naming rows place actors passed m a) w (scene rows place actors passed m a) (req_queue x) (resp_queue x) _ _ ends (names_there k (Kinds.BlkClient x) at refl)) (a.told k (Kinds.BlkClient x) at) takes
+  each_puts asks k (Kinds.BlkClient x) at takes = let ends = ends_calm k (Kinds.BlkClient x) at refl aloof in plain k (Kinds.BlkClient x) at refl ends (client_off (naming rows place actors passed m a) w (scene rows place actors passed m a) (req_queue x) (resp_queue x) x.asking.script.items (record { number = x.asking.pool.0; base = 0; buffers = x.asking.buffers; size = blk_buffer_bytes }) ends (names_there k (Kinds.BlkClient x) at refl)) (a.told k (Kinds.BlkClient x) at) takes
     where
       aloof : Serves (part_of (Kinds.BlkClient x)) → ⊥
       aloof (inl y) = let e = y.5 in cc

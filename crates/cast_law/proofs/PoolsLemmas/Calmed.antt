@@ -112,7 +112,7 @@ each_counted : (n : ℕ) (h : ℕ → PageAt) → length (per_client n h) ≡ n
 each_counted zero h = refl
 each_counted (suc n) h = ap suc (each_counted n (λ c. h (suc c)))
 
-pool_all : (f : Count) (p : PoolAt) → pages_weigh f (pool_pages p) ≡ pool_weighs f p
+pub pool_all : (f : Count) (p : PoolAt) → pages_weigh f (pool_pages p) ≡ pool_weighs f p
 pool_all f p = each_weighs (page_weighs f) p.buffers (λ k. record { pool = p.number; number = k; long = p.size })
 
 -- a cast in which nobody is hostile, like this one

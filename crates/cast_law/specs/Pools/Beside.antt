@@ -1,12 +1,12 @@
 -- Beside hostile clients: which pools are theirs, what items name by a table of the others' buffers,
 -- and entries that carry what their items name at all queues but theirs.
-use Rattle.std.specs.Prelude.{◌≡◌, ◌==◌, ◌||◌, ◌+◌, ◌*◌, ℕ, Bool, true, false, cond, Option, None}
+use Rattle.std.specs.Prelude.{◌≡◌, ◌⊎◌, ◌==◌, ◌||◌, ◌+◌, ◌*◌, ℕ, Bool, true, false, cond, Option, None}
 use Rattle.std.specs.Prelude.{Some, List, [], ◌∷◌, slice_get, map}
 use Rattle.wire_core.specs.declared.names.QueueRow.{QueueRow}
 use Rattle.wire_core.specs.Deeds.{Cargo, Deed}
-use Rattle.wire_core.specs.Ends.{Role, End}
+use Rattle.wire_core.specs.Ends.{Role, End, role_of}
 use Rattle.wire_core.specs.Lists.{Passed, with_deed}
-use Rattle.wire_core.specs.Queues.{items_of}
+use Rattle.wire_core.specs.Queues.{is_store, items_of}
 use Rattle.play_core.specs.Moved.{Moved}
 use Rattle.play_core.specs.Names.{Wild, names_at, wild_in}
 use Rattle.play_core.specs.Sheets.{AreFilled, AreSeated}
@@ -19,7 +19,7 @@ use Rattle.net_law.specs.Parts.Numbers.{client_first}
 use Rattle.net_law.specs.TxParts.Numbers.{NetPlace}
 use Rattle.blk_law.specs.Sheets.Numbers.{BlkPlace}
 use Rattle.page_law.specs.WildPages.Rounds.{AllMove}
-use Rattle.actor_set.specs.Actors.{IsActorCall, part_of}
+use Rattle.actor_set.specs.Actors.{ActorEnd, part_of}
 use Rattle.actor_set.specs.declared.actor.Actor.{Actor}
 use Rattle.actor_set.specs.Laws.Kinds.{hostiles, scene_of, sheet}
 use Rattle.actor_set.specs.Laws.Scenes.{ToldInTurn}
@@ -106,4 +106,4 @@ pub record IsCallAmong (rows : List QueueRow) (place : PoolPlace) (olds news : L
   pub asks : RoguesAsk (wild_in (hostiles (map part_of news)) rows) place (with_deed passed d)
   pub there : Actor
   pub here : slice_get news k ≡ Some there
-  pub own : IsActorCall there d.event
+  pub own : ActorEnd there (role_of d.event.op) d.event.queue.0 ⊎ (is_store d.event.op ≡ true)
