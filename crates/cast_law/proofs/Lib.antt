@@ -5,6 +5,7 @@ pub mod Calming
 pub mod Apart
 pub mod Seated
 pub mod Wired
+pub mod Rogued
 pub mod Pooled
 pub mod Blocks
 pub mod Joined
