@@ -87,13 +87,18 @@ module _ (naming : Naming) (wild : Wild) where
         let first : slice_get ways 0 ≡ Some (record { input = w.req; output = w.disk_req }) = ap (λ l. slice_get l 0) w.ways_are in
         let second : slice_get ways 1 ≡ Some (record { input = w.disk_resp; output = w.resp }) = ap (λ l. slice_get l 1) w.ways_are in
         let ins = λ (k : ℕ) (x : Way) (at : slice_get ways k ≡ Some x). calm (twice k) (intake x.input) (pair_first (λ (y : Way). intake y.input) (λ y. outlet y.output) ways k x at) in
-        let outs = λ (k : ℕ) (x : Way) (at : slice_get ways k ≡ Some x). calm (suc (twice k)) (outlet x.output) (pair_second (λ (y : Way). intake y.input) (λ y. outlet y.output) ways k x at) in
-        ((names.0.0, record {
-          req = w.req;
-          disk_req = w.disk_req;
-          disk_resp = w.disk_resp;
-          resp = w.resp;
-          ways_are = w.ways_are;
-          asked = (at_calm w.req (ins 0 (record { input = w.req; output = w.disk_req }) first) ∙ w.asked.0, at_calm w.resp (outs 1 (record { input = w.disk_resp; output = w.resp }) second) ∙ w.asked.1);
-          passed_on = (at_calm w.disk_req (outs 0 (record { input = w.req; output = w.disk_req }) first) ∙ w.passed_on.0, at_calm w.disk_resp (ins 1 (record { input = w.disk_resp; output = w.resp }) second) ∙ w.passed_on.1);
-        }), tt)
+        let outs = λ (k : ℕ) (x : Way) (at : slice_get ways k ≡ Some x). calm (suc (twice k)) (outlet x.output) (pair_second (λ (y : Way). intake y.input) (λ y. outlet y.output) ways k x at) in (
+          (
+            names.0.0,
+            record {
+              req = w.req;
+              disk_req = w.disk_req;
+              disk_resp = w.disk_resp;
+              resp = w.resp;
+              ways_are = w.ways_are;
+              asked = (at_calm w.req (ins 0 (record { input = w.req; output = w.disk_req }) first) ∙ w.asked.0, at_calm w.resp (outs 1 (record { input = w.disk_resp; output = w.resp }) second) ∙ w.asked.1);
+              passed_on = (at_calm w.disk_req (outs 0 (record { input = w.req; output = w.disk_req }) first) ∙ w.passed_on.0, at_calm w.disk_resp (ins 1 (record { input = w.disk_resp; output = w.resp }) second) ∙ w.passed_on.1);
+            },
+          ),
+          tt,
+        )

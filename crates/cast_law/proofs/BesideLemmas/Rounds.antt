@@ -263,17 +263,21 @@ module _ (rows : List QueueRow) (place : PoolPlace) (actors : List Actor) (passe
             let moves : PipesStandFor (four_pipes p.driver.pipes) after = a.work.stands whole.driver.0 (Kinds.EthDriver p) (dx.1 ∙ ap (λ y. Some y) dr.1) in
             let wires : DeviceStandsFor e after = a.work.stands whole.device.0 (Kinds.EthDevice e) (ex.1 ∙ ap (λ y. Some y) ev.1) in
             let wire = device_sends net.first (scene rows place actors after m a).frames e ev.2 in
-            let driven = driver_sends net.first p.driver.pipes dr.2 in
-            (p.driver.pipes.rest.rest.first, e.wire.pipe, p.driver.pipes.rest.rest.rest, record {
-              first = moves.1.1.0;
-              second = wires.sends.moved;
-              third = moves.1.1.1.0;
-              to_driver = driven.0 ∙ sym own.0;
-              to_device = wire.0 ∙ sym driven.1;
-              from_device = driven.2 ∙ sym wire.1;
-              from_driver = own.1 ∙ sym driven.3;
-              begins = a.work.hands_over;
-            })
+            let driven = driver_sends net.first p.driver.pipes dr.2 in (
+              p.driver.pipes.rest.rest.first,
+              e.wire.pipe,
+              p.driver.pipes.rest.rest.rest,
+              record {
+                first = moves.1.1.0;
+                second = wires.sends.moved;
+                third = moves.1.1.1.0;
+                to_driver = driven.0 ∙ sym own.0;
+                to_device = wire.0 ∙ sym driven.1;
+                from_device = driven.2 ∙ sym wire.1;
+                from_driver = own.1 ∙ sym driven.3;
+                begins = a.work.hands_over;
+              },
+            )
 
         -- its queues are closed
         module _ (s : Client) (s_at : slice_get v.work.clients.items k ≡ Some s) (sends returns : QueueId) (q_at : slice_get (from_queues v.ends) k ≡ Some sends) (r_at : slice_get (to_queues v.ends) k ≡ Some returns) where
