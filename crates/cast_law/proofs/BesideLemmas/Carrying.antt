@@ -3,24 +3,22 @@ use Rattle.std.proofs.Common.{◌≡◌, ◌≢◌, ◌⊎◌, ◌==◌, ◌+◌
 use Rattle.std.proofs.Math.Dec.{eqb}
 use Rattle.std.proofs.lemmas.Bool.Decides.{eqb_tells}
 use Rattle.std.proofs.lemmas.List.{length-map}
-use Rattle.cargo_core.specs.Lists.{IsPrefix}
 use Rattle.cargo_core.specs.declared.item.Item.{Item}
 use Rattle.wire_core.specs.declared.names.Op.{Op}
 use Rattle.wire_core.specs.declared.names.Op.TheVariants as Do
 use Rattle.wire_core.specs.declared.names.QueueRow.{QueueRow}
 use Rattle.wire_core.specs.Deeds.{Cargo, Deed, cargo_of}
-use Rattle.wire_core.specs.Ends.{Role, Consumer, Producer, role_of}
+use Rattle.wire_core.specs.Ends.{Role, Consumer, role_of}
 use Rattle.wire_core.specs.Journal.{owner_of}
 use Rattle.wire_core.specs.Lists.{Passed, if_put, if_there, put_by, with_deed}
 use Rattle.wire_core.specs.Queues.{is_store, items_of}
 use Rattle.play_core.specs.Moved.{Moved, Seat}
 use Rattle.play_core.specs.Names.{Wild, wild_in}
 use Rattle.play_core.specs.Rests.Showing.{HaveItems}
-use Rattle.play_core.specs.Sheets.{Scene}
 use Rattle.play_core.specs.Wants.{intake, outlet}
 use Rattle.play_core.proofs.Lists.{map_get, some_is, there_below}
-use Rattle.owner_law.specs.Things.{Answers, Buffer, Buffers, Frames, Leases, Names, Naming, NoBuffers, Returns, Whole, Window, as_buffer, buffer_of, requests_of, thing_at, thing_of}
-use Rattle.owner_law.specs.Pages.{CarryPages, as_page}
+use Rattle.owner_law.specs.Things.{Answers, Buffers, Frames, Leases, Names, Naming, NoBuffers, Returns, Whole, Window, as_buffer, buffer_of, requests_of, thing_at, thing_of}
+use Rattle.owner_law.specs.Pages.{CarryPages}
 use Rattle.owner_law.specs.Pools.Handing.{AllCarry}
 use Rattle.owner_law.proofs.Carrying.{get_first}
 use Rattle.actor_set.specs.Parts.{Part}
@@ -30,7 +28,7 @@ use Rattle.actor_set.specs.Laws.Kinds.{AllCalm, hostiles, scene_of, sheet}
 use Rattle.actor_set.proofs.LawsLemmas.PartEnds.{end_seat, to_part}
 use Rattle.actor_set.proofs.LawsLemmas.Starts.{fits_whole}
 use Rattle.actor_set.proofs.LawsLemmas.Told.{none_wild}
-use Rattle.cast_law.specs.Pools.Beside.{AllTold, CarryBeside, CastCarries, IsCallAmong, RoguesAsk, is_rogues}
+use Rattle.cast_law.specs.Pools.Beside.{CarryBeside, CastCarries, IsCallAmong, RoguesAsk, is_rogues}
 use Rattle.cast_law.specs.Pools.Places.{IsPlaced, PoolPlace, cast_naming}
 use Rattle.cast_law.proofs.BesideLemmas.Around.{Around, answers_few, off}
 use Rattle.cast_law.proofs.BesideLemmas.Hands.{Takes, each_puts}

@@ -1,19 +1,19 @@
 -- What items name at queues without a hostile end, and nothing at the others.
-use Rattle.std.proofs.Common.{◌≡◌, ◌⊎◌, ℕ, zero, suc, Bool, true, false, cond, Some, None, List, [], ◌∷◌, ◌++◌, flat_map, map, slice_get, refl, sym, ap, ◌∙◌, subst, inl, inr}
+use Rattle.std.proofs.Common.{◌≡◌, ℕ, suc, Bool, true, false, cond, Some, List, slice_get, refl, sym, ap, ◌∙◌, subst}
 use Rattle.play_core.specs.Moved.{Seat}
 use Rattle.play_core.specs.Names.{Wild}
 use Rattle.play_core.specs.Sheets.{Scene}
 use Rattle.play_core.specs.Wants.{intake, outlet}
 use Rattle.play_core.proofs.Lists.{map_from}
-use Rattle.owner_law.specs.Things.{NoBuffers, Naming, Names}
+use Rattle.owner_law.specs.Things.{NoBuffers, Naming}
 use Rattle.net_law.specs.Owners.Ends.{NameBuffers}
 use Rattle.net_law.specs.Owners.Lending.{Borrower}
 use Rattle.net_law.specs.Parts.Naming.{NamesPart}
 use Rattle.net_law.specs.Parts.Rows.{borrower_of, lender_of}
 use Rattle.net_law.specs.Parts.Parts.{NetPart, NetDevice, NetDriver, NetReceiver, NetCopier, NetClient, Lessee, Way}
 use Rattle.net_law.proofs.PartsLemmas.Pairs.{twice, pair_first, pair_second}
-use Rattle.blk_law.specs.Sheets.Parts.{BlkPart, DiskDevice, BlkDriver, BlkVirt, BlkClient}
-use Rattle.actor_set.specs.Parts.{HostilePart, Part, UartPart, DriverPart, RxPart, TxPart, ClientPart, NetworkPart, SendingPart, BlockPart}
+use Rattle.blk_law.specs.Sheets.Parts.{DiskDevice, BlkDriver, BlkClient}
+use Rattle.actor_set.specs.Parts.{Part, NetworkPart, BlockPart}
 use Rattle.actor_set.specs.Laws.Kinds.{sheet}
 use Rattle.cast_law.specs.Pools.Holders.{NothingAt, NamesAt}
 

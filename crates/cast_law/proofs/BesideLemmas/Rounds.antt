@@ -1,6 +1,6 @@
 -- At the queues of hostile clients there is no page of another's pool: what goes round there are their
 -- own buffers.
-use Rattle.std.proofs.Common.{◌≡◌, ◌⊎◌, ◌==◌, ◌&&◌, ◌||◌, ◌+◌, ◌*◌, ◌++◌, ◌<◌, ◌≤◌, ℕ, zero, suc, Bool, true, false, cond, if◌then◌else◌, Option, None, Some, List, [], ◌∷◌, length, map, slice_get, refl, sym, ap, ap₂, ◌∙◌, subst, arith, eq-eqb, inl, inr}
+use Rattle.std.proofs.Common.{◌≡◌, ◌⊎◌, ◌==◌, ◌&&◌, ◌||◌, ◌+◌, ◌*◌, ◌<◌, ℕ, zero, suc, Bool, true, false, cond, if◌then◌else◌, Some, List, [], ◌∷◌, length, slice_get, refl, sym, ap, ap₂, ◌∙◌, subst, arith, eq-eqb, inl, inr}
 use Rattle.std.proofs.lemmas.List.{length-map}
 use Rattle.std.proofs.lemmas.List.Sums.{sum_by-append}
 use Rattle.cargo_core.specs.Lists.{IsPrefix}
@@ -10,7 +10,6 @@ use Rattle.wire_core.specs.Deeds.{Cargo, Deed}
 use Rattle.wire_core.specs.Ends.{Role}
 use Rattle.wire_core.specs.Lists.{Passed, with_deed}
 use Rattle.wire_core.specs.Marks.{sum_below}
-use Rattle.turn_kit.specs.Hands.{bodies_at}
 use Rattle.turn_kit.specs.declared.pipe.Pipe.{Pipe}
 use Rattle.play_core.specs.Moved.{Moved}
 use Rattle.play_core.specs.Names.{Wild}
@@ -62,7 +61,7 @@ use Rattle.wired_law.proofs.Acting.{copier_actor, device_actor, driver_actor, se
 use Rattle.cast_core.specs.Hostile.{pool_pages}
 use Rattle.cast_law.specs.Pages.Paging.{pool_weighs}
 use Rattle.cast_law.specs.Pools.Beside.{RoguesAsk, in_blk, in_net, is_blk_rogues, is_net_rogues, is_rogues}
-use Rattle.cast_law.specs.Pools.Places.{HasBlkAt, HasNetAt, PoolPlace}
+use Rattle.cast_law.specs.Pools.Places.{PoolPlace}
 use Rattle.cast_law.specs.Pools.Rogues.{IsBlkRogue, IsNetRogue}
 use Rattle.cast_law.proofs.PoolsLemmas.Calmed.{pool_all}
 use Rattle.cast_law.proofs.BesideLemmas.Around.{Around, cast, scene, wild, naming, off, part_names}
