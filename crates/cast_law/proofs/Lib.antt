@@ -12,6 +12,7 @@ pub mod Joined
 pub mod QuietLemmas
 pub mod PoolsLemmas
 pub mod BesideLemmas
+pub mod OwningLemmas
 pub mod PastOwners
 pub mod PoolLines
 pub mod PagesLemmas

@@ -26,6 +26,7 @@ ghost use Rattle.cast_law.specs.Seats.{AreSeated};
 
 pub mod beside;
 pub mod gone;
+pub mod owners;
 pub mod pages;
 pub mod past_owners;
 pub mod pool_lines;

@@ -55,7 +55,7 @@ off_row hostile row Consumer h = by (hostile row.producer.0) (hostile row.consum
     by false false e = cc
 
 -- the hostile owner of a row that has one
-off_owner : (hostile : Hostiles) (row : QueueRow) → is_calm hostile row ≡ false → (r : Role) × (hostile (owner_of row r) ≡ true)
+pub off_owner : (hostile : Hostiles) (row : QueueRow) → is_calm hostile row ≡ false → (r : Role) × (hostile (owner_of row r) ≡ true)
 off_owner hostile row off = by (hostile row.producer.0) (hostile row.consumer.0) refl refl off
   where
     by : (s t : Bool) → hostile row.producer.0 ≡ s → hostile row.consumer.0 ≡ t → (not s && not t) ≡ false → (r : Role) × (hostile (owner_of row r) ≡ true)
@@ -64,7 +64,7 @@ off_owner hostile row off = by (hostile row.producer.0) (hostile row.consumer.0)
     by false false p c e = cc
 
 -- a hostile actor's part
-hostile_there : (cast : List Part) (k : ℕ) → hostiles cast k ≡ true → (r : RoguePart) × (slice_get cast k ≡ Some (HostilePart r))
+pub hostile_there : (cast : List Part) (k : ℕ) → hostiles cast k ≡ true → (r : RoguePart) × (slice_get cast k ≡ Some (HostilePart r))
 hostile_there cast k h = by (slice_get cast k) refl h
   where
     part : (p : Part) → is_hostile (manner_of p) ≡ true → (r : RoguePart) × (p ≡ HostilePart r)
@@ -120,7 +120,7 @@ module _ (rows : List QueueRow) (n : Option NetPlace) (b : Option BlkPlace) (cas
       ap (λ (o : Option QueueRow). option_map_or (is_wild (hostiles cast)) o false) seat.1 ∙ and_two (not (is_calm (hostiles cast) seat.0)) (carries_pages seat.0.kind) (ap (λ t. not t) off) (carries seat.0 seat.1)
 
   -- whose end it is
-  wild_owner : (q : ℕ) → wild q ≡ true → (row : QueueRow) × (slice_get rows q ≡ Some row) × (carries_pages row.kind ≡ true) × (role : Role) × (r : RoguePart) × (slice_get cast (owner_of row role) ≡ Some (HostilePart r)) × (i : ℕ) × (slice_get (sheet scene (HostilePart r)).ends i ≡ Some (record { queue = q; role = role }))
+  pub wild_owner : (q : ℕ) → wild q ≡ true → (row : QueueRow) × (slice_get rows q ≡ Some row) × (carries_pages row.kind ≡ true) × (role : Role) × (r : RoguePart) × (slice_get cast (owner_of row role) ≡ Some (HostilePart r)) × (i : ℕ) × (slice_get (sheet scene (HostilePart r)).ends i ≡ Some (record { queue = q; role = role }))
   wild_owner q is = by (slice_get rows q) refl is
     where
       by : (o : Option QueueRow) → slice_get rows q ≡ o → option_map_or (is_wild (hostiles cast)) o false ≡ true → (row : QueueRow) × (slice_get rows q ≡ Some row) × (carries_pages row.kind ≡ true) × (role : Role) × (r : RoguePart) × (slice_get cast (owner_of row role) ≡ Some (HostilePart r)) × (i : ℕ) × (slice_get (sheet scene (HostilePart r)).ends i ≡ Some (record { queue = q; role = role }))

@@ -100,7 +100,7 @@ ne_of : (a b : ℕ) → (a == b) ≡ false → a ≡ b → ⊥
 ne_of a b off same = two_ways (a == b) (eq-eqb a b same) off
 
 -- the pools of a client at whose queue a hostile actor has an end are hostile clients'
-net_in : (off_queues : Wild) (first from : ℕ) (qs : List ClientPools) (k : ℕ) (q : ClientPools) (pool : ℕ) → slice_get qs k ≡ Some q → off_queues (client_first first (from + k) + 4) ≡ true → is_net_rogues off_queues first from qs pool ≡ false → ((q.rx.number == pool) ≡ false) × ((q.tx.number == pool) ≡ false)
+pub net_in : (off_queues : Wild) (first from : ℕ) (qs : List ClientPools) (k : ℕ) (q : ClientPools) (pool : ℕ) → slice_get qs k ≡ Some q → off_queues (client_first first (from + k) + 4) ≡ true → is_net_rogues off_queues first from qs pool ≡ false → ((q.rx.number == pool) ≡ false) × ((q.tx.number == pool) ≡ false)
 net_in off_queues first from [] k q pool at is none = cc
 net_in off_queues first from (p ∷ qs) zero q pool at is none =
     let here : off_queues (client_first first from + 4) ≡ true = (let plus : from ≡ from + 0 = omega arith in ap (λ n. off_queues (client_first first n + 4)) plus ∙ is) in
@@ -118,7 +118,7 @@ net_in off_queues first from (p ∷ qs) (suc k) q pool at is none =
     by true e = (or_none (p.tx.number == pool) (is_net_rogues off_queues first (from + 1) qs pool) (or_none (p.rx.number == pool) ((p.tx.number == pool) || is_net_rogues off_queues first (from + 1) qs pool) e).1).1
     by false e = e
 
-blk_in : (off_queues : Wild) (first from : ℕ) (qs : List PoolAt) (k : ℕ) (q : PoolAt) (pool : ℕ) → slice_get qs k ≡ Some q → off_queues (first + 4 + 2 * (from + k)) ≡ true → is_blk_rogues off_queues first from qs pool ≡ false → (q.number == pool) ≡ false
+pub blk_in : (off_queues : Wild) (first from : ℕ) (qs : List PoolAt) (k : ℕ) (q : PoolAt) (pool : ℕ) → slice_get qs k ≡ Some q → off_queues (first + 4 + 2 * (from + k)) ≡ true → is_blk_rogues off_queues first from qs pool ≡ false → (q.number == pool) ≡ false
 blk_in off_queues first from [] k q pool at is none = cc
 blk_in off_queues first from (p ∷ qs) zero q pool at is none =
     let here : off_queues (first + 4 + 2 * from) ≡ true = (let plus : from ≡ from + 0 = omega arith in ap (λ n. off_queues (first + 4 + 2 * n)) plus ∙ is) in

@@ -70,7 +70,7 @@ module _ (pool number : ℕ) where
       by true rest = omega (arith, rest, sum_by-cons (λ x. cond {A = ℕ} (x == number) 1 0) p.number (pages_in ps pool))
       by false rest = omega (arith, rest)
 
-  part_count : (scene : Scene) (p : Part) → part_weighs the p ≡ at_start (sheet scene p).hand buffer
+  pub part_count : (scene : Scene) (p : Part) → part_weighs the p ≡ at_start (sheet scene p).hand buffer
   part_count scene (UartPart rx tx input) = refl
   part_count scene (DriverPart device_rx device_tx rx tx) = refl
   part_count scene (RxPart rx clients) = refl
@@ -90,7 +90,7 @@ module _ (pool number : ℕ) where
   part_count scene (BlockPart (BlkClient req resp asks p)) = omega (arith, one_count p)
   part_count scene (HostilePart p) = omega (arith, told_count p.pages)
 
-  parts_count : (scene : Scene) (cast : List Part) → pools_weigh the cast ≡ sum_by (λ (k : Keeper). at_start k.hand buffer) (map (λ p. keeper_of (sheet scene p)) cast)
+  pub parts_count : (scene : Scene) (cast : List Part) → pools_weigh the cast ≡ sum_by (λ (k : Keeper). at_start k.hand buffer) (map (λ p. keeper_of (sheet scene p)) cast)
   parts_count scene [] = refl
   parts_count scene (p ∷ cast) =
       omega (

@@ -97,6 +97,12 @@ flat_like R g same [] (y ∷ ys) all = absurd all
 flat_like R g same (x ∷ xs) [] all = absurd all
 flat_like R g same (x ∷ xs) (y ∷ ys) all = ap₂ (λ a b. a ++ b) (same x y all.0) (flat_like R g same xs ys all.1)
 
+many_like : {X : Type 0} (R : X → X → Type 0) (xs ys : List X) → AllZip R xs ys → length ys ≡ length xs
+many_like R [] [] all = refl
+many_like R [] (y ∷ ys) all = absurd all
+many_like R (x ∷ xs) [] all = absurd all
+many_like R (x ∷ xs) (y ∷ ys) all = ap suc (many_like R xs ys all.1)
+
 sum_like : {X : Type 0} (R : X → X → Type 0) (g : X → ℕ) → ((x y : X) → R x y → g y ≡ g x) → (xs ys : List X) → AllZip R xs ys → sum_by g ys ≡ sum_by g xs
 sum_like R g same [] [] all = refl
 sum_like R g same [] (y ∷ ys) all = absurd all
@@ -123,6 +129,7 @@ pub record Calmed (rows : List QueueRow) (n : Option NetPlace) (b : Option BlkPl
   pub seated : AreSeated (sheet (scene_of parts)) rows parts
   pub net : HasNetAt rows n parts
   pub blk : HasBlkAt rows b parts
+  pub many : length parts ≡ length cast
   pub weighs : (f : Count) → pools_weigh f parts ≡ pools_weigh f cast
   pub like : (k : ℕ) (p : Part) → slice_get cast k ≡ Some p → (q : Part) × (slice_get parts k ≡ Some q) × IsLike rows n b p q
 
@@ -438,6 +445,7 @@ module _ (rows : List QueueRow) (n : Option NetPlace) (b : Option BlkPlace) (cas
         seated = subst (λ z. AreSeated (sheet z) rows parts) (sym same) (λ k q at i s here. (let x = back_at (IsLike rows n b) cast parts all k q at in seat_like k x.0 q x.1 x.2 i s here));
         net = net_at parts all calm n refl has_net same;
         blk = blk_at parts all calm b refl has_blk same;
+        many = many_like (IsLike rows n b) cast parts all;
         weighs = λ f. sum_like (IsLike rows n b) (part_weighs f) (weighs_like f) cast parts all;
         like = like_at (IsLike rows n b) cast parts all;
       }
