@@ -29,7 +29,7 @@ use Rattle.net_virt_tx.specs.declared.NetVirtTx.{NetVirtTx}
 use Rattle.net_virt_tx.proofs.Rounds.{row_of as sender_row}
 use Rattle.client_programs.specs.declared.rogue.Rogue.{Rogue}
 use Rattle.net_law.specs.Owners.Names.{ClientPools}
-use Rattle.net_law.specs.Parts.Parts.{NetClient, Lessee}
+use Rattle.net_law.specs.Parts.Parts.{Lessee}
 use Rattle.net_law.specs.Parts.Numbers.{client_at, client_first, copier_at, driver_at, lessees_from, receiver_at}
 use Rattle.net_law.specs.Parts.Playing.{client_part, copier_part, device_part, driver_part, receiver_part}
 use Rattle.eth_driver.specs.Four.{four_pipes}
@@ -61,7 +61,7 @@ use Rattle.blk_law.specs.Sheets.Table.{sharer_ends}
 use Rattle.blk_quiet.proofs.CastLemmas.Numbers.{virt_queues}
 use Rattle.page_law.specs.WildPages.Rounds.{AllMove}
 use Rattle.actor_set.specs.Parts.{HostilePart, Part, RoguePart, ClientPart, NetworkPart, SendingPart, BlockPart}
-use Rattle.actor_set.specs.Actors.{part_of, numbers, rogue_part}
+use Rattle.actor_set.specs.Actors.{part_of, rogue_part}
 use Rattle.actor_set.specs.declared.actor.Actor.{Actor}
 use Rattle.actor_set.specs.declared.actor.Actor.TheVariants as Kinds
 use Rattle.actor_set.specs.Laws.Kinds.{manner_of, sheet}
