@@ -1,5 +1,7 @@
 -- The proofs on a system at play.
 pub mod Telling
+pub mod Growing
+pub mod Hosts
 pub mod SystemStep
 pub mod Playing
 pub mod RunsNow
