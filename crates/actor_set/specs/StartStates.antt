@@ -35,7 +35,7 @@ use Rattle.device_model.specs.Disk.Disks.{IsNewDisk}
 use Rattle.client_programs.specs.Blk.Asking.{IsAsking}
 use Rattle.client_programs.specs.Blk.Clients.{IsNewBlkClient, BlkClientStandsFor}
 use Rattle.client_programs.specs.declared.blk.BlkClient.{BlkClient}
-use Rattle.client_programs.specs.Rogue.Clients.{IsNewRogue}
+use Rattle.client_programs.specs.Rogue.Clients.{IsNewRogue, left_of}
 use Rattle.blk_driver.specs.declared.BlkDriver.{BlkDriver}
 use Rattle.blk_virt.specs.Works.{IsWork}
 use Rattle.blk_virt.specs.Virtualising.{IsNewBlkVirt, BlkVirtStandsFor}
@@ -126,7 +126,7 @@ IsNew (Kinds.BlkDriver x) =
 IsNew (Kinds.BlkVirt x) = IsNewServer x
 IsNew (Kinds.BlkClient x) = IsNewAsker x
 IsNew (Kinds.Rogue x) =
-    IsNewRogue x.kind x.inputs.items x.outputs.items x.start.value.items x.acts.items x
+    IsNewRogue x.kind x.inputs.items x.outputs.items x.start.value.items (left_of x).acts x
 
 -- of a virtualiser of the network: its ends on each side are of queues of their own
 pub record HasApartQueues (v : VirtEnds) : Type 0 where

@@ -1,29 +1,20 @@
 -- What the actors' making asks, of a valid plan and a trace that was read for it.
-use Rattle.std.proofs.Common.{◌≡◌, ◌+◌, ◌*◌, ◌<◌, ◌≤◌, ◌^◌, ◌⊎◌, inl, inr, ℕ, zero, suc, Option, Some, None, MatchOption, IsSomeAnd, map, List, [], ◌∷◌, length, slice_get, Result, Ok, Err, IfOk, refl, subst, ap, arith, ◌∙◌}
-use Rattle.std.specs.List.{All, sum_by}
-use Rattle.std.proofs.lemmas.Bool.{cases_lt}
-use Rattle.std.proofs.lemmas.List.Sums.{sum_by-cons}
-use Rattle.cargo_core.specs.declared.item.Ask.{Ask}
+use Rattle.std.proofs.Common.{◌≡◌, ◌+◌, ◌*◌, ◌<◌, ◌≤◌, ◌^◌, ℕ, Option, Some, None, MatchOption, List, [], ◌∷◌, length, Result, Ok, Err, IfOk, refl, subst, ap, arith}
+use Rattle.std.specs.List.{All}
 use Rattle.std.specs.Option.{option_map_or}
 use Rattle.std.proofs.lemmas.List.Elements.{All-nil, All-cons, All-head, All-tail}
 use Rattle.cargo_core.specs.declared.memory.Memory.{Memory}
 use Rattle.sdf_plan.specs.declared.plan.Plan.{Plan}
 use Rattle.sdf_plan.specs.declared.plan.Net.{Net}
-use Rattle.sdf_plan.specs.declared.place.Place.TheVariants as At
 use Rattle.sdf_plan.specs.declared.plan.Serial.{Serial}
 use Rattle.sdf_plan.specs.declared.plan.Blk.{Blk}
-use Rattle.sdf_plan.specs.declared.plan.BlkClient.{BlkClient}
-use Rattle.sdf_check.specs.Names.{StandsBefore}
-use Rattle.sdf_check.proofs.SoughtLemmas.{here-some}
 use Rattle.sdf_check.specs.Valid.{Valid}
 use Rattle.region_layout.specs.Layouts.{layout_of}
 use Rattle.region_layout.specs.Rows.{actors_of, queues_of, pools_of}
 use Rattle.region_layout.specs.declared.layout.Layout.{Layout}
 use Rattle.region_layout.proofs.NameLemmas.{few_actors}
 use Rattle.region_layout.proofs.ValidLemmas.{net_frames, net_counts, serial_counts, blk_counts, small_numbers}
-use Rattle.region_layout.proofs.WalkLemmas.{kept, blk_client_walked}
-use Rattle.layout_laws.proofs.Lists.{all-at, there_is}
-use Rattle.play_core.proofs.Lists.{some_is}
+use Rattle.layout_laws.proofs.Lists.{all-at}
 use Rattle.trace_text.specs.declared.trace.Trace.{Trace}
 use Rattle.trace_text.specs.Events.{net_clients, serial_clients, blk_clients}
 use Rattle.trace_text.specs.Traces.{IsReadFor}

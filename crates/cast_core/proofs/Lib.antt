@@ -5,6 +5,6 @@ pub mod Rooms
 pub mod Making
 pub mod Blocks
 pub mod SerialStarts
-pub mod Hostile
 pub mod Growing
 pub mod Joining
+pub mod HostileLemmas

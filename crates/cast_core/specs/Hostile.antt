@@ -34,20 +34,21 @@ rogue_with kind inputs outputs pages acts = record {
 -- and puts free buffers and frames to send; its pages are those for receiving first
 abbrev pub net_rogue_at : (first c : ℕ) → ClientPools → List Act → RoguePart
 net_rogue_at first c pools acts = rogue_with Kind.Net
-    (client_first first c + 2 ∷ client_first first c + 5 ∷ [])
-    (client_first first c + 3 ∷ client_first first c + 4 ∷ [])
+    ((client_first first c + 2) ∷ (client_first first c + 5) ∷ [])
+    ((client_first first c + 3) ∷ (client_first first c + 4) ∷ [])
     (pool_pages pools.rx ++ pool_pages pools.tx) acts
 
 -- the hostile serial client of a number, where the class begins at this queue: it has no pages
 abbrev pub serial_rogue_at : (first c : ℕ) → List Act → RoguePart
 serial_rogue_at first c acts =
-    rogue_with Kind.Byte (first + 4 + 2 * c ∷ []) (first + 5 + 2 * c ∷ []) [] acts
+    rogue_with Kind.Byte ((first + 4 + 2 * c) ∷ []) ((first + 5 + 2 * c) ∷ []) [] acts
 
 -- the hostile block client of a number, where the class begins at this queue: it takes responses
 -- and puts requests
 abbrev pub blk_rogue_at : (first c : ℕ) → PoolAt → List Act → RoguePart
 blk_rogue_at first c pool acts =
-    rogue_with Kind.Req (first + 5 + 2 * c ∷ []) (first + 4 + 2 * c ∷ []) (pool_pages pool) acts
+    rogue_with Kind.Req ((first + 5 + 2 * c) ∷ []) ((first + 4 + 2 * c) ∷ []) (pool_pages pool)
+    acts
 
 -- the acts of the client of a number
 abbrev pub acts_at : List (List Act) → ℕ → List Act

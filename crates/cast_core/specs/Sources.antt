@@ -3,7 +3,6 @@
 use Rattle.std.specs.Prelude.{◌+◌, ◌*◌, ℕ, zero, suc, Bool, false, if◌then◌else◌, List, [], ◌∷◌}
 use Rattle.std.specs.Prelude.{length, codes, slice_get, unwrap_or}
 use Rattle.std.specs.Option.{option_map_or}
-use Rattle.cargo_core.specs.declared.item.Ask.{Ask}
 use Rattle.frame_core.specs.declared.mac.Mac.{Mac}
 use Rattle.frame_core.specs.Macs.{mac_of}
 use Rattle.wire_core.specs.declared.names.PoolRow.{PoolRow}
@@ -11,9 +10,8 @@ use Rattle.sdf_plan.specs.declared.plan.Plan.{Plan}
 use Rattle.sdf_plan.specs.declared.plan.Net.{Net}
 use Rattle.sdf_plan.specs.declared.plan.NetClient.{NetClient}
 use Rattle.sdf_plan.specs.declared.plan.Serial.{Serial}
-use Rattle.sdf_plan.specs.declared.plan.BlkClient.{BlkClient}
 use Rattle.trace_text.specs.declared.trace.Trace.{Trace}
-use Rattle.trace_text.specs.Events.{net_clients, blk_clients, is_source, runs}
+use Rattle.trace_text.specs.Events.{net_clients, is_source, runs}
 use Rattle.net_expect.specs.Expecting.{Program}
 use Rattle.client_programs.specs.Net.Programs.{program_with}
 use Rattle.client_programs.specs.declared.net.program.NetProgram.{NetProgram}

@@ -1,10 +1,12 @@
 //! The hostile clients of a plan: each stands at the queues of a client of its class, with the
 //! buffers of its pools, and has its acts from the trace.
-ghost use Rattle.std.specs.Prelude.{◌≡◌, ◌<◌, ◌≤◌, ◌+◌, ◌*◌, List, length, IfOk};
+ghost use Rattle.std.specs.Prelude.{◌≡◌, ◌<◌, ◌≤◌, ◌+◌, ◌*◌, ◌||◌, List, true, false, length, IfOk};
 ghost use Rattle.cargo_core.specs.Blocks.{blk_buffer_bytes};
 ghost use Rattle.sdf_plan.specs.declared.plan.Plan.{Plan};
+ghost use Rattle.sdf_check.specs.Valid.{Valid};
 ghost use Rattle.trace_text.specs.declared.trace.Trace.{Trace};
 ghost use Rattle.trace_text.specs.declared.class.Class.TheVariants as Of;
+ghost use Rattle.trace_text.specs.Events.{is_blk_rogue, is_net_rogue, is_serial_rogue};
 ghost use Rattle.layout_laws.specs.Jobs.Jobs.{Job};
 ghost use Rattle.actor_set.specs.Actors.{part_of};
 ghost use Rattle.actor_set.specs.Parts.{HostilePart};
@@ -19,8 +21,9 @@ use crate::pools::{pages, pool_row};
 use actor_set::Actor;
 use cargo_core::{BLK_BUFFER_BYTES, Memory, QueueKind};
 use client_programs::Rogue;
+use sdf_plan::Plan;
 use std::alloc::Global;
-use trace_text::Trace;
+use trace_text::{Trace, is_blk_rogue, is_net_rogue, is_serial_rogue};
 use wire_core::{PoolRow, QueueId};
 
 /// The hostile network client of a number. Its pages are those for receiving and then those for
@@ -75,15 +78,9 @@ pub fn serial_rogue(
     let rx = first + 4 + 2 * client;
     let inputs = vec![in alloc; QueueId(rx)]?;
     let outputs = vec![in alloc; QueueId(rx + 1)]?;
+    let own = Vec::new(alloc);
     let acts = Vec::from_slice(alloc, trace.acts(1, client as u32))?;
-    Ok(Rogue::new(
-        alloc,
-        QueueKind::Byte,
-        inputs,
-        outputs,
-        Vec::new(alloc),
-        acts,
-    )?)
+    Ok(Rogue::new(alloc, QueueKind::Byte, inputs, outputs, own, acts)?)
 }
 
 /// The hostile block client of a number, where the class begins at this queue, and its pool has
@@ -113,6 +110,28 @@ pub fn blk_rogue(
     let outputs = vec![in alloc; QueueId(req)]?;
     let acts = Vec::from_slice(alloc, trace.acts(2, client as u32))?;
     Ok(Rogue::new(alloc, QueueKind::Req, inputs, outputs, own, acts)?)
+}
+
+// Whether a client of a number is hostile, of any class.
+fn is_any_rogue(plan: &Plan, client: u64) -> bool
+    ensures { result ≡ (is_net_rogue plan.now client || is_serial_rogue plan.now client
+        || is_blk_rogue plan.now client) }
+{
+    is_net_rogue(plan, client) || is_serial_rogue(plan, client) || is_blk_rogue(plan, client)
+}
+
+/// Whether no client of a valid plan is hostile.
+pub fn has_no_rogue(plan: &Plan) -> bool
+    requires { Valid plan.now }
+    ensures none { result ≡ true → HasNoRogue plan.now }
+    ensures some { result ≡ false → HasNoRogue plan.now → ⊥ }
+{
+    for client in 0..8 {
+        if is_any_rogue(plan, client) {
+            return false;
+        }
+    }
+    true
 }
 
 /// No job of a plan without hostile clients makes a hostile actor, so none of its actors is one.

@@ -12,7 +12,7 @@ mod serial;
 mod shared;
 
 pub use actors::cast;
-pub use hostile::calm_law;
+pub use hostile::{calm_law, has_no_rogue};
 pub use jobs::{BlkJob, Job, NetJob, SerialJob};
 pub use network::copied_frames;
 pub use shared::{copies, first_blk, first_serial};

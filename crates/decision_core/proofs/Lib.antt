@@ -1,4 +1,5 @@
 pub mod DecisionLemmas
+pub mod FriendlyLemmas
 pub mod GenLemmas
 pub mod JudgedLemmas
 pub mod LastLemmas

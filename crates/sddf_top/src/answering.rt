@@ -4,6 +4,7 @@ ghost use Rattle.command_words.specs.declared.command.Command.{Command};
 ghost use Rattle.command_words.specs.Words.{texts_of, IsGen, Spells, BeginsRun};
 ghost use Rattle.shelf_core.specs.Shelves.{ReadsFrom};
 ghost use Rattle.decision_core.specs.Decided.{decision_of, IsSound, AsksToRun};
+ghost use Rattle.sddf_top.specs.Friendly.{IsFriendly};
 ghost use Rattle.sddf_top.specs.Outcomes.{Follows, FollowsBy, EndsAfter};
 ghost use Rattle.decision_core.specs.Decisions.{Decides};
 ghost use Rattle.shelf_core.specs.Reading.{WasRead};
@@ -46,6 +47,7 @@ impl Outcome {
 /// The answer of what was decided, where no thread is asked for.
 fn answer_alone(alloc: Global, decided: Decided) -> Result<Outcome, Memory>
     requires sound { IsSound decided }
+    requires friendly { IsFriendly decided }
     requires alone { AsksToRun decided → ⊥ }
     ensures { IfOk result (Follows (decision_of decided)) }
 {
@@ -68,6 +70,7 @@ fn answer<R: Threads + Wait + Sync, G: Gate + Sync>(
     gate: &G,
 ) -> Result<Outcome, Memory>
     requires sound { IsSound decided }
+    requires friendly { IsFriendly decided }
     ensures { IfOk result (Follows (decision_of decided)) }
 {
     match decided {

@@ -1,6 +1,7 @@
 //! A trace is played or run on a plan, and what the system shows is made the answer.
 ghost use Rattle.std.specs.Prelude.{◌≡◌, IfOk, string_bytes};
 ghost use Rattle.trace_text.specs.Traces.{IsReadFor};
+ghost use Rattle.cast_core.specs.Hostile.{HasNoRogue};
 ghost use Rattle.decision_core.specs.Judged.{IsAcceptedPlan};
 ghost use Rattle.decision_core.specs.Decisions.{Play, Run};
 ghost use Rattle.sddf_top.specs.Shown.{seed_of, limit_of, limit_or_budget, ending_of, told_text};
@@ -105,10 +106,11 @@ fn shown_text(
     }
 }
 
-/// Plays a trace on a plan, and makes the answer of what the system shows.
+/// Plays a trace on a plan without hostile clients, and makes the answer of what the system shows.
 pub fn play(alloc: Global, plan: &Plan, trace: &Trace, showing: Showing) -> Result<Outcome, Memory>
     requires accepted { IsAcceptedPlan plan.now }
     requires read { IsReadFor plan.now trace.now }
+    requires friendly { HasNoRogue plan.now }
     ensures { IfOk result (Follows (Play plan.now trace.now showing)) }
 {
     let layout = lay_out(alloc, plan)?;
@@ -123,8 +125,8 @@ pub fn play(alloc: Global, plan: &Plan, trace: &Trace, showing: Showing) -> Resu
     })
 }
 
-/// Runs a trace on a plan with a thread for each actor, and makes the answer of what the system
-/// shows that took over what the threads left.
+/// Runs a trace on a plan without hostile clients with a thread for each actor, and makes the answer
+/// of what the system shows that took over what the threads left.
 pub fn run<R: Threads + Wait + Sync, G: Gate + Sync>(
     rt: &R,
     alloc: Global,
@@ -135,6 +137,7 @@ pub fn run<R: Threads + Wait + Sync, G: Gate + Sync>(
 ) -> Result<Outcome, Memory>
     requires accepted { IsAcceptedPlan plan.now }
     requires read { IsReadFor plan.now trace.now }
+    requires friendly { HasNoRogue plan.now }
     ensures { IfOk result (Follows (Run plan.now trace.now steps)) }
 {
     let layout = lay_out(alloc, plan)?;

@@ -8,6 +8,7 @@ mod playing;
 mod wrapping;
 
 use cargo_core::Memory;
+use cast_core::has_no_rogue;
 use decision_core::judge;
 use order::{Order, read_order};
 use playing::{steps_by, table};
@@ -32,6 +33,7 @@ fn shown(alloc: Global, text: &str, order: Option<Order>) -> Result<String, Memo
     let lines = lines(alloc, order)?;
     if text.len() <= TEXT_MOST
         && let Ok(plan) = judge(alloc, text.as_bytes())
+        && has_no_rogue(&plan)
         && let Ok(trace) = read_trace(alloc, lines.as_bytes(), &plan)
     {
         return match order {

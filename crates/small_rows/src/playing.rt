@@ -1,6 +1,7 @@
 //! A plan played by both players.
 ghost use Rattle.trace_text.specs.Traces.{IsReadFor};
 ghost use Rattle.sdf_check.specs.Valid.{Valid};
+ghost use Rattle.cast_core.specs.Hostile.{HasNoRogue};
 
 use crate::order::Player;
 use crate::wrapping::{Wrapped, wrap};
@@ -23,6 +24,7 @@ const SEEDS: u64 = 20;
 fn system_of(alloc: Global, plan: &Plan, trace: &Trace) -> Result<System, Memory>
     requires valid { Valid plan.now }
     requires read { IsReadFor plan.now trace.now }
+    requires friendly { HasNoRogue plan.now }
 {
     let layout = lay_out(alloc, plan)?;
     System::build(alloc, plan, &layout, trace)
@@ -32,6 +34,7 @@ fn system_of(alloc: Global, plan: &Plan, trace: &Trace) -> Result<System, Memory
 fn small_of(alloc: Global, plan: &Plan, trace: &Trace) -> Result<Small<Wrapped>, Memory>
     requires valid { Valid plan.now }
     requires read { IsReadFor plan.now trace.now }
+    requires friendly { HasNoRogue plan.now }
 {
     let layout = lay_out(alloc, plan)?;
     let cast = cast(alloc, plan, &layout, trace)?;
@@ -44,6 +47,7 @@ fn small_of(alloc: Global, plan: &Plan, trace: &Trace) -> Result<Small<Wrapped>,
 fn compared(alloc: Global, plan: &Plan, trace: &Trace, seed: u64) -> Result<(usize, bool), Memory>
     requires valid { Valid plan.now }
     requires read { IsReadFor plan.now trace.now }
+    requires friendly { HasNoRogue plan.now }
 {
     let mut system = system_of(alloc, plan, trace)?;
     let ending = system.play(seed, LIMIT)?;
@@ -61,6 +65,7 @@ fn compared(alloc: Global, plan: &Plan, trace: &Trace, seed: u64) -> Result<(usi
 pub(crate) fn table(alloc: Global, plan: &Plan, trace: &Trace) -> Result<String, Memory>
     requires valid { Valid plan.now }
     requires read { IsReadFor plan.now trace.now }
+    requires friendly { HasNoRogue plan.now }
 {
     let mut text = String::new(alloc);
     for seed in 0..SEEDS {
@@ -79,6 +84,7 @@ pub(crate) fn steps_by(
 ) -> Result<String, Memory>
     requires valid { Valid plan.now }
     requires read { IsReadFor plan.now trace.now }
+    requires friendly { HasNoRogue plan.now }
 {
     let steps = match player {
         Player::Small => {

@@ -5,6 +5,7 @@ ghost use Rattle.wire_core.specs.Journal.{LegalJournal};
 ghost use Rattle.sdf_check.specs.Valid.{Valid};
 ghost use Rattle.trace_text.specs.Traces.{IsReadFor};
 ghost use Rattle.region_layout.specs.Layouts.{layout_of};
+ghost use Rattle.cast_core.specs.Hostile.{HasNoRogue};
 ghost use Rattle.expect_core.specs.Budgets.{budget_of};
 ghost use Rattle.system_core.specs.Reports.{report_of};
 ghost use Rattle.system_core.specs.Shows.{Shown, hostile_in};
@@ -45,6 +46,7 @@ pub fn played_in_a_row(
     requires valid { Valid plan.now }
     requires layout { layout.now ≡ layout_of plan.now }
     requires trace { IsReadFor plan.now trace.now }
+    requires friendly { HasNoRogue plan.now }
     ensures { IfOk result (λ r. (s : Shown) × (r.1 ≡ report_of s) × IsSystemOf plan.now trace.now s
         × LegalJournal (hostile_in s.setting) s.setting.history s.setting.rows s.journal
         × (length s.journal < budget_of plan.now trace.now)
@@ -68,6 +70,7 @@ pub fn played_once(
     requires valid { Valid plan.now }
     requires layout { layout.now ≡ layout_of plan.now }
     requires trace { IsReadFor plan.now trace.now }
+    requires friendly { HasNoRogue plan.now }
 {
     let (system, ending) = System::played(alloc, plan, layout, trace, seed, steps)?;
     Ok((ending, system.into_report()?))

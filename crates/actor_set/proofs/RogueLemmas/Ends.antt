@@ -103,7 +103,7 @@ module _ (ends ends' : Role → ℕ → End) where
 
 -- in its start state it fits its ends
 module _ (ends : Role → ℕ → End) where
-  pub new_rogue_fits : (x : Rogue) → IsNewRogue x.kind x.inputs.items x.outputs.items x.start.value.items x.acts.items x → ((n : ℕ) → RogueEnd x Consumer n → FitsEnd (ends Consumer n)) → ((n : ℕ) → RogueEnd x Producer n → FitsEnd (ends Producer n) × ((ends Producer n).kind ≡ x.kind)) → FitsRogue ends x
+  pub new_rogue_fits : (x : Rogue) → IsNewRogue x.kind x.inputs.items x.outputs.items x.start.value.items (left_of x).acts x → ((n : ℕ) → RogueEnd x Consumer n → FitsEnd (ends Consumer n)) → ((n : ℕ) → RogueEnd x Producer n → FitsEnd (ends Producer n) × ((ends Producer n).kind ≡ x.kind)) → FitsRogue ends x
   new_rogue_fits x new ins outs = record {
     is = new.is;
     inputs = λ k d h. ins (get_or x.inputs.items k d).0 (input_end ends ends x k d h);
@@ -129,7 +129,7 @@ pages_are pool (p ∷ ps) =
     one true h = omega (arith, h)
     one false h = omega (arith, h)
 
-pub new_rogue_hand : (x : Rogue) → IsNewRogue x.kind x.inputs.items x.outputs.items x.start.value.items x.acts.items x → (pool : PoolId) → buffers_of pool x.kept.items ≡ length (pages_in (pages_at x.start.value.items) pool.0)
+pub new_rogue_hand : (x : Rogue) → IsNewRogue x.kind x.inputs.items x.outputs.items x.start.value.items (left_of x).acts x → (pool : PoolId) → buffers_of pool x.kept.items ≡ length (pages_in (pages_at x.start.value.items) pool.0)
 new_rogue_hand x new pool = ap (buffers_of pool) new.keeps ∙ pages_are pool x.start.value.items
 
 -- where nothing moved at its ends, it stands for the same lists
@@ -145,7 +145,7 @@ module _ (passed passed' : Passed) where
       rw (came, went) f
 
 -- in its start state nothing is to be forgotten
-pub new_rogue_anew : (x : Rogue) → IsNewRogue x.kind x.inputs.items x.outputs.items x.start.value.items x.acts.items x → HostilePart (rogue_part x (record { acts = (left_of x).acts; looked = false; kept = (left_of x).kept })) ≡ HostilePart (rogue_part x (left_at_start x))
+pub new_rogue_anew : (x : Rogue) → IsNewRogue x.kind x.inputs.items x.outputs.items x.start.value.items (left_of x).acts x → HostilePart (rogue_part x (record { acts = (left_of x).acts; looked = false; kept = (left_of x).kept })) ≡ HostilePart (rogue_part x (left_at_start x))
 new_rogue_anew x new =
     let fresh : x.looked ≡ false = ap (λ (l : Left). l.looked) new.left in
     let same : record { acts = (left_of x).acts; looked = false; kept = (left_of x).kept } ≡ left_of x = ap (λ b. record { acts = (left_of x).acts; looked = b; kept = (left_of x).kept }) (sym fresh) in

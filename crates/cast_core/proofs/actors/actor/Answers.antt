@@ -8,7 +8,7 @@ use Rattle.cast_core.specs.Hostile.{HasActs}
 use Rattle.cast_core.specs.Making.{HasPools, HasFrames, HasBlkPools, HasAsks}
 use Rattle.cast_core.proofs.Tables.{has_rows, some_known, known_has}
 use Rattle.cast_core.proofs.Rooms.{has_pools, has_blk_pools}
-use Rattle.cast_core.proofs.Hostile.{net_acts, serial_acts, blk_acts}
+use Rattle.cast_core.proofs.HostileLemmas.{net_acts, serial_acts, blk_acts}
 use Rattle.cast_core.proofs.Joining.{queues_are, pools_are, net_count, net_few, frames_few, serial_few, serial_some, first_few, has_frames, says_count, is_cast, blk_count, blk_few, first_blk_few, first_blk_pool_few, has_asks}
 use Rattle.cast_core.proofs.actors.actor.Goals as goal
 

@@ -1,4 +1,4 @@
-use Rattle.cast_core.proofs.Hostile.{calm_jobs, calm_cast}
+use Rattle.cast_core.proofs.HostileLemmas.{calm_jobs, calm_cast}
 use Rattle.cast_core.proofs.hostile.calm_law.Goals as goal
 
 pub returns-clause-parts : goal.returns-clause-parts

@@ -1,7 +1,7 @@
 use Rattle.std.proofs.Common.{◌∙◌, sym, subst}
 use Rattle.std.proofs.lemmas.Result.{IfOk-weaker}
 use Rattle.wire_core.specs.Queues.{starts}
-use Rattle.cast_core.proofs.Hostile.{calm_cast}
+use Rattle.cast_core.proofs.HostileLemmas.{calm_cast}
 use Rattle.system_core.specs.Builds.{IsBuilt}
 use Rattle.system_core.proofs.Built.{layout_queues, layout_pools, are_seated, are_pooled, is_built}
 use Rattle.system_core.proofs.Together.{both_ok}

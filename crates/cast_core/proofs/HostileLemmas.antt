@@ -1,6 +1,8 @@
 -- Hostile clients that are so made: what their parts tell, and what their making asks.
-use Rattle.std.proofs.Common.{◌≡◌, ◌+◌, ◌*◌, ◌<◌, ◌≤◌, ◌++◌, ℕ, zero, suc, false, Some, List, [], ◌∷◌, length, map, replicate, slice_get, get_or, unwrap_or, refl, sym, ap, ap₂, ◌∙◌, arith}
+use Rattle.std.proofs.Common.{◌≡◌, ◌+◌, ◌*◌, ◌<◌, ◌≤◌, ◌++◌, ◌||◌, ℕ, zero, suc, Bool, true, false, None, Some, inl, inr, subst, List, [], ◌∷◌, length, map, replicate, slice_get, get_or, unwrap_or, refl, sym, ap, ap₂, ◌∙◌, arith}
 use Rattle.std.specs.List.{All, sum_by}
+use Rattle.std.proofs.lemmas.Bool.{cases_lt}
+use Rattle.sdf_check.specs.Valid.{Valid}
 use Rattle.std.proofs.lemmas.List.{length-map}
 use Rattle.std.proofs.lemmas.List.Sums.{sum_by-cons}
 use Rattle.std.proofs.lemmas.List.Elements.{All-nil, All-cons}
@@ -14,7 +16,7 @@ use Rattle.sdf_plan.specs.declared.plan.Plan.{Plan}
 use Rattle.trace_text.specs.declared.class.Class.{Class}
 use Rattle.trace_text.specs.declared.class.Class.TheVariants as Of
 use Rattle.trace_text.specs.declared.trace.Trace.{Trace}
-use Rattle.trace_text.specs.Events.{net_clients, serial_clients, blk_clients, inputs_of}
+use Rattle.trace_text.specs.Events.{net_clients, serial_clients, blk_clients, inputs_of, is_net_rogue, is_serial_rogue, is_blk_rogue}
 use Rattle.trace_text.specs.Shapes.{IsActOn}
 use Rattle.trace_text.specs.Traces.{IsReadFor, per_client}
 use Rattle.trace_text.proofs.Limits.{limits_kept}
@@ -22,14 +24,17 @@ use Rattle.trace_text.proofs.Shapes.{shapes-read}
 use Rattle.layout_laws.proofs.Lists.{all-at}
 use Rattle.client_programs.specs.declared.rogue.Rogue.{Rogue}
 use Rattle.client_programs.specs.Rogue.Acts.{Left}
-use Rattle.client_programs.specs.Rogue.Clients.{AreApart, IsActOf, IsNewRogue, left_at_start}
+use Rattle.client_programs.specs.Rogue.Clients.{AreApart, IsActOf, IsNewRogue, left_at_start, left_of}
+use Rattle.buffer_kit.specs.Pools.{page_bodies}
 use Rattle.actor_set.specs.Actors.{numbers, pages_at, part_of}
 use Rattle.actor_set.specs.Parts.{HostilePart, PageAt, Part}
+use Rattle.actor_set.specs.StartStates.{IsNew}
 use Rattle.actor_set.specs.declared.actor.Actor.{Actor}
 use Rattle.actor_set.specs.declared.actor.Actor.TheVariants as Kinds
 use Rattle.layout_laws.specs.Jobs.Jobs.{Job, EthDevice, EthDriver, NetReceiver, NetSender, NetCopier, NetClient, UartDevice, UartDriver, SerialReceiver, SerialSender, SerialClient, DiskDevice, DiskDriver, BlkVirtualiser, BlkClient}
 use Rattle.cast_core.specs.Casts.{AreCalmCast, AreCast, calm_part, job_part}
 use Rattle.cast_core.specs.Sources.{pool_at}
+use Rattle.cast_core.proofs.Joining.{net_few, serial_few, blk_few}
 use Rattle.cast_core.specs.Making.{new_page}
 use Rattle.cast_core.specs.Hostile.{HasActs, HasNoRogue, acts_at, pool_pages, rogue_with}
 
@@ -67,6 +72,19 @@ rogue_is kind inputs outputs pages acts r new told pages_told =
     ∙ (ap (λ l. made kind inputs l (left_at_start r) (pages_at r.start.value.items)) new.to
     ∙ (ap (λ s. made kind inputs outputs s (pages_at r.start.value.items)) start
     ∙ ap (made kind inputs outputs (record { acts = acts; looked = false; kept = length told })) (ap pages_at new.had ∙ pages_told))))
+
+-- it is in its start state
+pub rogue_new : (kind : QueueKind) (inputs outputs : List QueueId) (pages : List Paged) (acts : List Act) (r : Rogue) → IsNewRogue kind inputs outputs pages acts r → IsNew (Kinds.Rogue r)
+rogue_new kind inputs outputs pages acts r new = record {
+  is = new.is;
+  puts = refl;
+  from = refl;
+  to = refl;
+  left = ap (λ n. record { acts = (left_of r).acts; looked = (left_of r).looked; kept = n }) (ap (λ (l : Left). l.kept) new.left ∙ ap length (sym new.had)) ∙ ap (λ b. record { acts = (left_of r).acts; looked = b; kept = length r.start.value.items }) (ap (λ (l : Left). l.looked) new.left);
+  keeps = new.keeps ∙ ap page_bodies (sym new.had);
+  had = refl;
+  start = new.start;
+}
 
 -- acts at queues such as a client of a class has are acts of a client that has these
 one_fits : (class : Class) (x : Act) → IsActOn class x → IsActOf (inputs_of class) (2 * inputs_of class) x
@@ -107,6 +125,70 @@ module _ (plan : Plan) (trace : Trace) (read : IsReadFor plan trace) where
 
   pub blk_acts : HasActs Of.Blk trace.blk_acts (length (blk_clients plan))
   blk_acts = let kept = limits_kept plan trace read in let few = kept.acts in record { count = kept.blk_acts; few = each_few 1024 trace.blk_acts (omega (arith, few)); on = (shapes-read plan trace read).blk_acts }
+
+-- a client that isn't there isn't hostile
+none_past : {T : Type 0} (xs : List T) (k : ℕ) → length xs ≤ k → slice_get xs k ≡ None
+none_past [] k h = refl
+none_past (x ∷ xs) zero h = absurd (omega (arith, h))
+none_past (x ∷ xs) (suc k) h = none_past xs k (omega (arith, h))
+
+net_past : (plan : Plan) (c : ℕ) → length (net_clients plan) ≤ c → is_net_rogue plan c ≡ false
+unfolding is_net_rogue
+net_past plan c h = rw (none_past (net_clients plan) c h) refl
+
+serial_past : (plan : Plan) (c : ℕ) → length (serial_clients plan) ≤ c → is_serial_rogue plan c ≡ false
+unfolding is_serial_rogue
+serial_past plan c h = rw (none_past (serial_clients plan) c h) refl
+
+blk_past : (plan : Plan) (c : ℕ) → length (blk_clients plan) ≤ c → is_blk_rogue plan c ≡ false
+unfolding is_blk_rogue
+blk_past plan c h = rw (none_past (blk_clients plan) c h) refl
+
+-- where none of those that are there is, none is
+pub no_rogue : (plan : Plan) → ((c : ℕ) → c < length (net_clients plan) → is_net_rogue plan c ≡ false) → ((c : ℕ) → c < length (serial_clients plan) → is_serial_rogue plan c ≡ false)
+    → ((c : ℕ) → c < length (blk_clients plan) → is_blk_rogue plan c ≡ false) → HasNoRogue plan
+no_rogue plan net serial blk = record {
+  net = λ c. elim (cases_lt c (length (net_clients plan))) [
+    | inl lt ↦ net c lt
+    | inr ge ↦ net_past plan c ge
+  ];
+  serial = λ c. elim (cases_lt c (length (serial_clients plan))) [
+    | inl lt ↦ serial c lt
+    | inr ge ↦ serial_past plan c ge
+  ];
+  blk = λ c. elim (cases_lt c (length (blk_clients plan))) [
+    | inl lt ↦ blk c lt
+    | inr ge ↦ blk_past plan c ge
+  ];
+}
+
+-- the clients of one number, of all classes
+pub record AreCalmAt (plan : Plan) (c : ℕ) : Type 0 where
+  pub net : is_net_rogue plan c ≡ false
+  pub serial : is_serial_rogue plan c ≡ false
+  pub blk : is_blk_rogue plan c ≡ false
+
+pub none_at : (plan : Plan) (c : ℕ) → (is_net_rogue plan c || is_serial_rogue plan c || is_blk_rogue plan c) ≡ false → AreCalmAt plan c
+none_at plan c none = by (is_net_rogue plan c) (is_serial_rogue plan c) (is_blk_rogue plan c) refl refl refl none
+  where
+    by : (a b d : Bool) → is_net_rogue plan c ≡ a → is_serial_rogue plan c ≡ b → is_blk_rogue plan c ≡ d → (a || b || d) ≡ false → AreCalmAt plan c
+    by true b d e f g h = absurd cc
+    by false true d e f g h = absurd cc
+    by false false true e f g h = absurd cc
+    by false false false e f g h = record { net = e; serial = f; blk = g }
+
+pub some_at : (plan : Plan) (c : ℕ) → (is_net_rogue plan c || is_serial_rogue plan c || is_blk_rogue plan c) ≡ true → HasNoRogue plan → ⊥
+some_at plan c some none = let no : false ≡ true = subst (λ a. (a || false || false) ≡ true) (none.net c) (subst (λ b. (is_net_rogue plan c || b || false) ≡ true) (none.serial c) (subst (λ d. (is_net_rogue plan c || is_serial_rogue plan c || d) ≡ true) (none.blk c) some)) in cc
+
+-- a valid plan has at most eight clients of a class
+pub eight_calm : (plan : Plan) → Valid plan → (n : ℕ) → 8 ≤ n → ((c : ℕ) → c < n → AreCalmAt plan c) → HasNoRogue plan
+eight_calm plan valid n most calm = no_rogue plan (λ c lt. let few = net_few plan valid in (calm c (omega (arith, few, lt, most))).net) (λ c lt. let few = serial_few plan valid in (calm c (omega (arith, few, lt, most))).serial) (λ c lt. let few = blk_few plan valid in (calm c (omega (arith, few, lt, most))).blk)
+
+pub one_calm_more : (plan : Plan) (n : ℕ) → ((c : ℕ) → c < n → AreCalmAt plan c) → AreCalmAt plan n → (c : ℕ) → c < n + 1 → AreCalmAt plan c
+one_calm_more plan n before here c lt = elim (cases_lt c n) [
+  | inl less ↦ before c less
+  | inr more ↦ subst (AreCalmAt plan) (omega (arith, more, lt)) here
+]
 
 -- no job of a plan without hostile clients makes a hostile actor
 pub calm_jobs : (plan : Plan) (trace : Trace) (job : Job) → HasNoRogue plan → job_part plan trace job ≡ calm_part plan trace job
