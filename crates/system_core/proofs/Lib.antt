@@ -9,6 +9,8 @@ pub mod Starting
 pub mod Seating
 pub mod Fitting
 pub mod Stepping
+pub mod Noting
+pub mod Keeping
 pub mod Recording
 pub mod Lining
 pub mod Counting

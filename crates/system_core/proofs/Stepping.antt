@@ -86,6 +86,12 @@ module _ (history : History) (rows : List QueueRow) (names : List Noted) (cast :
   flag_of : (j : List Entry) (k : ℕ) (p : Part) → slice_get cast k ≡ Some p → slice_get (flags j) k ≡ Some (is_runnable (manner k) k (wanted p j) history rows j)
   flag_of j k p at = flag_at manner 0 history rows (all_wanted j) j k k (wanted p j) (omega arith) (map_get (λ p. wanted p j) cast k p at)
 
+  -- and it is so by its part
+  pub run_flag : (j : List Entry) (place k : ℕ) (p : Part) → slice_get cast k ≡ Some p → slice_get (runnable manner history rows (all_wanted j) j) place ≡ Some k → is_runnable (manner_of p) k (wanted p j) history rows j ≡ true
+  run_flag j place k p part at =
+      let so = places_so 0 k k place (flags j) (omega arith) at in
+      subst (λ m. is_runnable m k (wanted p j) history rows j ≡ true) (manner_at cast k p part) (some_is (sym (flag_of j k p part) ∙ so))
+
   -- there is room for them
   pub running_few : (room : ℕ) → length cast ≤ room → (j : List Entry) → length (runnable manner history rows (all_wanted j) j) ≤ room
   running_few room le j = let f : length (places_from 0 (flags j)) ≤ length (flags j) = places_few 0 (flags j) in let g : length (flags j) ≡ length cast = flags_count j in omega arith
@@ -235,8 +241,7 @@ module _ (history : History) (rows : List QueueRow) (names : List Noted) (pools 
   runs_called : IsFitted now_set → Holds history rows names w actors journal → slice_get actors k ≡ Some x → slice_get (runs now_set journal) place ≡ Some k → manner_of (part_of x) ≡ Calm → is_at_rest (actor_round x) ≡ true → IsCalled (pendings history journal) (actor_round x).posts
   runs_called fitted old here at calm rest =
       let part : slice_get (map part_of actors) k ≡ Some (part_of x) = map_get part_of actors k x here in
-      let so = places_so 0 k k place (flags history rows names (map part_of actors) journal) (omega arith) at in
-      let flag : is_runnable Calm k (wanted history rows names (map part_of actors) (part_of x) journal) history rows journal ≡ true = subst (λ m. is_runnable m k (wanted history rows names (map part_of actors) (part_of x) journal) history rows journal ≡ true) (manner_at (map part_of actors) k (part_of x) part ∙ calm) (some_is (sym (flag_of history rows names (map part_of actors) journal k (part_of x) part) ∙ so)) in
+      let flag : is_runnable Calm k (wanted history rows names (map part_of actors) (part_of x) journal) history rows journal ≡ true = subst (λ m. is_runnable m k (wanted history rows names (map part_of actors) (part_of x) journal) history rows journal ≡ true) calm (run_flag history rows names (map part_of actors) journal place k (part_of x) part at) in
       let settled : all_settled history journal (wanted history rows names (map part_of actors) (part_of x) journal) ≡ true = sym (rests_here (map part_of actors) history rows names w actors journal old refl k x here calm) ∙ (rests_is x calm ∙ rest) in
       called_end k x history rows journal calm
       (λ n row there r owner. let g = fitted.ends k (part_of x) part (record { queue = n; role = r }) (row, there, owner) in from_part x r n (seat_end (scene_of (map part_of actors)) (part_of x) g.0 (record { queue = n; role = r }) g.1))

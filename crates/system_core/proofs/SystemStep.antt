@@ -299,11 +299,11 @@ module _ (history : History) (rows : List QueueRow) (names : List Noted) (w v : 
   sends' wired new part = sends_on (end_at w) (end_at v) rows actors (slice_set actors k x') old.passed deed wired (all_parts part) works old.sends (works' new)
 
   -- with the name of what it put, where names are kept
-  names' : List Noted
+  abbrev pub names' : List Noted
   names' = names ++ notes_of wild deed
 
   noted' : AreNoted wild names' passed'
-  unfolding names' passed'
+  unfolding passed'
   noted' = notes_keep wild names old.passed deed old.noted
 
   -- nothing comes out of turn after it
