@@ -59,7 +59,7 @@ module _ (rows : List QueueRow) (pools : List PoolRow) (place : PoolPlace) (cast
         let x = in_flat part_pools c.parts k p at j q there in
         sym (c.weighs (of_other_length (record { 0 = q.number }) q.size)) ∙ lengths_one rows pools place c.parts c.calm c.seated (quiet_placed c) has x.0 q x.1 some
 
-    long_part : (k : ℕ) (p q : Part) → slice_get c.parts k ≡ Some q → IsLike place.net place.blk p q → (j : ℕ) (a : PoolAt) → slice_get (part_pools p) j ≡ Some a → 1 ≤ a.buffers → IsLong a
+    long_part : (k : ℕ) (p q : Part) → slice_get c.parts k ≡ Some q → IsLike rows place.net place.blk p q → (j : ℕ) (a : PoolAt) → slice_get (part_pools p) j ≡ Some a → 1 ≤ a.buffers → IsLong a
     long_part k p q q_at (inl (calm, e)) j a there some = long_in k q q_at j a (ap (λ z. slice_get (part_pools z) j) e ∙ there) some
     long_part k p q q_at (inr (r, e, f)) j a there some = absurd (let none = ap (λ z. slice_get (part_pools z) j) (sym e) ∙ there in cc)
 

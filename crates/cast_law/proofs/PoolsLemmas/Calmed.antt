@@ -45,7 +45,7 @@ no_rogues rows n b cast calm = record {
 }
 
 -- the calm client of a hostile one's number, by its class
-record NetFor (n : Option NetPlace) (r : RoguePart) (p : Part) : Type 0 where
+pub record NetFor (n : Option NetPlace) (r : RoguePart) (p : Part) : Type 0 where
   pub net : NetPlace
   pub k : ℕ
   pub program : Program
@@ -56,7 +56,7 @@ record NetFor (n : Option NetPlace) (r : RoguePart) (p : Part) : Type 0 where
   pub rogue : IsNetRogue net k pools r
   pub is : p ≡ NetworkPart (client_at net.first k program mac (own_pools pools))
 
-record BlkFor (b : Option BlkPlace) (r : RoguePart) (p : Part) : Type 0 where
+pub record BlkFor (b : Option BlkPlace) (r : RoguePart) (p : Part) : Type 0 where
   pub blk : BlkPlace
   pub k : ℕ
   pub entry : ℕ
@@ -67,16 +67,16 @@ record BlkFor (b : Option BlkPlace) (r : RoguePart) (p : Part) : Type 0 where
   pub rogue : IsBlkRogue blk k pool r
   pub is : p ≡ BlockPart (blk_client_at blk.first k asks pool)
 
-record BareFor (r : RoguePart) (p : Part) : Type 0 where
-  pub rogue : IsBareRogue r
+pub record BareFor (rows : List QueueRow) (r : RoguePart) (p : Part) : Type 0 where
+  pub rogue : IsBareRogue rows r
   pub is : p ≡ ClientPart rogue.input rogue.output []
 
-abbrev IsFor : Option NetPlace → Option BlkPlace → RoguePart → Part → Type 0
-IsFor n b r p = NetFor n r p ⊎ BlkFor b r p ⊎ BareFor r p
+abbrev pub IsFor : List QueueRow → Option NetPlace → Option BlkPlace → RoguePart → Part → Type 0
+IsFor rows n b r p = NetFor n r p ⊎ BlkFor b r p ⊎ BareFor rows r p
 
 -- the same part, or the calm client for a hostile one
-abbrev pub IsLike : Option NetPlace → Option BlkPlace → Part → Part → Type 0
-IsLike n b p p' = ((manner_of p ≡ Calm) × (p' ≡ p)) ⊎ ((r : RoguePart) × (p ≡ HostilePart r) × IsFor n b r p')
+abbrev pub IsLike : List QueueRow → Option NetPlace → Option BlkPlace → Part → Part → Type 0
+IsLike rows n b p p' = ((manner_of p ≡ Calm) × (p' ≡ p)) ⊎ ((r : RoguePart) × (p ≡ HostilePart r) × IsFor rows n b r p')
 
 -- what stands at one place of two lists side by side
 like_at : {X Y : Type 0} (R : X → Y → Type 0) (xs : List X) (ys : List Y) → AllZip R xs ys → (k : ℕ) (x : X) → slice_get xs k ≡ Some x → (y : Y) × (slice_get ys k ≡ Some y) × R x y
@@ -124,7 +124,7 @@ pub record Calmed (rows : List QueueRow) (n : Option NetPlace) (b : Option BlkPl
   pub net : HasNetAt rows n parts
   pub blk : HasBlkAt rows b parts
   pub weighs : (f : Count) → pools_weigh f parts ≡ pools_weigh f cast
-  pub like : (k : ℕ) (p : Part) → slice_get cast k ≡ Some p → (q : Part) × (slice_get parts k ≡ Some q) × IsLike n b p q
+  pub like : (k : ℕ) (p : Part) → slice_get cast k ≡ Some p → (q : Part) × (slice_get parts k ≡ Some q) × IsLike rows n b p q
 
 module _ (rows : List QueueRow) (n : Option NetPlace) (b : Option BlkPlace) (cast : List Part) (has_net : HasNetAt rows n cast) (has_blk : HasBlkAt rows b cast) (rogues : HasRogues rows n b cast) (seated : AreSeated (sheet (scene_of cast)) rows cast) where
   net_here : (net : NetPlace) → n ≡ Some net → HasWhole rows net cast × (net.first ≡ 0)
@@ -133,7 +133,7 @@ module _ (rows : List QueueRow) (n : Option NetPlace) (b : Option BlkPlace) (cas
   blk_here : (blk : BlkPlace) → b ≡ Some blk → HasBlkAt rows (Some blk) cast
   blk_here blk here = subst (λ o. HasBlkAt rows o cast) here has_blk
 
-  find : (r : RoguePart) → IsRogueOf n b r → (p : Part) × IsFor n b r p
+  find : (r : RoguePart) → IsRogueOf rows n b r → (p : Part) × IsFor rows n b r p
   find r (inl (net, k, q, here, is)) =
       let whole = (net_here net here).0 in
       let below = there_below net.pools k q is.there in
@@ -148,7 +148,7 @@ module _ (rows : List QueueRow) (n : Option NetPlace) (b : Option BlkPlace) (cas
       (BlockPart (blk_client_at blk.first k asks.0 q), inr (inl (record { blk = blk; k = k; entry = entry.0; asks = asks.0; pool = q; here = here; client = record { has_entry = entry.1; has_asks = asks.1; has_pool = is.there }; rogue = is; is = refl })))
   find r (inr (inr is)) = (ClientPart is.input is.output [], inr (inr (record { rogue = is; is = refl })))
 
-  stand_in : (p : Part) → ((r : RoguePart) → p ≡ HostilePart r → IsRogueOf n b r) → (q : Part) × IsLike n b p q
+  stand_in : (p : Part) → ((r : RoguePart) → p ≡ HostilePart r → IsRogueOf rows n b r) → (q : Part) × IsLike rows n b p q
   stand_in (UartPart rx tx input) only = (UartPart rx tx input, inl (refl, refl))
   stand_in (DriverPart device_rx device_tx rx tx) only = (DriverPart device_rx device_tx rx tx, inl (refl, refl))
   stand_in (RxPart rx clients) only = (RxPart rx clients, inl (refl, refl))
@@ -159,26 +159,26 @@ module _ (rows : List QueueRow) (n : Option NetPlace) (b : Option BlkPlace) (cas
   stand_in (BlockPart p) only = (BlockPart p, inl (refl, refl))
   stand_in (HostilePart r) only = let x = find r (only r refl) in (x.0, inr (r, refl, x.1))
 
-  make : (ps : List Part) → ((j : ℕ) (r : RoguePart) → slice_get ps j ≡ Some (HostilePart r) → IsRogueOf n b r) → (qs : List Part) × AllZip (IsLike n b) ps qs
+  make : (ps : List Part) → ((j : ℕ) (r : RoguePart) → slice_get ps j ≡ Some (HostilePart r) → IsRogueOf rows n b r) → (qs : List Part) × AllZip (IsLike rows n b) ps qs
   make [] only = ([], tt)
   make (p ∷ ps) only =
       let x = stand_in p (λ r e. only 0 r (ap Some e)) in
       let rest = make ps (λ j r at. only (suc j) r at) in
       (x.0 ∷ rest.0, (x.1, rest.1))
 
-  frames_like : (p q : Part) → IsLike n b p q → frames_of q ≡ frames_of p
+  frames_like : (p q : Part) → IsLike rows n b p q → frames_of q ≡ frames_of p
   frames_like p q (inl (calm, e)) = ap frames_of e
   frames_like p q (inr (r, e, inl f)) = ap frames_of f.is ∙ sym (ap frames_of e)
   frames_like p q (inr (r, e, inr (inl f))) = ap frames_of f.is ∙ sym (ap frames_of e)
   frames_like p q (inr (r, e, inr (inr f))) = ap frames_of f.is ∙ sym (ap frames_of e)
 
-  image_like : (p q : Part) → IsLike n b p q → image_of q ≡ image_of p
+  image_like : (p q : Part) → IsLike rows n b p q → image_of q ≡ image_of p
   image_like p q (inl (calm, e)) = ap image_of e
   image_like p q (inr (r, e, inl f)) = ap image_of f.is ∙ sym (ap image_of e)
   image_like p q (inr (r, e, inr (inl f))) = ap image_of f.is ∙ sym (ap image_of e)
   image_like p q (inr (r, e, inr (inr f))) = ap image_of f.is ∙ sym (ap image_of e)
 
-  weighs_like : (f : Count) (p q : Part) → IsLike n b p q → part_weighs f q ≡ part_weighs f p
+  weighs_like : (f : Count) (p q : Part) → IsLike rows n b p q → part_weighs f q ≡ part_weighs f p
   weighs_like f p q (inl (calm, e)) = ap (part_weighs f) e
   weighs_like f p q (inr (r, e, inl x)) =
       let rx : PoolAt = (own_pools x.pools).rx in
@@ -205,7 +205,7 @@ module _ (rows : List QueueRow) (n : Option NetPlace) (b : Option BlkPlace) (cas
       )
   weighs_like f p q (inr (r, e, inr (inr x))) = omega (arith, ap (part_weighs f) x.is, ap (part_weighs f) e, ap (pages_weigh f) x.rogue.pages)
 
-  calm_like : (p q : Part) → IsLike n b p q → manner_of q ≡ Calm
+  calm_like : (p q : Part) → IsLike rows n b p q → manner_of q ≡ Calm
   calm_like p q (inl (calm, e)) = ap manner_of e ∙ calm
   calm_like p q (inr (r, e, inl f)) = ap manner_of f.is
   calm_like p q (inr (r, e, inr (inl f))) = ap manner_of f.is
@@ -216,7 +216,7 @@ module _ (rows : List QueueRow) (n : Option NetPlace) (b : Option BlkPlace) (cas
 
   -- the ends of a calm client are those of the hostile one
   module _ (j : ℕ) (r : RoguePart) (at : slice_get cast j ≡ Some (HostilePart r)) where
-    net_seat : (first k : ℕ) → r.inputs ≡ client_first first k + 2 ∷ client_first first k + 5 ∷ [] → r.outputs ≡ client_first first k + 3 ∷ client_first first k + 4 ∷ [] → (i : ℕ) (s : Seat) → slice_get (intake (client_first first k + 2) ∷ outlet (client_first first k + 3) ∷ intake (client_first first k + 5) ∷ outlet (client_first first k + 4) ∷ []) i ≡ Some s → IsSeat rows j s
+    net_seat : (first k : ℕ) → r.inputs ≡ (client_first first k + 2) ∷ (client_first first k + 5) ∷ [] → r.outputs ≡ (client_first first k + 3) ∷ (client_first first k + 4) ∷ [] → (i : ℕ) (s : Seat) → slice_get (intake (client_first first k + 2) ∷ outlet (client_first first k + 3) ∷ intake (client_first first k + 5) ∷ outlet (client_first first k + 4) ∷ []) i ≡ Some s → IsSeat rows j s
     net_seat first k ins outs i s here = by i here
       where
         ends : (sheet scene (HostilePart r)).ends ≡ intake (client_first first k + 2) ∷ intake (client_first first k + 5) ∷ outlet (client_first first k + 3) ∷ outlet (client_first first k + 4) ∷ []
@@ -240,23 +240,23 @@ module _ (rows : List QueueRow) (n : Option NetPlace) (b : Option BlkPlace) (cas
         by (suc zero) h = subst (IsSeat rows j) (some_is h) (seated j (HostilePart r) at 1 (outlet output) (ap (λ l. slice_get l 1) ends))
         by (suc (suc m)) h = cc
 
-  seat_like : (j : ℕ) (p q : Part) → slice_get cast j ≡ Some p → IsLike n b p q → (i : ℕ) (s : Seat) → slice_get (sheet scene q).ends i ≡ Some s → IsSeat rows j s
+  seat_like : (j : ℕ) (p q : Part) → slice_get cast j ≡ Some p → IsLike rows n b p q → (i : ℕ) (s : Seat) → slice_get (sheet scene q).ends i ≡ Some s → IsSeat rows j s
   seat_like j p q at (inl (calm, e)) i s here = seated j p at i s (ap (λ z. slice_get (sheet scene z).ends i) (sym e) ∙ here)
   seat_like j p q at (inr (r, e, inl f)) i s here = net_seat j r (at ∙ ap Some e) f.net.first f.k f.rogue.inputs f.rogue.outputs i s (ap (λ z. slice_get (sheet scene z).ends i) (sym f.is) ∙ here)
   seat_like j p q at (inr (r, e, inr (inl f))) i s here = two_seat j r (at ∙ ap Some e) (f.blk.first + 5 + 2 * f.k) (f.blk.first + 4 + 2 * f.k) f.rogue.inputs f.rogue.outputs i s (ap (λ z. slice_get (sheet scene z).ends i) (sym f.is) ∙ here)
   seat_like j p q at (inr (r, e, inr (inr f))) i s here = two_seat j r (at ∙ ap Some e) f.rogue.input f.rogue.output f.rogue.inputs f.rogue.outputs i s (ap (λ z. slice_get (sheet scene z).ends i) (sym f.is) ∙ here)
 
-  module _ (parts : List Part) (all : AllZip (IsLike n b) cast parts) (calm : AllCalm parts) where
-    here_at : (k : ℕ) (p : Part) → slice_get cast k ≡ Some p → (q : Part) × (slice_get parts k ≡ Some q) × IsLike n b p q
-    here_at = like_at (IsLike n b) cast parts all
+  module _ (parts : List Part) (all : AllZip (IsLike rows n b) cast parts) (calm : AllCalm parts) where
+    here_at : (k : ℕ) (p : Part) → slice_get cast k ≡ Some p → (q : Part) × (slice_get parts k ≡ Some q) × IsLike rows n b p q
+    here_at = like_at (IsLike rows n b) cast parts all
 
-    there_at : (k : ℕ) (q : Part) → slice_get parts k ≡ Some q → (p : Part) × (slice_get cast k ≡ Some p) × IsLike n b p q
-    there_at = back_at (IsLike n b) cast parts all
+    there_at : (k : ℕ) (q : Part) → slice_get parts k ≡ Some q → (p : Part) × (slice_get cast k ≡ Some p) × IsLike rows n b p q
+    there_at = back_at (IsLike rows n b) cast parts all
 
     has_part : (p : Part) → manner_of p ≡ Calm → HasPart cast p → HasPart parts p
     has_part p is (k, at) = let x = here_at k p at in by x.0 x.1 x.2
       where
-        by : (q : Part) → slice_get parts k ≡ Some q → IsLike n b p q → HasPart parts p
+        by : (q : Part) → slice_get parts k ≡ Some q → IsLike rows n b p q → HasPart parts p
         by q q_at (inl (c, e)) = (k, q_at ∙ ap Some e)
         by q q_at (inr (r, e, f)) = absurd (let same = sym is ∙ ap manner_of e in cc)
 
@@ -267,7 +267,7 @@ module _ (rows : List QueueRow) (n : Option NetPlace) (b : Option BlkPlace) (cas
         found : (z : RoguePart) → HostilePart r ≡ HostilePart z → z ≡ r
         found z e = cc
 
-        one : (z : RoguePart) → z ≡ r → (p : Part) → slice_get parts j ≡ Some p → IsFor n b z p → HasPart parts (NetworkPart (client_at net.first k program mac (own_pools q)))
+        one : (z : RoguePart) → z ≡ r → (p : Part) → slice_get parts j ≡ Some p → IsFor rows n b z p → HasPart parts (NetworkPart (client_at net.first k program mac (own_pools q)))
         one z same p p_at (inl f) =
             let net_same : f.net ≡ net = some_is (sym f.here ∙ here) in
             let queue : client_first f.net.first f.k + 2 ≡ client_first net.first k + 2 = some_is (ap (λ (l : List ℕ). slice_get l 0) (sym f.rogue.inputs ∙ (ap (λ (y : RoguePart). y.inputs) same ∙ is.inputs))) in
@@ -280,7 +280,7 @@ module _ (rows : List QueueRow) (n : Option NetPlace) (b : Option BlkPlace) (cas
         one z same p p_at (inr (inl f)) = absurd (let twice = sym f.rogue.inputs ∙ (ap (λ (y : RoguePart). y.inputs) same ∙ is.inputs) in cc)
         one z same p p_at (inr (inr f)) = absurd (let twice = sym f.rogue.inputs ∙ (ap (λ (y : RoguePart). y.inputs) same ∙ is.inputs) in cc)
 
-        by : (p : Part) → slice_get parts j ≡ Some p → IsLike n b (HostilePart r) p → HasPart parts (NetworkPart (client_at net.first k program mac (own_pools q)))
+        by : (p : Part) → slice_get parts j ≡ Some p → IsLike rows n b (HostilePart r) p → HasPart parts (NetworkPart (client_at net.first k program mac (own_pools q)))
         by p p_at (inl (c, e)) = absurd cc
         by p p_at (inr (z, e, f)) = one z (found z e) p p_at f
 
@@ -291,7 +291,7 @@ module _ (rows : List QueueRow) (n : Option NetPlace) (b : Option BlkPlace) (cas
         found z e = cc
 
         -- a hostile client with a pool has pages, one without has none
-        one : (z : RoguePart) → z ≡ r → (p : Part) → slice_get parts j ≡ Some p → IsFor n b z p → HasPart parts (BlockPart (blk_client_at blk.first k asks q))
+        one : (z : RoguePart) → z ≡ r → (p : Part) → slice_get parts j ≡ Some p → IsFor rows n b z p → HasPart parts (BlockPart (blk_client_at blk.first k asks q))
         one z same p p_at (inl f) = absurd (let twice = sym f.rogue.inputs ∙ (ap (λ (y : RoguePart). y.inputs) same ∙ is.inputs) in cc)
         one z same p p_at (inr (inl f)) =
             let blk_same : f.blk ≡ blk = some_is (sym f.here ∙ here) in
@@ -306,7 +306,7 @@ module _ (rows : List QueueRow) (n : Option NetPlace) (b : Option BlkPlace) (cas
             let some = (blk_here blk here).0.some k q is.there in
             absurd (omega (arith, ap length none, each_counted q.buffers (λ i. record { pool = q.number; number = i; long = q.size }), some))
 
-        by : (p : Part) → slice_get parts j ≡ Some p → IsLike n b (HostilePart r) p → HasPart parts (BlockPart (blk_client_at blk.first k asks q))
+        by : (p : Part) → slice_get parts j ≡ Some p → IsLike rows n b (HostilePart r) p → HasPart parts (BlockPart (blk_client_at blk.first k asks q))
         by p p_at (inl (c, e)) = absurd cc
         by p p_at (inr (z, e, f)) = one z (found z e) p p_at f
 
@@ -314,7 +314,7 @@ module _ (rows : List QueueRow) (n : Option NetPlace) (b : Option BlkPlace) (cas
     net_back : (p : NetPart) (k : ℕ) → slice_get parts k ≡ Some (NetworkPart p) → (slice_get cast k ≡ Some (NetworkPart p)) ⊎ ((r : RoguePart) × NetFor n r (NetworkPart p))
     net_back p k at = let x = there_at k (NetworkPart p) at in by x.0 x.1 x.2
       where
-        by : (o : Part) → slice_get cast k ≡ Some o → IsLike n b o (NetworkPart p) → (slice_get cast k ≡ Some (NetworkPart p)) ⊎ ((r : RoguePart) × NetFor n r (NetworkPart p))
+        by : (o : Part) → slice_get cast k ≡ Some o → IsLike rows n b o (NetworkPart p) → (slice_get cast k ≡ Some (NetworkPart p)) ⊎ ((r : RoguePart) × NetFor n r (NetworkPart p))
         by o o_at (inl (c, e)) = inl (o_at ∙ ap Some (sym e))
         by o o_at (inr (r, e, inl f)) = inr (r, f)
         by o o_at (inr (r, e, inr (inl f))) = absurd (let same = f.is in cc)
@@ -323,7 +323,7 @@ module _ (rows : List QueueRow) (n : Option NetPlace) (b : Option BlkPlace) (cas
     send_back : (p : SendPart) (k : ℕ) → slice_get parts k ≡ Some (SendingPart p) → slice_get cast k ≡ Some (SendingPart p)
     send_back p k at = let x = there_at k (SendingPart p) at in by x.0 x.1 x.2
       where
-        by : (o : Part) → slice_get cast k ≡ Some o → IsLike n b o (SendingPart p) → slice_get cast k ≡ Some (SendingPart p)
+        by : (o : Part) → slice_get cast k ≡ Some o → IsLike rows n b o (SendingPart p) → slice_get cast k ≡ Some (SendingPart p)
         by o o_at (inl (c, e)) = o_at ∙ ap Some (sym e)
         by o o_at (inr (r, e, inl f)) = absurd (let same = f.is in cc)
         by o o_at (inr (r, e, inr (inl f))) = absurd (let same = f.is in cc)
@@ -332,7 +332,7 @@ module _ (rows : List QueueRow) (n : Option NetPlace) (b : Option BlkPlace) (cas
     blk_back : (p : BlkPart) (k : ℕ) → slice_get parts k ≡ Some (BlockPart p) → (slice_get cast k ≡ Some (BlockPart p)) ⊎ ((r : RoguePart) × BlkFor b r (BlockPart p))
     blk_back p k at = let x = there_at k (BlockPart p) at in by x.0 x.1 x.2
       where
-        by : (o : Part) → slice_get cast k ≡ Some o → IsLike n b o (BlockPart p) → (slice_get cast k ≡ Some (BlockPart p)) ⊎ ((r : RoguePart) × BlkFor b r (BlockPart p))
+        by : (o : Part) → slice_get cast k ≡ Some o → IsLike rows n b o (BlockPart p) → (slice_get cast k ≡ Some (BlockPart p)) ⊎ ((r : RoguePart) × BlkFor b r (BlockPart p))
         by o o_at (inl (c, e)) = inl (o_at ∙ ap Some (sym e))
         by o o_at (inr (r, e, inl f)) = absurd (let same = f.is in cc)
         by o o_at (inr (r, e, inr (inl f))) = inr (r, f)
@@ -426,18 +426,18 @@ module _ (rows : List QueueRow) (n : Option NetPlace) (b : Option BlkPlace) (cas
   calmed =
       let made = make cast rogues.only in
       let parts : List Part = made.0 in
-      let all : AllZip (IsLike n b) cast parts = made.1 in
-      let calm : AllCalm parts = λ k q at. (let x = back_at (IsLike n b) cast parts all k q at in calm_like x.0 q x.2) in
-      let frames = flat_like (IsLike n b) frames_of frames_like cast parts all in
-      let image = flat_like (IsLike n b) image_of image_like cast parts all in
+      let all : AllZip (IsLike rows n b) cast parts = made.1 in
+      let calm : AllCalm parts = λ k q at. (let x = back_at (IsLike rows n b) cast parts all k q at in calm_like x.0 q x.2) in
+      let frames = flat_like (IsLike rows n b) frames_of frames_like cast parts all in
+      let image = flat_like (IsLike rows n b) image_of image_like cast parts all in
       let same : scene_of parts ≡ scene = (λ i. record { frames = frames i; image = image i }) in
       record {
         parts = parts;
         calm = calm;
         scene = same;
-        seated = subst (λ z. AreSeated (sheet z) rows parts) (sym same) (λ k q at i s here. (let x = back_at (IsLike n b) cast parts all k q at in seat_like k x.0 q x.1 x.2 i s here));
+        seated = subst (λ z. AreSeated (sheet z) rows parts) (sym same) (λ k q at i s here. (let x = back_at (IsLike rows n b) cast parts all k q at in seat_like k x.0 q x.1 x.2 i s here));
         net = net_at parts all calm n refl has_net same;
         blk = blk_at parts all calm b refl has_blk same;
-        weighs = λ f. sum_like (IsLike n b) (part_weighs f) (weighs_like f) cast parts all;
-        like = like_at (IsLike n b) cast parts all;
+        weighs = λ f. sum_like (IsLike rows n b) (part_weighs f) (weighs_like f) cast parts all;
+        like = like_at (IsLike rows n b) cast parts all;
       }
