@@ -16,6 +16,7 @@ use Rattle.wire_core.specs.Queues.{Happens, end_at}
 use Rattle.play_core.specs.Manners.{Calm}
 use Rattle.play_core.specs.Moved.{moved}
 use Rattle.play_core.specs.Names.{Name, Noted, Wild, is_wild, notes_of, wild_in}
+use Rattle.play_core.proofs.Noting.{notes_none}
 use Rattle.play_core.specs.Runs.{is_runnable}
 use Rattle.play_core.proofs.Lists.{map_get, some_is}
 use Rattle.client_programs.specs.declared.rogue.Rogue.{Rogue}
@@ -34,7 +35,9 @@ use Rattle.noted_wires.specs.Noting.{NotedHappens, kept_at, last_put, notes_in}
 use Rattle.noted_wires.specs.declared.wires.NotedWires.{NotedWires}
 use Rattle.noted_wires.proofs.Lasting.{last_notes}
 use Rattle.system_core.specs.Inside.{setting_of, IsSystem}
-use Rattle.system_core.specs.Shows.{hostile_in}
+use Rattle.system_core.specs.Lawful.{IsFitted}
+use Rattle.system_core.specs.Shows.{Setting, hostile_in}
+use Rattle.system_core.specs.Systems.{HoldsBefore}
 use Rattle.system_core.specs.declared.system.System.TheInside.{Inside}
 use Rattle.system_core.proofs.Stepping.{run_flag, told}
 
@@ -80,3 +83,27 @@ may_here a i place k x at here = by (calm_or_rogue x)
     by : (manner_of (part_of x) ≡ Calm) ⊎ ((r : Rogue) × (x ≡ Kinds.Rogue r)) → MayStep (λ n. n < length a.wires.world) x
     by (inl calm) = may_is (λ n. n < length a.wires.world) x calm
     by (inr r) = subst (MayStep (λ n. n < length a.wires.world)) (sym r.1) (rogue r.0 (here ∙ ap Some r.1))
+
+-- a setting goes on to fit with more names, where there are none of a cast in which nobody is
+-- hostile
+pub refitted : (s : Setting) (ns : List Noted) → IsFitted s → (AllCalm s.cast → ns ≡ []) → IsFitted (record s { names = ns })
+refitted s ns fitted none = record {
+  scene_is = fitted.scene_is;
+  names_are = none;
+  peopled = fitted.peopled;
+  seated = fitted.seated;
+  ends = fitted.ends;
+  split = fitted.split;
+  wired = fitted.wired;
+  pooled = fitted.pooled;
+  owners = fitted.owners;
+  numbered = fitted.numbered;
+  places = fitted.places;
+}
+
+pub before_on : (s : Setting) (ns : List Noted) → HoldsBefore s → HoldsBefore (record s { names = ns })
+before_on s ns before = record { bells_hold = before.bells_hold; flows = before.flows }
+
+-- a step in which nobody is hostile adds none
+pub none_more : (s : Setting) (d : Deed) → IsFitted s → AllCalm s.cast → s.names ++ notes_of (wild_in (hostile_in s) s.rows) d ≡ []
+none_more s d fitted calm = ap₂ (λ (xs ys : List Noted). xs ++ ys) (fitted.names_are calm) (notes_none (wild_in (hostile_in s) s.rows) d (none_wild s.cast calm s.rows))

@@ -300,10 +300,10 @@ module _ (history : History) (rows : List QueueRow) (names : List Noted) (w v : 
 
   -- with the name of what it put, where names are kept
   abbrev pub names' : List Noted
-  names' = names ++ notes_of wild deed
+  names' = names ++ notes_of wild (record { event = e; body = st.body })
 
   noted' : AreNoted wild names' passed'
-  unfolding passed'
+  unfolding passed' deed
   noted' = notes_keep wild names old.passed deed old.noted
 
   -- nothing comes out of turn after it

@@ -1,5 +1,9 @@
-use Rattle.std.proofs.Common.{◌∙◌, ap, refl, [], map, sym, arith}
+use Rattle.std.proofs.Common.{List, ◌∙◌, ap, ap₂, refl, [], map, arith}
+use Rattle.wire_core.specs.declared.names.QueueRow.{QueueRow}
+use Rattle.play_core.specs.Names.{wild_in}
 use Rattle.actor_set.specs.Actors.{part_of}
+use Rattle.actor_set.specs.declared.actor.Actor.{Actor}
+use Rattle.actor_set.specs.Laws.Kinds.{hostiles}
 use Rattle.system_core.specs.States.{history_of, begun, nobody}
 use Rattle.system_core.specs.Shows.{runs}
 use Rattle.system_core.proofs.Fitting.{fitted_place}
@@ -19,8 +23,10 @@ invariant_of-system c =
       rows_hold = rw (c.new-journal.ensures.items, c.new-names.ensures.items) (rows_now (map part_of c.args.actors.items) (history_of c.args.rows.items c.args.past.value.items) c.args.rows.items [] c.args.world c.args.actors.items [] c.requires.holds refl, tt);
       names_tell = rw (c.new-journal.ensures.items, c.new-names.ensures.items) (tells_now (history_of c.args.rows.items c.args.past.value.items) c.args.rows.items [] c.args.world c.args.actors.items [] c.requires.holds c.args.pools.items (fitted_place s c.requires.fitted), tt);
       brisk = rw c.new-journal.ensures.items ((λ a calm r n. omega arith), tt);
-      kept = ?;
+      kept = λ n. c.in_ok-kept.ensures n ∙ ap₂ (λ (xs : List Actor) (rs : List QueueRow). wild_in (hostiles (map part_of xs)) rs n) c.deref-4.ensures.value c.deref-3.ensures.value;
       none_last = refl;
-      running = ?;
+      running = rw (c.new-journal.ensures.items, c.new-names.ensures.items) (c.in_ok-running.ensures.list
+          ∙ (ap (λ rs. runs (begun (history_of rs c.args.past.value.items) rs [] c.deref-2.result.now nobody nobody nobody) []) c.deref.ensures.value
+          ∙ ap (λ xs. runs (begun (history_of c.args.rows.items c.args.past.value.items) c.args.rows.items [] xs nobody nobody nobody) []) c.deref-2.ensures.value));
       room = rw c.deref-2.ensures.value at c.in_ok-running.ensures.room;
     }
