@@ -42,7 +42,7 @@ use Rattle.system_core.specs.declared.system.System.TheInside.{Inside}
 use Rattle.system_core.proofs.Stepping.{run_flag, told}
 
 -- a step over queues of which names are kept is one over these queues
-pub plain_step : (w v : NotedWires) (x x' : Actor) (e : Event) → Stepped ActorStandsFor NotedHappens w v x x' e → Stepped ActorStandsFor Happens w.world v.world x x' e
+abbrev pub plain_step : (w v : NotedWires) (x x' : Actor) (e : Event) → Stepped ActorStandsFor NotedHappens w v x x' e → Stepped ActorStandsFor Happens w.world v.world x x' e
 plain_step w v x x' e st = record { body = st.body; happened = st.happened.happened; kept = st.kept }
 
 -- the last name after it is the one that it adds

@@ -137,13 +137,14 @@ returns-clause-ok c =
     let nm : c.keep_name.new.names.items ≡ c.self.inside.names.items ++ notes = c.keep_name.ensures.names ∙ (ap (λ xs. xs ++ notes_in c.in_ok-event.event.queue.0 c.step.new.wires.last) c.in_ok-make_room.ensures.names ∙ names_then c.self.inside.names.items wild c.self.inside.wires c.step.new.wires c.index_mut-actor.result.now c.step.new.self c.in_ok-event.event st c.self.invariant.kept c.self.invariant.none_last) in
     let later : Setting = record (setting_of c.self.inside) { names = c.keep_name.new.names.items } in
     let stays = ap (λ cast. record { history = history_of c.self.inside.rows.items c.self.inside.past.value.items; rows = c.self.inside.rows.items; pools = c.self.inside.pools.items; cast = cast; scene = scene_of cast; names = c.keep_name.new.names.items; net = c.self.inside.net; serial = c.self.inside.serial; blk = c.self.inside.blk }) s.cast_is in
+    let after : Setting = record (begun (history_of c.self.inside.rows.items c.self.inside.past.value.items) c.self.inside.rows.items c.self.inside.pools.items (slice_set c.self.inside.actors.items c.at-number.result c.step.new.self) c.self.inside.net c.self.inside.serial c.self.inside.blk) { names = c.keep_name.new.names.items } in
     let keeps : KeepsSetting (setting_of c.self.inside) later = record { names = (notes, sym nm); stays = refl } in
     record {
       actor = c.at-number.result;
       there = subst (λ (s : Shown). slice_get (runnable_now s) c.args.place ≡ Some c.at-number.result) c.self.view_is (rw (← c.self.invariant.running) c.at-number.ensures);
       appends = record {
         event = c.in_ok-event.event;
-        setting = subst (λ (z : Shown). KeepsSetting z.setting _) c.self.view_is (subst (KeepsSetting (setting_of c.self.inside)) (sym stays) keeps);
+        setting = subst (λ (z : Shown). KeepsSetting z.setting after) c.self.view_is (subst (KeepsSetting (setting_of c.self.inside)) (sym stays) keeps);
         journal = c.push_reserved.ensures.items ∙ rw (c.in_ok-make_room.ensures.journal, ap (λ (s : Shown). s.journal) c.self.view_is) refl;
       };
     }
