@@ -14,6 +14,7 @@ pub mod Keeping
 pub mod Recording
 pub mod Lining
 pub mod Counting
+pub mod Fewness
 pub mod Hearing
 pub mod Scripts
 pub mod Casting

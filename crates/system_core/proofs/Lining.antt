@@ -3,7 +3,7 @@ use Rattle.std.proofs.Common.{◌≡◌, ◌-◌, ◌^◌, ◌≤◌, ℕ, suc, 
 use Rattle.std.proofs.lemmas.List.Sums.{sum_by-cons}
 use Rattle.wire_core.specs.Journal.{EachMoment, start_history}
 use Rattle.wire_core.proofs.BellTheorem.{queues_flow}
-use Rattle.buffer_kit.specs.Conserving.{Count, counted, the_page, of_other_length}
+use Rattle.buffer_kit.specs.Conserving.{Count, counted, of_pool, the_page, of_other_length}
 use Rattle.owner_law.specs.Owners.{Table, replay}
 use Rattle.owner_law.specs.Keeping.{start_table}
 use Rattle.cast_law.specs.PoolLines.PoolLines.{table_lines, counted_lines}
@@ -14,11 +14,12 @@ use Rattle.actor_set.specs.Laws.Kinds.{AllCalm, scene_of}
 use Rattle.actor_set.specs.Laws.Turning.{InTurn}
 use Rattle.play_core.specs.Moved.{moved}
 use Rattle.play_core.specs.Rests.Showing.{HaveItems}
-use Rattle.wire_core.specs.Queues.{queue_at}
+use Rattle.wire_core.specs.Queues.{end_at, queue_at}
+use Rattle.actor_set.proofs.LawsLemmas.Starts.{fits_whole}
 use Rattle.wired_law.specs.Wiring.{HasNoNetwork, HasNoBlock}
 use Rattle.cast_law.specs.Pages.Paging.{pools_weigh, shown_bodies}
 use Rattle.cast_law.specs.Pools.Holders.{holders_of}
-use Rattle.cast_law.specs.Pools.Places.{PoolPlace, IsPlaced, HasPools, ArePooled, cast_naming}
+use Rattle.cast_law.specs.Pools.Places.{PoolPlace, IsPlaced, HasPools, ArePooled, cast_naming, place_sizes}
 use Rattle.cast_law.specs.Pools.Pooling.{keepers_at, AddUp, AreAtPlay, AreOverQueues, BeginsWith, AreKindly}
 use Rattle.cast_law.proofs.PoolsLemmas.Calmed.{Calmed, calmed, no_rogues}
 use Rattle.cast_law.proofs.PoolsLemmas.Moments.{each_kindly}
@@ -29,7 +30,9 @@ use Rattle.system_core.specs.Shows.{hostile_in}
 use Rattle.system_core.proofs.Telling.{each_plain}
 use Rattle.system_core.specs.States.{bad_in}
 use Rattle.system_core.specs.Inside.{setting_of, shown_of, IsSystem}
+use Rattle.system_core.specs.Asking.{HoldNoMore}
 use Rattle.system_core.specs.Lawful.{TellsBuffers}
+use Rattle.system_core.proofs.Fewness.{pool_weight, shown_weight}
 use Rattle.system_core.specs.declared.system.System.TheInside.{Inside}
 use Rattle.system_core.proofs.RunsNow.{calm_turn, items_here}
 
@@ -71,6 +74,18 @@ module _ (a : Inside) (i : IsSystem a) where
       let c : Calmed a.rows.items place.net place.blk cast = calmed a.rows.items place.net place.blk cast pooled.1.net pooled.1.blk pooled.1.rogues i.fitted.seated in
       let placed : IsPlaced a.rows.items place c.parts = record { net = c.net; blk = c.blk; rogues = no_rogues a.rows.items place.net place.blk c.parts c.calm } in
       pools_few a.rows.items a.pools.items c.parts c.calm (place, placed, pooled.2) c.seated i.fitted.numbered
+
+  -- of each pool no more buffers are shown than it has
+  pub no_more : HoldNoMore a.wires.world (holders_of a.actors.items) a.pools.items
+  no_more k row at =
+      let pooled : ArePooled a.rows.items a.pools.items cast = i.fitted.pooled in
+      let place : PoolPlace = pooled.0 in
+      let c : Calmed a.rows.items place.net place.blk cast = calmed a.rows.items place.net place.blk cast pooled.1.net pooled.1.blk pooled.1.rogues i.fitted.seated in
+      let shown = shown_weight k i.holds.passed a.wires.world a.actors.items (λ j x there. fits_whole (end_at a.wires.world) x (i.holds.fits j x there)) in
+      let all = cast_whole a.rows.items a.actors.items i.holds.passed a.wires.world over (of_pool (record { 0 = k })) in
+      let few = pool_weight k a.rows.items a.pools.items place cast c pooled.2 in
+      let size : place_sizes place (0 + k) ≡ row.buffers = pooled.2.sized k row at in
+      omega (arith, shown, all, few, ap (place_sizes place) (let e : 0 + k ≡ k = omega arith in e), size)
 
   -- where nobody is hostile
   module _ (calm : AllCalm cast) where

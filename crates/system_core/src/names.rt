@@ -26,11 +26,12 @@ fn is_hostile(actors: &[Actor], number: ActorId) -> bool
 fn has_hostile(actors: &[Actor]) -> bool
     ensures { result ≡ false → AllCalm (map part_of actors.now) }
 {
-    let mut some = false;
     for actor in actors {
-        some = some || actor.is_hostile();
+        if actor.is_hostile() {
+            return true;
+        }
     }
-    some
+    false
 }
 
 // Whether the entries of queues of this kind may carry pages.

@@ -51,13 +51,13 @@ impl System {
     pub fn take_apart(self) -> Result<Parts, Memory>
         requires anew { BeginsAnew self.setting }
         requires unplayed { self.journal ≡ [] }
-        ensures apart { AllCalm self.setting.cast → IfOk result
-            (λ p. AreApart self.setting.rows p.rings.items (map apart_of p.actors.items)) }
+        ensures apart { IfOk result (λ p. AllCalm self.setting.cast
+            → AreApart self.setting.rows p.rings.items (map apart_of p.actors.items)) }
         ensures nothing { IfOk result (λ p. HaveNothing (map apart_of p.actors.items)) }
         ensures opened { IfOk result (λ p. AreAsOpened self.setting.rows
             (map apart_of p.actors.items)) }
-        ensures cast { AllCalm self.setting.cast → IfOk result
-            (λ p. map (λ (x : Kept). part_of x.0.actor) p.actors.items ≡ self.setting.cast) }
+        ensures cast { IfOk result (λ p. AllCalm self.setting.cast
+            → map (λ (x : Kept). part_of x.0.actor) p.actors.items ≡ self.setting.cast) }
     {
         let System {
             alloc,

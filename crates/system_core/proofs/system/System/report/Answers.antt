@@ -12,7 +12,7 @@ use Rattle.system_core.specs.Inside.{shown_of}
 use Rattle.system_core.specs.Plays.{runnable_now}
 use Rattle.system_core.specs.Reports.{report_of}
 use Rattle.system_core.specs.States.{bad_in, frames_from, record_from, replies_from}
-use Rattle.system_core.proofs.Lining.{add_up, few_pools}
+use Rattle.system_core.proofs.Lining.{few_pools, no_more}
 use Rattle.system_core.proofs.system.System.report.Goals as goal
 
 pub lines-requires-clause-whole : goal.lines-requires-clause-whole
@@ -22,7 +22,7 @@ pub lines-requires-clause-few : goal.lines-requires-clause-few
 lines-requires-clause-few c = rw c.deref-6.ensures.value (few_pools c.self.inside c.self.invariant)
 
 pub lines-requires-clause-all : goal.lines-requires-clause-all
-lines-requires-clause-all c = rw (c.deref-6.ensures.value, c.deref-7.ensures.value) (add_up c.self.inside c.self.invariant)
+lines-requires-clause-all c = rw (c.deref-6.ensures.value, c.deref-7.ensures.value) (no_more c.self.inside c.self.invariant)
 
 -- each of its parts is what the system shows
 pub returns : goal.returns

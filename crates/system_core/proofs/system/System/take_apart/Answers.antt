@@ -18,11 +18,11 @@ pub open_apart-requires-clause-peers : goal.open_apart-requires-clause-peers
 open_apart-requires-clause-peers c = rw c.deref.ensures.value c.self.invariant.holds.peers
 
 pub returns-clause-apart : goal.returns-clause-apart
-returns-clause-apart c calm =
+returns-clause-apart c =
     let anew = subst (λ (s : Shown). BeginsAnew s.setting) (sym c.self.view_is) c.requires.anew in
     let none = ap (λ (s : Shown). s.journal) c.self.view_is ∙ c.requires.unplayed in
-    let ready : AreReady c.deref.result.now c.self.inside.actors.items = rw c.deref.ensures.value (are_ready c.self.inside c.self.invariant anew none (subst (λ (s : Shown). AllCalm s.setting.cast) (sym c.self.view_is) calm)) in
-    IfOk-weaker c.open_apart.result _ _ (λ p opened. subst (λ (rows : List QueueRow). AreApart rows p.rings.items (map apart_of p.actors.items)) (c.deref.ensures.value ∙ ap (λ (s : Shown). s.setting.rows) c.self.view_is) (c.opened_law.ensures.apart c.deref.result.now c.self.inside.actors.items p.rings.items p.actors.items opened ready)) c.open_apart.ensures
+    let ready : AllCalm c.self.now.setting.cast → AreReady c.deref.result.now c.self.inside.actors.items = λ calm. rw c.deref.ensures.value (are_ready c.self.inside c.self.invariant anew none (subst (λ (s : Shown). AllCalm s.setting.cast) (sym c.self.view_is) calm)) in
+    IfOk-weaker c.open_apart.result _ _ (λ p opened calm. subst (λ (rows : List QueueRow). AreApart rows p.rings.items (map apart_of p.actors.items)) (c.deref.ensures.value ∙ ap (λ (s : Shown). s.setting.rows) c.self.view_is) (c.opened_law.ensures.apart c.deref.result.now c.self.inside.actors.items p.rings.items p.actors.items opened (ready calm))) c.open_apart.ensures
 
 pub returns-clause-nothing : goal.returns-clause-nothing
 returns-clause-nothing c = IfOk-weaker c.open_apart.result _ _ (λ p opened. c.opened_law.ensures.nothing c.deref.result.now c.self.inside.actors.items p.rings.items p.actors.items opened) c.open_apart.ensures
@@ -31,4 +31,4 @@ pub returns-clause-opened : goal.returns-clause-opened
 returns-clause-opened c = IfOk-weaker c.open_apart.result _ _ (λ p opened. subst (λ (rows : List QueueRow). AreAsOpened rows (map apart_of p.actors.items)) (c.deref.ensures.value ∙ ap (λ (s : Shown). s.setting.rows) c.self.view_is) (c.opened_law.ensures.opened c.deref.result.now c.self.inside.actors.items p.rings.items p.actors.items opened)) c.open_apart.ensures
 
 pub returns-clause-cast : goal.returns-clause-cast
-returns-clause-cast c calm = IfOk-weaker c.open_apart.result _ _ (λ p opened. c.opened_law.ensures.cast c.deref.result.now c.self.inside.actors.items p.rings.items p.actors.items opened ∙ (all_anew c.self.inside.actors.items (subst (λ (s : Shown). AllCalm s.setting.cast) (sym c.self.view_is) calm) ∙ ap (λ (s : Shown). s.setting.cast) c.self.view_is)) c.open_apart.ensures
+returns-clause-cast c = IfOk-weaker c.open_apart.result _ _ (λ p opened calm. c.opened_law.ensures.cast c.deref.result.now c.self.inside.actors.items p.rings.items p.actors.items opened ∙ (all_anew c.self.inside.actors.items (subst (λ (s : Shown). AllCalm s.setting.cast) (sym c.self.view_is) calm) ∙ ap (λ (s : Shown). s.setting.cast) c.self.view_is)) c.open_apart.ensures
