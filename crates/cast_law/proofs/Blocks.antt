@@ -1,5 +1,5 @@
 -- The cast of a plan with a block class has the whole class where the layout places it.
-use Rattle.std.proofs.Common.{◌≡◌, ◌⊎◌, ⊎_elim, ◌+◌, ◌*◌, ◌<◌, ◌≤◌, ◌++◌, ℕ, suc, cond, Option, Some, None, unwrap_or, inl, inr, codes, List, [], ◌∷◌, length, map, slice_get, refl, sym, ap, ◌∙◌, subst, arith, eq-eqb}
+use Rattle.std.proofs.Common.{◌≡◌, ◌⊎◌, ⊎_elim, ◌+◌, ◌*◌, ◌<◌, ◌≤◌, ◌++◌, ℕ, suc, false, cond, Option, Some, None, unwrap_or, inl, inr, codes, List, [], ◌∷◌, length, map, slice_get, refl, sym, ap, ◌∙◌, subst, arith, eq-eqb}
 use Rattle.std.specs.Prelude.{MatchOption}
 use Rattle.std.specs.List.{All}
 use Rattle.std.specs.Option.{option_map_or, IsSomeAnd}
@@ -42,7 +42,7 @@ use Rattle.actor_set.specs.Parts.{Part, BlockPart}
 use Rattle.actor_set.specs.Actors.{part_of}
 use Rattle.actor_set.specs.declared.actor.Actor.{Actor}
 use Rattle.layout_laws.specs.Jobs.Jobs.{Job, EthDevice, EthDriver, NetReceiver, NetSender, NetCopier, NetClient, UartDevice, UartDriver, SerialReceiver, SerialSender, SerialClient, DiskDevice, DiskDriver, BlkVirtualiser, BlkClient, HasJob}
-use Rattle.cast_core.specs.Casts.{client_pool, blk_place, calm_part, AreCalmCast}
+use Rattle.cast_core.specs.Casts.{client_pool, blk_place, calm_part, job_part, AreCast}
 use Rattle.expect_core.specs.Expected.{client_asks, client_entry}
 use Rattle.cast_core.specs.Sources.{pool_at, first_blk_pool}
 use Rattle.cast_core.proofs.Listing.{value_count, value_at, value_is}
@@ -54,7 +54,10 @@ use Rattle.layout_laws.proofs.SeatsLemmas.Naming.{blk_named}
 use Rattle.layout_laws.proofs.SeatsLemmas.Seats.{has_seat}
 use Rattle.wired_law.specs.Wiring.{HasPart, IsOfBlock, HasBlk as HasBlock, HasNoBlock}
 use Rattle.cast_law.proofs.Numbers.{askers_counted}
+use Rattle.cast_law.proofs.Calming.{calm_blk, producer_calm, wild_by}
 use Rattle.cast_law.proofs.Wired.{part_at, job_of, image_there}
+use Rattle.actor_set.specs.Laws.Kinds.{hostiles}
+use Rattle.play_core.specs.Names.{carries_pages, wild_in}
 
 -- what a line of a trace asks has a size that a buffer takes
 ask_sized : (code : Code) (a : Ask) → HasForm code a → IsSized code a
@@ -79,7 +82,7 @@ pools_before plan = go plan.net
         let one : length (net_pools plan net) ≡ suc (length (each_client (net_client_pools plan) 0 net.client)) = refl in
         omega (arith, each, one)
 
-module _ (plan : Plan) (trace : Trace) (actors : List Actor) (valid : Valid plan) (made : AreCalmCast plan trace actors) (read : IsReadFor plan trace) (blk : Blk) (is : plan.blk ≡ Some blk) where
+module _ (plan : Plan) (trace : Trace) (actors : List Actor) (valid : Valid plan) (made : AreCast plan trace actors) (read : IsReadFor plan trace) (blk : Blk) (is : plan.blk ≡ Some blk) where
   abbrev cast : List Part
   cast = map part_of actors
 
@@ -101,7 +104,7 @@ module _ (plan : Plan) (trace : Trace) (actors : List Actor) (valid : Valid plan
   shapes : HasShapes plan trace
   shapes = shapes-read plan trace read
 
-  at : (job : Job) (k : ℕ) → HasJob plan job k → slice_get cast k ≡ calm_part plan trace job
+  at : (job : Job) (k : ℕ) → HasJob plan job k → slice_get cast k ≡ job_part plan trace job
   at job k has = part_at plan trace actors valid made job k has
 
   pub asks_many : length place.asks ≡ length place.entries
@@ -119,14 +122,18 @@ module _ (plan : Plan) (trace : Trace) (actors : List Actor) (valid : Valid plan
   pub virt_there : HasPart cast (BlockPart (virt_at place))
   virt_there = ((actor_named plan blk.virt).0, at BlkVirtualiser (actor_named plan blk.virt).0 named.virtualiser)
 
-  pub client_there : (k entry : ℕ) (asks : List Ask) (pool : PoolAt) → IsBlkClientOf place k entry asks pool → HasPart cast (BlockPart (blk_client_at place.first k asks pool))
-  client_there k entry asks pool of =
+  pub client_there : (k entry : ℕ) (asks : List Ask) (pool : PoolAt) → IsBlkClientOf place k entry asks pool → wild_in (hostiles cast) (queues_of plan) (place.first + 4 + 2 * k) ≡ false → HasPart cast (BlockPart (blk_client_at place.first k asks pool))
+  client_there k entry asks pool of calm =
       let a = value_is count (client_asks trace) k asks of.has_asks in
       let p = value_is count (client_pool plan) k pool of.has_pool in
       let c = client_of k a.0 in
       let same : calm_part plan trace (BlkClient k) ≡ Some (BlockPart (blk_client_at place.first k asks pool)) =
       ap (λ xs. Some (BlockPart (blk_client_at place.first k xs (client_pool plan k)))) (sym a.1) ∙ ap (λ q. Some (BlockPart (blk_client_at place.first k asks q))) (sym p.1) in
-      ((actor_named plan c.0.pd).0, at (BlkClient k) (actor_named plan c.0.pd).0 (named.client k c.0 c.1) ∙ same)
+      let who = (actor_named plan c.0.pd).0 in
+      let has = named.client k c.0 c.1 in
+      let s = has_seat plan (BlkClient k) who has 1 (outlet (place.first + 4 + 2 * k)) refl in
+      let friendly : hostiles cast s.0.producer.0 ≡ false = producer_calm (hostiles cast s.0.producer.0) (hostiles cast s.0.consumer.0) (sym (wild_by (hostiles cast) (queues_of plan) (place.first + 4 + 2 * k) s.0 s.1 (ap carries_pages s.3)) ∙ calm) in
+      (who, calm_blk plan trace cast k who (at (BlkClient k) who has) (subst (λ m. hostiles cast m ≡ false) s.2 friendly) ∙ same)
 
   block_is : {p q : BlkPart} → Some (BlockPart p) ≡ Some (BlockPart q) → q ≡ p
   block_is e = cc
@@ -156,7 +163,7 @@ module _ (plan : Plan) (trace : Trace) (actors : List Actor) (valid : Valid plan
       inr (inr (inr (c, client_entry plan c, client_asks trace c, client_pool plan c, who, block_is e)))
 
   pub only_these : (k : ℕ) (q : BlkPart) → slice_get cast k ≡ Some (BlockPart q) → IsOfBlock place q
-  only_these k q there = let one = job_of plan trace actors valid made k (BlockPart q) there in one_of one.0 q one.2 (job_is_of plan one.0 k one.1)
+  only_these k q there = let one = job_of plan trace actors valid made k (BlockPart q) there (λ r e. cc) in one_of one.0 q one.2 (job_is_of plan one.0 k one.1)
 
   -- the virtualiser's queue to the driver carries requests
   pub requests_there : (row : QueueRow) × (slice_get (queues_of plan) (place.first + 2) ≡ Some row) × (row.kind ≡ Kind.Req)
@@ -232,7 +239,7 @@ module _ (plan : Plan) (trace : Trace) (actors : List Actor) (valid : Valid plan
     disk = disk_there;
     driver = driver_there;
     virt = virt_there;
-    client = λ k entry asks pool of calm. client_there k entry asks pool of;
+    client = client_there;
     only = only_these;
     requests = requests_there;
     some = some_buffers;
@@ -262,9 +269,9 @@ blk_job plan trace DiskDriver q e of = of
 blk_job plan trace BlkVirtualiser q e of = of
 blk_job plan trace (BlkClient c) q e of = of.0
 
-pub no_block : (plan : Plan) (trace : Trace) (actors : List Actor) → Valid plan → AreCalmCast plan trace actors → plan.blk ≡ None → HasNoBlock (map part_of actors)
+pub no_block : (plan : Plan) (trace : Trace) (actors : List Actor) → Valid plan → AreCast plan trace actors → plan.blk ≡ None → HasNoBlock (map part_of actors)
 no_block plan trace actors valid made none k q at =
-    let one = job_of plan trace actors valid made k (BlockPart q) at in
+    let one = job_of plan trace actors valid made k (BlockPart q) at (λ r e. cc) in
     let has = blk_job plan trace one.0 q one.2 (job_is_of plan one.0 k one.1) in
     none_there has
   where

@@ -26,7 +26,7 @@ use Rattle.blk_quiet.proofs.PoolsLemmas.Naming.{sharer_from}
 use Rattle.layout_laws.proofs.SeatsLemmas.Counts.{each_count}
 use Rattle.actor_set.specs.Actors.{part_of}
 use Rattle.actor_set.specs.declared.actor.Actor.{Actor}
-use Rattle.cast_core.specs.Casts.{client_pools, client_pool, net_place, blk_place, AreCalmCast}
+use Rattle.cast_core.specs.Casts.{client_pools, client_pool, net_place, blk_place, AreCast}
 use Rattle.cast_core.specs.Making.{HasPool}
 use Rattle.cast_core.specs.Sources.{pool_at, first_blk_pool}
 use Rattle.cast_core.proofs.Blocks.{block_size}
@@ -34,8 +34,7 @@ use Rattle.cast_core.proofs.Listing.{value_is, value_count}
 use Rattle.cast_core.proofs.Rooms.{pools_apart, blk_size, has_blk_pools}
 use Rattle.cast_law.specs.Pools.Places.{HasNetAt, HasBlkAt, IsPlaced, HasPools, ArePooled, pools_first, pools_behind, place_pools}
 use Rattle.cast_law.specs.Places.{pool_place}
-use Rattle.cast_law.proofs.Calming.{all_calm}
-use Rattle.cast_law.proofs.PoolsLemmas.Calmed.{no_rogues}
+use Rattle.cast_law.proofs.Rogued.{rogues_are}
 use Rattle.cast_law.proofs.Blocks.{pools_before, no_block}
 use Rattle.cast_law.proofs.Joined.{whole_network, whole_block}
 use Rattle.cast_law.proofs.Wired.{no_network}
@@ -241,8 +240,8 @@ module _ (plan : Plan) (trace : Trace) where
         }
 
     -- the classes with pools stand at the plan's place
-    pub placed : (actors : List Actor) → IsReadFor plan trace → AreCalmCast plan trace actors → IsPlaced (queues_of plan) (pool_place plan trace) (map part_of actors)
-    placed actors read cast = record { net = first plan.net refl; blk = behind plan.blk refl; rogues = no_rogues (queues_of plan) (pool_place plan trace).net (pool_place plan trace).blk (map part_of actors) (all_calm plan trace actors cast) }
+    pub placed : (actors : List Actor) → IsReadFor plan trace → AreCast plan trace actors → IsPlaced (queues_of plan) (pool_place plan trace) (map part_of actors)
+    placed actors read cast = record { net = first plan.net refl; blk = behind plan.blk refl; rogues = rogues_are plan trace actors valid read cast }
       where
         first : (n : Option Net) → plan.net ≡ n → HasNetAt (queues_of plan) (option_map (λ net. net_place plan trace) n) (map part_of actors)
         first None none = no_network plan trace actors valid cast none
@@ -252,5 +251,5 @@ module _ (plan : Plan) (trace : Trace) where
         behind None none = no_block plan trace actors valid cast none
         behind (Some blk) is = (whole_block plan trace actors valid read cast blk is, apart_pools blk is)
 
-    pub are_pooled : (actors : List Actor) → IsReadFor plan trace → AreCalmCast plan trace actors → ArePooled (queues_of plan) (pools_of plan) (map part_of actors)
+    pub are_pooled : (actors : List Actor) → IsReadFor plan trace → AreCast plan trace actors → ArePooled (queues_of plan) (pools_of plan) (map part_of actors)
     are_pooled actors read cast = (pool_place plan trace, placed actors read cast, pooled)

@@ -1,6 +1,6 @@
 -- The actors of a plan are wired: none is of the network, or they are the whole network at its
 -- place.
-use Rattle.std.proofs.Common.{◌≡◌, ◌⊎◌, ◌+◌, ◌*◌, ◌%◌, ◌==◌, ◌&&◌, ◌<◌, ◌≤◌, ◌++◌, ℕ, zero, suc, Bool, true, false, if◌then◌else◌, Option, Some, None, unwrap_or, inl, inr, List, [], ◌∷◌, length, map, flat_map, slice_get, refl, sym, ap, ap₂, ◌∙◌, subst, arith}
+use Rattle.std.proofs.Common.{◌≡◌, ◌⊎◌, ◌+◌, ◌*◌, ◌%◌, ◌==◌, ◌&&◌, ◌||◌, ◌<◌, ◌≤◌, ◌++◌, ℕ, zero, suc, Bool, true, false, if◌then◌else◌, Option, Some, None, unwrap_or, inl, inr, List, [], ◌∷◌, length, map, flat_map, slice_get, refl, sym, ap, ap₂, ◌∙◌, subst, arith}
 use Rattle.std.specs.List.{All}
 use Rattle.std.specs.Option.{option_map_or}
 use Rattle.std.proofs.lemmas.List.{append-nil}
@@ -8,7 +8,7 @@ use Rattle.frame_core.specs.declared.mac.Mac.{Mac}
 use Rattle.frame_core.specs.Macs.{mac_of, mac_bytes, is_mac_text, byte_at}
 use Rattle.wire_core.specs.declared.names.PoolRow.{PoolRow}
 use Rattle.play_core.specs.Sheets.{Scene}
-use Rattle.play_core.proofs.Lists.{some_is, map_get, map_from, there_is}
+use Rattle.play_core.proofs.Lists.{some_is, map_get, map_from, there_below, there_is}
 use Rattle.sdf_plan.specs.declared.plan.Plan.{Plan}
 use Rattle.sdf_plan.specs.declared.plan.Net.{Net}
 use Rattle.sdf_plan.specs.declared.plan.NetClient.{NetClient as NetClientKeys}
@@ -33,24 +33,27 @@ use Rattle.net_law.specs.Parts.Parts.{NetPart}
 use Rattle.net_law.specs.Parts.Numbers.{device_at, client_at, client_first}
 use Rattle.net_law.proofs.PartsLemmas.Items.{all_at}
 use Rattle.net_law.specs.TxParts.Parts.{SendPart}
-use Rattle.net_law.specs.TxParts.Numbers.{NetPlace, own_pools}
+use Rattle.net_law.specs.TxParts.Numbers.{NetPlace, own_pools, sender_at}
 use Rattle.net_quiet.specs.TxCast.Casting.{AreFrames, IsClientOf}
 use Rattle.blk_law.specs.Sheets.Numbers.{disk_at}
-use Rattle.actor_set.specs.Parts.{Part, NetworkPart, SendingPart, BlockPart}
+use Rattle.actor_set.specs.Parts.{Part, RoguePart, NetworkPart, SendingPart, BlockPart, HostilePart}
 use Rattle.actor_set.specs.Actors.{part_of}
 use Rattle.actor_set.specs.declared.actor.Actor.{Actor}
-use Rattle.actor_set.specs.Laws.Kinds.{frames_of, image_of, scene_of}
-use Rattle.actor_set.proofs.LawsLemmas.Told.{none_wild}
-use Rattle.cast_law.proofs.Calming.{all_calm}
+use Rattle.actor_set.specs.Laws.Kinds.{frames_of, hostiles, image_of, scene_of}
+use Rattle.play_core.specs.Names.{carries_pages, wild_in}
+use Rattle.play_core.specs.Wants.{intake, outlet}
+use Rattle.wire_core.specs.declared.names.QueueRow.{QueueRow}
+use Rattle.cast_law.proofs.Calming.{calm_net, hostile_there, job_view, wild_by}
 use Rattle.wired_law.specs.Wiring.{HasWhole, HasNoNetwork, IsOfNetwork}
 use Rattle.layout_laws.specs.Jobs.Jobs.{Job, EthDevice, EthDriver, NetReceiver, NetSender, NetCopier, NetClient, UartDevice, UartDriver, SerialReceiver, SerialSender, SerialClient, DiskDevice, DiskDriver, BlkVirtualiser, BlkClient, HasJob}
 use Rattle.layout_laws.proofs.JobsLemmas.Having.{one_actor, same_job, job_below}
-use Rattle.layout_laws.specs.Seats.Ends.{HasNet, HasBlk as HasBlkClass, IsOf, net_count}
+use Rattle.layout_laws.specs.Seats.Ends.{HasNet, HasBlk as HasBlkClass, IsOf, client_queue, ends_from, net_count, send_ends}
+use Rattle.layout_laws.proofs.SeatsLemmas.Seats.{has_seat}
 use Rattle.layout_laws.specs.Seats.Named.{AreNetNamed}
 use Rattle.layout_laws.proofs.SeatsLemmas.Having.{job_is_of}
 use Rattle.layout_laws.proofs.SeatsLemmas.Carrying.{net_kinds}
 use Rattle.layout_laws.proofs.SeatsLemmas.Naming.{net_named, blk_named}
-use Rattle.cast_core.specs.Casts.{client_pools, net_place, blk_place, calm_part, scene_for, AreCalmCast}
+use Rattle.cast_core.specs.Casts.{client_pools, net_place, blk_place, calm_part, job_part, scene_for, AreCast}
 use Rattle.cast_core.specs.Sources.{first_blk_pool, pool_at, no_mac, client_mac, client_kind, client_program}
 use Rattle.cast_core.proofs.Joining.{frames_few}
 use Rattle.cast_core.proofs.Rooms.{net_size}
@@ -88,24 +91,45 @@ script_is Programs.Sink sent script e = absurd cc
 script_is Programs.Source sent script e = cc
 script_is Programs.Echo sent script e = absurd cc
 
-module _ (plan : Plan) (trace : Trace) (actors : List Actor) (valid : Valid plan) (made : AreCalmCast plan trace actors) where
+or_false : (b : Bool) → (b || false) ≡ b
+or_false true = refl
+or_false false = refl
+
+-- the ends of the sending virtualiser at the queues of a client stand side by side
+sends_among : (from count c : ℕ) → c < count → (i : ℕ) × (slice_get (ends_from send_ends from count) i ≡ Some (intake (client_queue (from + c) + 4))) × (slice_get (ends_from send_ends from count) (suc i) ≡ Some (outlet (client_queue (from + c) + 5)))
+sends_among from zero c lt = absurd (omega (arith, lt))
+sends_among from (suc count) zero lt = let e : from ≡ from + 0 = omega arith in (0, ap (λ n. Some (intake (client_queue n + 4))) e, ap (λ n. Some (outlet (client_queue n + 5))) e)
+sends_among from (suc count) (suc c) lt =
+    let later = sends_among (from + 1) count c (omega (arith, lt)) in
+    let e : from + 1 + c ≡ from + suc c = omega arith in
+    (suc (suc later.0), later.1 ∙ ap (λ n. Some (intake (client_queue n + 4))) e, later.2 ∙ ap (λ n. Some (outlet (client_queue n + 5))) e)
+
+module _ (plan : Plan) (trace : Trace) (actors : List Actor) (valid : Valid plan) (made : AreCast plan trace actors) where
   abbrev cast : List Part
   cast = map part_of actors
 
   -- the actor of a job has the job's part, and each part is that of a job
-  pub part_at : (job : Job) (k : ℕ) → HasJob plan job k → slice_get cast k ≡ calm_part plan trace job
+  pub part_at : (job : Job) (k : ℕ) → HasJob plan job k → slice_get cast k ≡ job_part plan trace job
   part_at job k has =
       let below = job_below plan valid job k has in
       let many = made.count_is in
       let x = there_is actors k (omega (arith, below, many)) in
       let one = made.each k x.0 x.1 in
-      map_get part_of actors k x.0 x.1 ∙ (sym one.part ∙ ap (calm_part plan trace) (same_job plan valid one.job job k one.has has))
+      map_get part_of actors k x.0 x.1 ∙ (sym one.part ∙ ap (job_part plan trace) (same_job plan valid one.job job k one.has has))
 
-  pub job_of : (k : ℕ) (p : Part) → slice_get cast k ≡ Some p → (job : Job) × HasJob plan job k × (calm_part plan trace job ≡ Some p)
-  job_of k p at =
+  job_at : (k : ℕ) (p : Part) → slice_get cast k ≡ Some p → (job : Job) × HasJob plan job k × ((calm_part plan trace job ≡ Some p) ⊎ ((r : RoguePart) × (p ≡ HostilePart r)))
+  job_at k p at =
       let x = map_from part_of actors k p at in
       let one = made.each k x.0 x.1 in
-      (one.job, one.has, one.part ∙ ap (λ (q : Part). Some q) x.2)
+      (one.job, one.has, job_view plan trace one.job p (one.part ∙ ap (λ (q : Part). Some q) x.2))
+
+  pub job_of : (k : ℕ) (p : Part) → slice_get cast k ≡ Some p → ((r : RoguePart) → p ≡ HostilePart r → ⊥) → (job : Job) × HasJob plan job k × (calm_part plan trace job ≡ Some p)
+  job_of k p at calm =
+      let one = job_at k p at in
+      elim one.2 [
+        | inl is ↦ (one.0, one.1, is)
+        | inr rogue ↦ absurd (calm rogue.0 rogue.1)
+      ]
 
   -- the frames of the scene are those of the device
   frames_by : (job : Job) (p : Part) → calm_part plan trace job ≡ Some p → (job ≡ EthDevice → ⊥) → frames_of p ≡ []
@@ -149,13 +173,19 @@ module _ (plan : Plan) (trace : Trace) (actors : List Actor) (valid : Valid plan
       let k = (eth_number plan).0 in
       single frames_of cast k (NetworkPart (device_at 0 trace.frames)) (part_at EthDevice k device)
       (λ j p at ne.
-      let one = job_of j p at in
-      frames_by one.0 p one.2 (λ e. ne (one_actor plan EthDevice j k (subst (λ job. HasJob plan job j) e one.1) device)))
+      let one = job_at j p at in
+      elim one.2 [
+        | inl is ↦ frames_by one.0 p is (λ e. ne (one_actor plan EthDevice j k (subst (λ job. HasJob plan job j) e one.1) device))
+        | inr rogue ↦ ap frames_of rogue.1
+      ])
 
   no_frames : plan.net ≡ None → (scene_of cast).frames ≡ []
   no_frames none = none_of frames_of cast (λ j p at.
-      let one = job_of j p at in
-      frames_by one.0 p one.2 (λ e. none_there (job_is_of plan EthDevice j (subst (λ job. HasJob plan job j) e one.1))))
+      let one = job_at j p at in
+      elim one.2 [
+        | inl is ↦ frames_by one.0 p is (λ e. none_there (job_is_of plan EthDevice j (subst (λ job. HasJob plan job j) e one.1)))
+        | inr rogue ↦ ap frames_of rogue.1
+      ])
     where
       none_there : HasNet plan → ⊥
       none_there (net, is) = absurd cc
@@ -166,13 +196,19 @@ module _ (plan : Plan) (trace : Trace) (actors : List Actor) (valid : Valid plan
       let k = (disk_number plan).0 in
       single image_of cast k (BlockPart (disk_at (blk_place plan trace))) (part_at DiskDevice k disk)
       (λ j p at ne.
-      let one = job_of j p at in
-      image_by one.0 p one.2 (λ e. ne (one_actor plan DiskDevice j k (subst (λ job. HasJob plan job j) e one.1) disk)))
+      let one = job_at j p at in
+      elim one.2 [
+        | inl is ↦ image_by one.0 p is (λ e. ne (one_actor plan DiskDevice j k (subst (λ job. HasJob plan job j) e one.1) disk))
+        | inr rogue ↦ ap image_of rogue.1
+      ])
 
   no_image : plan.blk ≡ None → (scene_of cast).image ≡ []
   no_image none = none_of image_of cast (λ j p at.
-      let one = job_of j p at in
-      image_by one.0 p one.2 (λ e. none_there (job_is_of plan DiskDevice j (subst (λ job. HasJob plan job j) e one.1))))
+      let one = job_at j p at in
+      elim one.2 [
+        | inl is ↦ image_by one.0 p is (λ e. none_there (job_is_of plan DiskDevice j (subst (λ job. HasJob plan job j) e one.1)))
+        | inr rogue ↦ ap image_of rogue.1
+      ])
     where
       none_there : HasBlkClass plan → ⊥
       none_there (blk, is) = absurd cc
@@ -227,10 +263,10 @@ module _ (plan : Plan) (trace : Trace) (actors : List Actor) (valid : Valid plan
   pub no_network : plan.net ≡ None → HasNoNetwork cast
   no_network none = record {
     none = λ k p at.
-        let one = job_of k (NetworkPart p) at in
+        let one = job_of k (NetworkPart p) at (λ r e. cc) in
         none_there (net_job one.0 p one.2 (job_is_of plan one.0 k one.1));
     no_sender = λ k p at.
-        let one = job_of k (SendingPart p) at in
+        let one = job_of k (SendingPart p) at (λ r e. cc) in
         none_there (job_is_of plan NetSender k (subst (λ job. HasJob plan job k) (send_job one.0 p one.2) one.1));
   }
     where
@@ -306,6 +342,31 @@ module _ (plan : Plan) (trace : Trace) (actors : List Actor) (valid : Valid plan
         by None at = λ j frame j_at. cc
         by (Some sent) at = λ j frame j_at. all_at (IsTraceFrame (frame_most plan)) sent (all_at (All (IsTraceFrame (frame_most plan))) trace.sends shapes.sends k sent at) j frame j_at
 
+    -- the queues on which a client sends are wild where its actor is hostile
+    pub send_wild : (k : ℕ) (c : NetClientKeys) → slice_get net.client k ≡ Some c
+        → (wild_in (hostiles cast) (queues_of plan) (client_first place.first k + 4) ≡ hostiles cast (actor_named plan c.pd).0) × (wild_in (hostiles cast) (queues_of plan) (client_first place.first k + 5) ≡ hostiles cast (actor_named plan c.pd).0)
+    send_wild k c at =
+        let client = (actor_named plan c.pd).0 in
+        let sender = (actor_named plan net.tx_virt).0 in
+        let has = named.client k c at in
+        let below : k < net_count plan = (let lt = there_below net.client k c at in let a = class_count in omega (arith, lt, a)) in
+        let active = has_seat plan (NetClient k) client has 3 (outlet (client_queue k + 4)) refl in
+        let free = has_seat plan (NetClient k) client has 2 (intake (client_queue k + 5)) refl in
+        let there = sends_among 0 (net_count plan) k below in
+        let zero_more : 0 + k ≡ k = omega arith in
+        let takes = has_seat plan NetSender sender named.sender (suc (suc there.0)) (intake (client_queue k + 4)) (there.1 ∙ ap (λ n. Some (intake (client_queue n + 4))) zero_more) in
+        let gives = has_seat plan NetSender sender named.sender (suc (suc (suc there.0))) (outlet (client_queue k + 5)) (there.2 ∙ ap (λ n. Some (outlet (client_queue n + 5))) zero_more) in
+        let calm : hostiles cast sender ≡ false = hostile_there cast sender (SendingPart (sender_at 0 (frame_most plan) place.pools)) (part_at NetSender sender named.sender) in
+        let one : takes.0 ≡ active.0 = some_is (sym takes.1 ∙ active.1) in
+        let other : gives.0 ≡ free.0 = some_is (sym gives.1 ∙ free.1) in
+        let consumer : active.0.consumer.0 ≡ sender = sym (ap (λ (r : QueueRow). r.consumer.0) one) ∙ takes.2 in
+        let producer : free.0.producer.0 ≡ sender = sym (ap (λ (r : QueueRow). r.producer.0) other) ∙ gives.2 in (
+          wild_by (hostiles cast) (queues_of plan) (client_first place.first k + 4) active.0 active.1 (ap carries_pages active.3)
+              ∙ (ap₂ (λ m n. hostiles cast m || hostiles cast n) active.2 consumer ∙ (ap (λ b. hostiles cast client || b) calm ∙ or_false (hostiles cast client))),
+          wild_by (hostiles cast) (queues_of plan) (client_first place.first k + 5) free.0 free.1 (ap carries_pages free.3)
+              ∙ (ap₂ (λ m n. hostiles cast m || hostiles cast n) producer free.2 ∙ ap (λ b. b || hostiles cast client) calm),
+        )
+
     pub whole_is : HasWhole (queues_of plan) place cast
     whole_is = record {
       pools_many = value_count count (client_pools plan) ∙ sym (value_count count (client_mac plan));
@@ -322,11 +383,16 @@ module _ (plan : Plan) (trace : Trace) (actors : List Actor) (valid : Valid plan
           let b = value_is count (client_mac plan) k mac of.address in
           let d = value_is count (client_pools plan) k q of.pools in
           let c = client_of k b.0 in
-          ((actor_named plan c.0.pd).0, part_at (NetClient k) (actor_named plan c.0.pd).0 (named.client k c.0 c.1) ∙ client_part_is k program mac q a.1 b.1 d.1);
-      both = λ k below. none_wild cast (all_calm plan trace actors made) (queues_of plan) (client_first place.first k + 4) ∙ sym (none_wild cast (all_calm plan trace actors made) (queues_of plan) (client_first place.first k + 5));
-      only = λ k p at. let one = job_of k (NetworkPart p) at in net_is one.0 p one.2 (job_is_of plan one.0 k one.1);
+          let who = (actor_named plan c.0.pd).0 in
+          let here = part_at (NetClient k) who (named.client k c.0 c.1) in
+          (who, calm_net plan trace cast k who here (sym (send_wild k c.0 c.1).0 ∙ calm) ∙ client_part_is k program mac q a.1 b.1 d.1);
+      both = λ k below.
+          let c = there_is net.client k (let a = macs_many in omega (arith, below, a)) in
+          let wild = send_wild k c.0 c.1 in
+          wild.0 ∙ sym wild.1;
+      only = λ k p at. let one = job_of k (NetworkPart p) at (λ r e. cc) in net_is one.0 p one.2 (job_is_of plan one.0 k one.1);
       only_sender = λ k p at.
-          let one = job_of k (SendingPart p) at in
+          let one = job_of k (SendingPart p) at (λ r e. cc) in
           let same : calm_part plan trace NetSender ≡ Some (SendingPart p) = ap (calm_part plan trace) (sym (send_job one.0 p one.2)) ∙ one.2 in
           inr (inr (inr (inl (sym (some_is same)))));
       kinds = λ i lt.

@@ -24,6 +24,7 @@ ghost use Rattle.cast_law.specs.Pools.Places.{IsPlaced, HasPools};
 ghost use Rattle.cast_law.specs.Places.{pool_place};
 ghost use Rattle.cast_law.specs.Seats.{AreSeated};
 
+pub mod beside;
 pub mod gone;
 pub mod pages;
 pub mod past_owners;
@@ -33,12 +34,12 @@ pub mod quiet;
 pub mod runs;
 pub mod turns;
 
-/// The actors of a valid plan have each the part of their jobs. Where no client is hostile, they
-/// are seated at the layout's queues, none of them is hostile, and with a network class or a block
-/// class the cast has the whole class where the layout places it. The scene is what the trace gives
-/// the plan's classes. The classes with pools stand where the plan has them, no two pools of the
-/// block class have an address in common, and their pools are those of the layout, by their numbers
-/// and with their sizes.
+/// The actors of a valid plan have each the part of their jobs. With a network class or a block
+/// class the cast has the whole class where the layout places it, but for clients at whose queues a
+/// hostile actor stands. The scene is what the trace gives the plan's classes. The classes with
+/// pools stand where the plan has them, no two pools of the block class have an address in common,
+/// and their pools are those of the layout, by their numbers and with their sizes. Where no client
+/// is hostile, they are seated at the layout's queues, and none of them is hostile.
 pub fn cast_law()
     ensures seated { (plan : Plan) (trace : Trace) (actors : List Actor) → Valid plan
         → IsReadFor plan trace → HasNoRogue plan → AreCast plan trace actors
@@ -49,27 +50,22 @@ pub fn cast_law()
         → AreCast plan trace actors → (job : Job) (k : ℕ) → HasJob plan job k
         → slice_get (map part_of actors) k ≡ job_part plan trace job }
     ensures whole { (plan : Plan) (trace : Trace) (actors : List Actor) → Valid plan
-        → IsReadFor plan trace → HasNoRogue plan → AreCast plan trace actors → (net : Net)
-        → plan.net ≡ Some net
+        → IsReadFor plan trace → AreCast plan trace actors → (net : Net) → plan.net ≡ Some net
         → HasWhole (queues_of plan) (net_place plan trace) (map part_of actors) }
     ensures scene { (plan : Plan) (trace : Trace) (actors : List Actor) → Valid plan
-        → HasNoRogue plan → AreCast plan trace actors
-        → scene_of (map part_of actors) ≡ scene_for plan trace }
+        → AreCast plan trace actors → scene_of (map part_of actors) ≡ scene_for plan trace }
     ensures pooled { (plan : Plan) (trace : Trace)
         → HasPools (pools_of plan) (pool_place plan trace) }
     ensures placed { (plan : Plan) (trace : Trace) (actors : List Actor) → Valid plan
-        → IsReadFor plan trace → HasNoRogue plan → AreCast plan trace actors
+        → IsReadFor plan trace → AreCast plan trace actors
         → IsPlaced (queues_of plan) (pool_place plan trace) (map part_of actors) }
     ensures no_network { (plan : Plan) (trace : Trace) (actors : List Actor) → Valid plan
-        → HasNoRogue plan → AreCast plan trace actors → plan.net ≡ None
-        → HasNoNetwork (map part_of actors) }
+        → AreCast plan trace actors → plan.net ≡ None → HasNoNetwork (map part_of actors) }
     ensures block { (plan : Plan) (trace : Trace) (actors : List Actor) → Valid plan
-        → IsReadFor plan trace → HasNoRogue plan → AreCast plan trace actors → (blk : Blk)
-        → plan.blk ≡ Some blk
+        → IsReadFor plan trace → AreCast plan trace actors → (blk : Blk) → plan.blk ≡ Some blk
         → HasBlk (queues_of plan) (blk_place plan trace) (map part_of actors) }
     ensures no_block { (plan : Plan) (trace : Trace) (actors : List Actor) → Valid plan
-        → HasNoRogue plan → AreCast plan trace actors → plan.blk ≡ None
-        → HasNoBlock (map part_of actors) }
+        → AreCast plan trace actors → plan.blk ≡ None → HasNoBlock (map part_of actors) }
 {
     cast_core::calm_law();
 }

@@ -29,20 +29,18 @@ use Rattle.decision_core.proofs.GenLemmas.{one-plan}
 abbrev Misses : {T : Type 0} (is : T → Bool) → List T → Type 0
 Misses {T} is xs = (k : ℕ) (x : T) → slice_get xs k ≡ Some x → is x ≡ false
 
-found-none : {T : Type 0} (is : T → Bool) (xs : List T) → find is xs ≡ None → Misses is xs
-found-none is [] none k x at = absurd cc
-found-none is (y ∷ xs) none k x at = by (is y) refl none
-  where
-    by : (b : Bool) → is y ≡ b → find is (y ∷ xs) ≡ None → is x ≡ false
-    by true here no = absurd (let some : find is (y ∷ xs) ≡ Some y = rw here refl in cc)
-    by false here no = later k at
-      where
-        rest : find is xs ≡ None
-        rest = sym (rw here refl) ∙ no
+-- where the first is not so and no other is, none is
+first-misses : {T : Type 0} (is : T → Bool) (y : T) (xs : List T) → is y ≡ false → Misses is xs → Misses is (y ∷ xs)
+first-misses is y xs here rest zero x at = let e : y ≡ x = cc in subst (λ z. is z ≡ false) e here
+first-misses is y xs here rest (suc k) x at = rest k x at
 
-        later : (j : ℕ) → slice_get (y ∷ xs) j ≡ Some x → is x ≡ false
-        later zero a = let e : y ≡ x = cc in subst (λ z. is z ≡ false) e here
-        later (suc j) a = found-none is xs rest j x a
+first-found : {T : Type 0} (is : T → Bool) (y : T) (xs : List T) (b : Bool) → is y ≡ b → find is (y ∷ xs) ≡ None → (b ≡ false) × (find is xs ≡ None)
+first-found is y xs true here none = absurd (let some : find is (y ∷ xs) ≡ Some y = rw here refl in cc)
+first-found is y xs false here none = (refl, sym (rw here refl) ∙ none)
+
+found-none : {T : Type 0} (is : T → Bool) (xs : List T) → find is xs ≡ None → Misses is xs
+found-none is [] none = λ k x at. absurd cc
+found-none is (y ∷ xs) none = let first = first-found is y xs (is y) refl none in first-misses is y xs first.0 (found-none is xs first.1)
 
 misses-right : {T : Type 0} (is : T → Bool) (xs ys : List T) → Misses is (xs ++ ys) → Misses is ys
 misses-right is [] ys h = h
@@ -92,23 +90,26 @@ module _ (plan : Plan) (none : first_rogue plan ≡ None) where
   unfolding first_rogue
   all-miss = found-none (is_rogue_at plan) (walk (outline_of plan)) none
 
-  classes-miss : Misses (is_rogue_at plan) (nets ++ (serials ++ blks))
-  classes-miss =
-      misses-right (is_rogue_at plan) (channel_places 0 (outline_of plan).channels) (nets ++ (serials ++ blks))
-      (misses-right (is_rogue_at plan) (domain_places 0 (outline_of plan).domains) (channel_places 0 (outline_of plan).channels ++ (nets ++ (serials ++ blks)))
-      (misses-right (is_rogue_at plan) (places_from (λ r. At.Region r) 0 (outline_of plan).regions) (domain_places 0 (outline_of plan).domains ++ (channel_places 0 (outline_of plan).channels ++ (nets ++ (serials ++ blks))))
-      (λ k x at. all-miss (suc k) x at)))
+  -- the places before those of the classes
+  abbrev before : List Place
+  before =
+      At.System ∷ places_from (λ r. At.Region r) 0 (outline_of plan).regions ++ domain_places 0 (outline_of plan).domains
+      ++ channel_places 0 (outline_of plan).channels
 
   pub no-net : (c : ℕ) → c < length (net_clients plan) → is_net_rogue plan c ≡ false
-  no-net c lt = of-class (is_rogue_at plan) At.Net (λ n. At.NetClient n) (outline_of plan).net (misses-left (is_rogue_at plan) nets (serials ++ blks) classes-miss) c (subst (λ n. c < n) (sym (net-many plan.net)) lt)
+  no-net c lt =
+      let miss : Misses (is_rogue_at plan) nets = misses-right (is_rogue_at plan) before nets (misses-left (is_rogue_at plan) (before ++ nets) serials (misses-left (is_rogue_at plan) (before ++ nets ++ serials) blks all-miss)) in
+      of-class (is_rogue_at plan) At.Net (λ n. At.NetClient n) (outline_of plan).net miss c (subst (λ n. c < n) (sym (net-many plan.net)) lt)
 
   pub no-serial : (c : ℕ) → c < length (serial_clients plan) → is_serial_rogue plan c ≡ false
   no-serial c lt =
-      of-class (is_rogue_at plan) At.Serial (λ n. At.SerialClient n) (outline_of plan).serial (misses-left (is_rogue_at plan) serials blks (misses-right (is_rogue_at plan) nets (serials ++ blks) classes-miss)) c (subst (λ n. c < n) (sym (serial-many plan.serial)) lt)
+      let miss : Misses (is_rogue_at plan) serials = misses-right (is_rogue_at plan) (before ++ nets) serials (misses-left (is_rogue_at plan) (before ++ nets ++ serials) blks all-miss) in
+      of-class (is_rogue_at plan) At.Serial (λ n. At.SerialClient n) (outline_of plan).serial miss c (subst (λ n. c < n) (sym (serial-many plan.serial)) lt)
 
   pub no-blk : (c : ℕ) → c < length (blk_clients plan) → is_blk_rogue plan c ≡ false
   no-blk c lt =
-      of-class (is_rogue_at plan) At.Blk (λ n. At.BlkClient n) (outline_of plan).blk (misses-right (is_rogue_at plan) serials blks (misses-right (is_rogue_at plan) nets (serials ++ blks) classes-miss)) c (subst (λ n. c < n) (sym (blk-many plan.blk)) lt)
+      let miss : Misses (is_rogue_at plan) blks = misses-right (is_rogue_at plan) (before ++ nets ++ serials) blks all-miss in
+      of-class (is_rogue_at plan) At.Blk (λ n. At.BlkClient n) (outline_of plan).blk miss c (subst (λ n. c < n) (sym (blk-many plan.blk)) lt)
 
 -- the full example has no hostile client
 full-friendly : first_rogue (plan_of root) ≡ None

@@ -21,7 +21,7 @@ use Rattle.decision_core.specs.Decisions.{Decision, TextDecides, TraceDecides, G
 use Rattle.decision_core.specs.Generating.{IsSummary}
 
 -- the full example spells one plan
-one-plan : (plan : Plan) → SpellsPlan FULL_EXAMPLE.now plan → plan ≡ plan_of root
+pub one-plan : (plan : Plan) → SpellsPlan FULL_EXAMPLE.now plan → plan ≡ plan_of root
 one-plan plan s = s.plan_is ∙ ap plan_of (same_Some s.root root (sym s.document.1 ∙ is_document.1))
 
 -- it isn't refused

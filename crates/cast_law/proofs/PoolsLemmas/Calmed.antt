@@ -56,7 +56,7 @@ pub record NetFor (n : Option NetPlace) (r : RoguePart) (p : Part) : Type 0 wher
   pub rogue : IsNetRogue net k pools r
   pub is : p ≡ NetworkPart (client_at net.first k program mac (own_pools pools))
 
-pub record BlkFor (b : Option BlkPlace) (r : RoguePart) (p : Part) : Type 0 where
+pub record BlkFor (rows : List QueueRow) (b : Option BlkPlace) (r : RoguePart) (p : Part) : Type 0 where
   pub blk : BlkPlace
   pub k : ℕ
   pub entry : ℕ
@@ -64,7 +64,7 @@ pub record BlkFor (b : Option BlkPlace) (r : RoguePart) (p : Part) : Type 0 wher
   pub pool : PoolAt
   pub here : b ≡ Some blk
   pub client : IsBlkClientOf blk k entry asks pool
-  pub rogue : IsBlkRogue blk k pool r
+  pub rogue : IsBlkRogue rows blk k pool r
   pub is : p ≡ BlockPart (blk_client_at blk.first k asks pool)
 
 pub record BareFor (rows : List QueueRow) (r : RoguePart) (p : Part) : Type 0 where
@@ -72,7 +72,7 @@ pub record BareFor (rows : List QueueRow) (r : RoguePart) (p : Part) : Type 0 wh
   pub is : p ≡ ClientPart rogue.input rogue.output []
 
 abbrev pub IsFor : List QueueRow → Option NetPlace → Option BlkPlace → RoguePart → Part → Type 0
-IsFor rows n b r p = NetFor n r p ⊎ BlkFor b r p ⊎ BareFor rows r p
+IsFor rows n b r p = NetFor n r p ⊎ BlkFor rows b r p ⊎ BareFor rows r p
 
 -- the same part, or the calm client for a hostile one
 abbrev pub IsLike : List QueueRow → Option NetPlace → Option BlkPlace → Part → Part → Type 0
@@ -112,7 +112,7 @@ each_counted : (n : ℕ) (h : ℕ → PageAt) → length (per_client n h) ≡ n
 each_counted zero h = refl
 each_counted (suc n) h = ap suc (each_counted n (λ c. h (suc c)))
 
-pool_all : (f : Count) (p : PoolAt) → pages_weigh f (pool_pages p) ≡ pool_weighs f p
+pub pool_all : (f : Count) (p : PoolAt) → pages_weigh f (pool_pages p) ≡ pool_weighs f p
 pool_all f p = each_weighs (page_weighs f) p.buffers (λ k. record { pool = p.number; number = k; long = p.size })
 
 -- a cast in which nobody is hostile, like this one
@@ -284,7 +284,7 @@ module _ (rows : List QueueRow) (n : Option NetPlace) (b : Option BlkPlace) (cas
         by p p_at (inl (c, e)) = absurd cc
         by p p_at (inr (z, e, f)) = one z (found z e) p p_at f
 
-    blk_client : (blk : BlkPlace) → b ≡ Some blk → (k entry : ℕ) (asks : List Ask) (q : PoolAt) → IsBlkClientOf blk k entry asks q → (j : ℕ) (r : RoguePart) → slice_get cast j ≡ Some (HostilePart r) → IsBlkRogue blk k q r → HasPart parts (BlockPart (blk_client_at blk.first k asks q))
+    blk_client : (blk : BlkPlace) → b ≡ Some blk → (k entry : ℕ) (asks : List Ask) (q : PoolAt) → IsBlkClientOf blk k entry asks q → (j : ℕ) (r : RoguePart) → slice_get cast j ≡ Some (HostilePart r) → IsBlkRogue rows blk k q r → HasPart parts (BlockPart (blk_client_at blk.first k asks q))
     blk_client blk here k entry asks q of j r at is = let x = here_at j (HostilePart r) at in by x.0 x.1 x.2
       where
         found : (z : RoguePart) → HostilePart r ≡ HostilePart z → z ≡ r
@@ -329,10 +329,10 @@ module _ (rows : List QueueRow) (n : Option NetPlace) (b : Option BlkPlace) (cas
         by o o_at (inr (r, e, inr (inl f))) = absurd (let same = f.is in cc)
         by o o_at (inr (r, e, inr (inr f))) = absurd (let same = f.is in cc)
 
-    blk_back : (p : BlkPart) (k : ℕ) → slice_get parts k ≡ Some (BlockPart p) → (slice_get cast k ≡ Some (BlockPart p)) ⊎ ((r : RoguePart) × BlkFor b r (BlockPart p))
+    blk_back : (p : BlkPart) (k : ℕ) → slice_get parts k ≡ Some (BlockPart p) → (slice_get cast k ≡ Some (BlockPart p)) ⊎ ((r : RoguePart) × BlkFor rows b r (BlockPart p))
     blk_back p k at = let x = there_at k (BlockPart p) at in by x.0 x.1 x.2
       where
-        by : (o : Part) → slice_get cast k ≡ Some o → IsLike rows n b o (BlockPart p) → (slice_get cast k ≡ Some (BlockPart p)) ⊎ ((r : RoguePart) × BlkFor b r (BlockPart p))
+        by : (o : Part) → slice_get cast k ≡ Some o → IsLike rows n b o (BlockPart p) → (slice_get cast k ≡ Some (BlockPart p)) ⊎ ((r : RoguePart) × BlkFor rows b r (BlockPart p))
         by o o_at (inl (c, e)) = inl (o_at ∙ ap Some (sym e))
         by o o_at (inr (r, e, inl f)) = absurd (let same = f.is in cc)
         by o o_at (inr (r, e, inr (inl f))) = inr (r, f)
@@ -399,7 +399,7 @@ module _ (rows : List QueueRow) (n : Option NetPlace) (b : Option BlkPlace) (cas
             let x = rogues.blk blk here k q of.has_pool is in
             blk_client blk here k entry asks q of x.0 x.1 x.2 x.3
 
-        only : (k : ℕ) (p : BlkPart) → (slice_get cast k ≡ Some (BlockPart p)) ⊎ ((r : RoguePart) × BlkFor b r (BlockPart p)) → IsOfBlock blk p
+        only : (k : ℕ) (p : BlkPart) → (slice_get cast k ≡ Some (BlockPart p)) ⊎ ((r : RoguePart) × BlkFor rows b r (BlockPart p)) → IsOfBlock blk p
         only k p (inl at) = has.only k p at
         only k p (inr (r, f)) = subst (λ y. IsOfBlock y p) (some_is (sym f.here ∙ here)) (inr (inr (inr (f.k, f.entry, f.asks, f.pool, f.client, block_is f.is))))
 
@@ -417,7 +417,7 @@ module _ (rows : List QueueRow) (n : Option NetPlace) (b : Option BlkPlace) (cas
     blk_at : (o : Option BlkPlace) → b ≡ o → HasBlkAt rows o cast → scene_of parts ≡ scene → HasBlkAt rows o parts
     blk_at None here none same = λ k p at. gone k p (blk_back p k at)
       where
-        gone : (k : ℕ) (p : BlkPart) → (slice_get cast k ≡ Some (BlockPart p)) ⊎ ((r : RoguePart) × BlkFor b r (BlockPart p)) → ⊥
+        gone : (k : ℕ) (p : BlkPart) → (slice_get cast k ≡ Some (BlockPart p)) ⊎ ((r : RoguePart) × BlkFor rows b r (BlockPart p)) → ⊥
         gone k p (inl at) = none k p at
         gone k p (inr (r, f)) = absurd (let both = sym here ∙ f.here in cc)
     blk_at (Some blk) here has same = (subst (λ z. HasBlkIn z rows blk parts) (sym same) (blk_whole blk here has.0), has.1)

@@ -78,7 +78,7 @@ items_begin (x ∷ xs) (y ∷ ys) h =
     let rest = items_begin xs ys (h.0, tail) in
     (rest.0, ap (λ l. x.0 ∷ l) rest.1 ∙ ap (λ (z : Cargo). z.0 ∷ items_of ys) head)
 
-begins_too : (a b : List Item) (xs ys : List Cargo) → a ≡ items_of xs → b ≡ items_of ys → IsPrefix xs ys → IsPrefix a b
+pub begins_too : (a b : List Item) (xs ys : List Cargo) → a ≡ items_of xs → b ≡ items_of ys → IsPrefix xs ys → IsPrefix a b
 begins_too a b xs ys p q h = subst (λ l. IsPrefix l b) (sym p) (subst (λ l. IsPrefix (items_of xs) l) (sym q) (items_begin xs ys h))
 
 -- entries that carry the pages which their items name do so after a call of an actor

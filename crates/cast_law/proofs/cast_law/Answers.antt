@@ -8,7 +8,7 @@ use Rattle.cast_law.proofs.Pooled.{pooled, placed}
 use Rattle.cast_law.proofs.cast_law.Goals as goal
 
 pub returns-clause-seated : goal.returns-clause-seated
-returns-clause-seated c = λ plan trace actors valid read none cast. all_seated plan trace actors valid read (c.calm_law.ensures.cast plan trace actors none cast)
+returns-clause-seated c = all_seated
 
 pub returns-clause-calm : goal.returns-clause-calm
 returns-clause-calm c = λ plan trace actors none cast. all_calm plan trace actors (c.calm_law.ensures.cast plan trace actors none cast)
@@ -17,22 +17,22 @@ pub returns-clause-parts : goal.returns-clause-parts
 returns-clause-parts c = λ plan trace actors valid cast. part_there (job_part plan trace) plan actors valid cast
 
 pub returns-clause-whole : goal.returns-clause-whole
-returns-clause-whole c = λ plan trace actors valid read none cast. whole_network plan trace actors valid read (c.calm_law.ensures.cast plan trace actors none cast)
+returns-clause-whole c = whole_network
 
 pub returns-clause-scene : goal.returns-clause-scene
-returns-clause-scene c = λ plan trace actors valid none cast. scene_of_plan plan trace actors valid (c.calm_law.ensures.cast plan trace actors none cast)
+returns-clause-scene c = scene_of_plan
 
 pub returns-clause-pooled : goal.returns-clause-pooled
 returns-clause-pooled c = pooled
 
 pub returns-clause-placed : goal.returns-clause-placed
-returns-clause-placed c = λ plan trace actors valid read none cast. placed plan trace valid actors read (c.calm_law.ensures.cast plan trace actors none cast)
+returns-clause-placed c = λ plan trace actors valid read cast. placed plan trace valid actors read cast
 
 pub returns-clause-no_network : goal.returns-clause-no_network
-returns-clause-no_network c = λ plan trace actors valid none cast. no_network plan trace actors valid (c.calm_law.ensures.cast plan trace actors none cast)
+returns-clause-no_network c = no_network
 
 pub returns-clause-block : goal.returns-clause-block
-returns-clause-block c = λ plan trace actors valid read none cast. whole_block plan trace actors valid read (c.calm_law.ensures.cast plan trace actors none cast)
+returns-clause-block c = whole_block
 
 pub returns-clause-no_block : goal.returns-clause-no_block
-returns-clause-no_block c = λ plan trace actors valid none cast. no_block plan trace actors valid (c.calm_law.ensures.cast plan trace actors none cast)
+returns-clause-no_block c = no_block

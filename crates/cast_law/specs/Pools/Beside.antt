@@ -1,16 +1,15 @@
 -- Beside hostile clients: which pools are theirs, what items name by a table of the others' buffers,
 -- and entries that carry what their items name at all queues but theirs.
-use Rattle.std.specs.Prelude.{◌≡◌, ◌==◌, ◌||◌, ◌+◌, ◌*◌, ℕ, Bool, true, false, cond, Option, None}
+use Rattle.std.specs.Prelude.{◌≡◌, ◌⊎◌, ◌==◌, ◌||◌, ◌+◌, ◌*◌, ℕ, Bool, true, false, cond, Option, None}
 use Rattle.std.specs.Prelude.{Some, List, [], ◌∷◌, slice_get, map}
 use Rattle.wire_core.specs.declared.names.QueueRow.{QueueRow}
 use Rattle.wire_core.specs.Deeds.{Cargo, Deed}
-use Rattle.wire_core.specs.Ends.{Role, End}
+use Rattle.wire_core.specs.Ends.{Role, End, role_of}
 use Rattle.wire_core.specs.Lists.{Passed, with_deed}
-use Rattle.wire_core.specs.Queues.{items_of}
+use Rattle.wire_core.specs.Queues.{is_store, items_of}
 use Rattle.play_core.specs.Moved.{Moved}
-use Rattle.play_core.specs.Names.{Wild, wild_in}
-use Rattle.play_core.specs.Rests.Showing.{HaveItems}
-use Rattle.play_core.specs.Sheets.{AreSeated}
+use Rattle.play_core.specs.Names.{Wild, names_at, wild_in}
+use Rattle.play_core.specs.Sheets.{AreFilled, AreSeated}
 use Rattle.owner_law.specs.Pages.{as_page}
 use Rattle.owner_law.specs.Things.{Buffer, Window, Names, NoBuffers, Buffers, Frames, Leases}
 use Rattle.owner_law.specs.Things.{Returns, Answers, Naming, as_buffer, requests_of, thing_at}
@@ -20,10 +19,11 @@ use Rattle.net_law.specs.Parts.Numbers.{client_first}
 use Rattle.net_law.specs.TxParts.Numbers.{NetPlace}
 use Rattle.blk_law.specs.Sheets.Numbers.{BlkPlace}
 use Rattle.page_law.specs.WildPages.Rounds.{AllMove}
-use Rattle.actor_set.specs.Actors.{IsActorCall, part_of}
+use Rattle.actor_set.specs.Actors.{ActorEnd, part_of}
 use Rattle.actor_set.specs.declared.actor.Actor.{Actor}
 use Rattle.actor_set.specs.Laws.Kinds.{hostiles, scene_of, sheet}
-use Rattle.wired_law.specs.Wiring.{AreAtWork, AreInTurn, ClientsSend}
+use Rattle.actor_set.specs.Laws.Scenes.{ToldInTurn}
+use Rattle.wired_law.specs.Wiring.{AreAtWork}
 use Rattle.cast_law.specs.Pools.Places.{PoolPlace, IsPlaced, cast_naming}
 
 -- a pool, by its number, is one of the two of a network client at whose queue a hostile actor has
@@ -81,13 +81,19 @@ RoguesAsk wild place passed = (blk : BlkPlace) → place.blk ≡ Some blk → (k
     → slice_get blk.pools k ≡ Some q → wild (blk.first + 4 + 2 * k) ≡ true
     → AllMove (passed.sent (blk.first + 4 + 2 * k))
 
+-- nothing came out of turn at any actor by the names of all that was put
+abbrev pub AllTold : List QueueRow → List Actor → Passed → Type 0
+AllTold rows actors passed = (k : ℕ) (x : Actor) → slice_get actors k ≡ Some x
+    → ToldInTurn (scene_of (map part_of actors)) (wild_in (hostiles (map part_of actors)) rows)
+    (names_at passed) x passed
+
 -- actors were at work, and the one of a number made a call at an end of its own, or a store; they
--- are at work after it, and nothing comes out of turn then; their clients that aren't hostile put
--- good descriptors and requests alone
+-- are at work after it; nothing came out of turn by the names of all that was put, before and after
 pub record IsCallAmong (rows : List QueueRow) (place : PoolPlace) (olds news : List Actor)
     (passed : Passed) (d : Deed) (k : ℕ) : Type 0 where
   pub placed : IsPlaced rows place (map part_of news)
   pub seated : AreSeated (sheet (scene_of (map part_of news))) rows (map part_of news)
+  pub filled : AreFilled (sheet (scene_of (map part_of news))) rows (map part_of news)
   pub split : (n : ℕ) (row : QueueRow) → slice_get rows n ≡ Some row
       → row.producer.0 ≡ row.consumer.0 → ⊥
   pub same : map part_of news ≡ map part_of olds
@@ -95,9 +101,9 @@ pub record IsCallAmong (rows : List QueueRow) (place : PoolPlace) (olds news : L
   pub worked : AreAtWork before rows olds passed
   pub ends : Role → ℕ → End
   pub works : AreAtWork ends rows news (with_deed passed d)
-  pub in_turn : AreInTurn (wild_in (hostiles (map part_of news)) rows) news (with_deed passed d)
-  pub sends : ClientsSend rows (map part_of news) (with_deed passed d)
+  pub was_told : AllTold rows olds passed
+  pub told : AllTold rows news (with_deed passed d)
   pub asks : RoguesAsk (wild_in (hostiles (map part_of news)) rows) place (with_deed passed d)
   pub there : Actor
   pub here : slice_get news k ≡ Some there
-  pub own : IsActorCall there d.event
+  pub own : ActorEnd there (role_of d.event.op) d.event.queue.0 ⊎ (is_store d.event.op ≡ true)

@@ -21,12 +21,17 @@ pub record IsNetRogue (net : NetPlace) (k : ℕ) (q : ClientPools) (p : RoguePar
   pub outputs : p.outputs ≡ (client_first net.first k + 3) ∷ (client_first net.first k + 4) ∷ []
   pub pages : p.pages ≡ pool_pages q.rx ++ pool_pages q.tx
 
--- the hostile block client of a number, with this pool
-pub record IsBlkRogue (blk : BlkPlace) (k : ℕ) (q : PoolAt) (p : RoguePart) : Type 0 where
+-- the hostile block client of a number, with this pool, at queues of requests and of responses
+pub record IsBlkRogue (rows : List QueueRow) (blk : BlkPlace) (k : ℕ) (q : PoolAt) (p : RoguePart)
+    : Type 0 where
   pub there : slice_get blk.pools k ≡ Some q
   pub inputs : p.inputs ≡ (blk.first + 5 + 2 * k) ∷ []
   pub outputs : p.outputs ≡ (blk.first + 4 + 2 * k) ∷ []
   pub pages : p.pages ≡ pool_pages q
+  pub takes : (row : QueueRow) → slice_get rows (blk.first + 5 + 2 * k) ≡ Some row
+      → row.kind ≡ Kind.Resp
+  pub puts : (row : QueueRow) → slice_get rows (blk.first + 4 + 2 * k) ≡ Some row
+      → row.kind ≡ Kind.Req
 
 -- a hostile client of a class without pools, whose queues carry bytes
 pub record IsBareRogue (rows : List QueueRow) (p : RoguePart) : Type 0 where
@@ -42,7 +47,8 @@ pub record IsBareRogue (rows : List QueueRow) (p : RoguePart) : Type 0 where
 abbrev pub IsRogueOf : List QueueRow → Option NetPlace → Option BlkPlace → RoguePart → Type 0
 IsRogueOf rows n b p = ((net : NetPlace) × (k : ℕ) × (q : ClientPools) × (n ≡ Some net)
     × IsNetRogue net k q p)
-    ⊎ ((blk : BlkPlace) × (k : ℕ) × (q : PoolAt) × (b ≡ Some blk) × IsBlkRogue blk k q p)
+    ⊎ ((blk : BlkPlace) × (k : ℕ) × (q : PoolAt) × (b ≡ Some blk)
+    × IsBlkRogue rows blk k q p)
     ⊎ IsBareRogue rows p
 
 -- where a client's queue has a hostile end the hostile client of its number is there, and there is
@@ -58,6 +64,6 @@ pub record HasRogues (rows : List QueueRow) (n : Option NetPlace) (b : Option Bl
       → slice_get blk.pools k ≡ Some q
       → wild_in (hostiles cast) rows (blk.first + 4 + 2 * k) ≡ true
       → (j : ℕ) × (p : RoguePart) × (slice_get cast j ≡ Some (HostilePart p))
-      × IsBlkRogue blk k q p
+      × IsBlkRogue rows blk k q p
   pub only : (j : ℕ) (p : RoguePart) → slice_get cast j ≡ Some (HostilePart p)
       → IsRogueOf rows n b p
