@@ -1,16 +1,18 @@
-use Rattle.std.proofs.Common.{◌≡◌, inl, inr, ◌<◌, ◌≤◌, ◌+◌, ℕ, List, ◌++◌, ◌∷◌, length, take, drop, refl, sym, ap, ◌∙◌, subst, append_assoc, codes, decimal, arith, Option, Some, None, Result, Ok, Err, IfOk}
+use Rattle.std.proofs.Common.{◌≡◌, inl, inr, ◌<◌, ◌≤◌, ◌+◌, ℕ, List, ◌++◌, ◌∷◌, length, take, drop, refl, sym, ap, ◌∙◌, subst, append_assoc, codes, decimal, arith, get_or, Option, Some, None, Result, Ok, Err, IfOk}
+use Rattle.std.specs.Prelude.{string_bytes}
+use Rattle.std.specs.Global.{Global}
+use Rattle.std.specs.declared.string.String.{String}
 use Rattle.std.proofs.lemmas.Bool.{cases_lt}
 use Rattle.std.proofs.lemmas.Fmt.{decimal_injective}
 use Rattle.std.proofs.lemmas.List.{take-append-drop, take-take}
 use Rattle.sdf_plan.specs.declared.place.Place.{Place}
-use Rattle.sdf_plan.specs.declared.place.Refusal.{Refusal}
 use Rattle.sdf_plan.specs.declared.plan.Plan.{Plan}
 use Rattle.trace_text.specs.declared.trace.Trace.{Trace}
 use Rattle.trace_text.specs.Traces.{HasNoBadLine, IsLeastBadLine}
 use Rattle.report_text.specs.Answers.{usage_text, bad_trace_text}
 use Rattle.command_words.specs.declared.command.Command.{Command}
 use Rattle.command_words.specs.declared.command.Command.TheVariants as Do
-use Rattle.command_words.specs.Words.{IsCheck, IsLayout, IsGen, Spells, Begins, IsBadWord}
+use Rattle.command_words.specs.Words.{texts_of, IsCheck, IsLayout, IsGen, Spells, Begins, IsBadWord}
 use Rattle.decision_core.specs.declared.status.Status.TheVariants as Ended
 use Rattle.decision_core.specs.declared.showing.Asked.{Asked}
 use Rattle.decision_core.specs.declared.showing.Asked.TheVariants as Ask
@@ -30,6 +32,8 @@ use Rattle.command_words.specs.declared.command.Options.{Options}
 use Rattle.command_words.specs.Words.{IsPlay, IsRun}
 use Rattle.command_words.proofs.Letters.{run-or-gen}
 use Rattle.command_words.proofs.Once.{same-command}
+use Rattle.decision_core.specs.Leading.{AsksOfTrace, PlanSays, says_accepted, says_layout, says_hostile}
+use Rattle.decision_core.proofs.WordLemmas.{asks-of, third-named}
 use Rattle.decision_core.proofs.JudgedLemmas.{same-accepted, accepted-or-refused, same-refused}
 
 -- fewer words begin a command too
@@ -83,6 +87,13 @@ names-words words desc (inr (inr p)) = let a = asks-words words desc p.0 p.1 p.2
 
 pub same-desc : (words : List (List ℕ)) (desc desc' : List ℕ) → NamesDescription words desc → NamesDescription words desc' → desc ≡ desc'
 same-desc words desc desc' n m = let a = names-words words desc n in let b = names-words words desc' m in second-of words a.0 desc a.1 b.0 desc' b.1 a.2 b.2
+
+-- the description and the trace that a command's words name
+pub trace-asked : (words : List (String Global)) (c : Command) (asked : Asked) (w : String Global) (name trace : List ℕ) → Spells (texts_of words) c → AsksOfTrace c asked → NamesDescription (texts_of words) name → w ≡ get_or words 2 w → trace ≡ string_bytes w → AsksFor (texts_of words) name trace asked
+trace-asked words c asked w name trace s a named e n =
+    let t = asks-of (texts_of words) c asked s a in
+    let u : AsksFor (texts_of words) t.0 trace asked = subst (λ x. AsksFor (texts_of words) t.0 x asked) (sym n) (third-named words t.0 t.1 asked w t.2 e) in
+    subst (λ x. AsksFor (texts_of words) x trace asked) (same-desc (texts_of words) t.0 name (inr (inr (trace, asked, u))) named) u
 
 same-trace : (words : List (List ℕ)) (desc trace desc' trace' : List ℕ) (o o' : Asked) → AsksFor words desc trace o → AsksFor words desc' trace' o' → trace ≡ trace'
 same-trace words desc trace desc' trace' o o' p q =
@@ -208,7 +219,7 @@ pub same-alone : (words : List (List ℕ)) (trace trace' : List ℕ) (a a' : Alo
 same-alone words trace trace' a a' w w' = let p = alone-words words trace a w in let q = alone-words words trace' a' w' in second-of words p.0 trace p.1 q.0 trace' q.1 p.2 q.2
 
 -- words spell one command
-one-command : (words : List (List ℕ)) (c d : Command) → Spells words c → Spells words d → c ≡ d
+pub one-command : (words : List (List ℕ)) (c d : Command) → Spells words c → Spells words d → c ≡ d
 one-command words c d s t = let e = same-command words c d s t in cc
 
 no-description : (a : Alone) → HasDescription (command_alone a) → ⊥
@@ -354,10 +365,14 @@ text-read P Q m bytes _ (accepted p d l h q) = accepted p d l h (m p d q)
 pub read-before : (told told' : List ℕ → Option (List ℕ)) → ((n : List ℕ) → told' n ≡ told n) → (name bytes : List ℕ) → WasRead told' name bytes → WasRead told name bytes
 read-before told told' same name bytes r = rw (same name) at r
 
-pub text-before : (told told' : List ℕ → Option (List ℕ)) → ((n : List ℕ) → told' n ≡ told n) → (words : List (List ℕ)) (bytes : List ℕ) (d : Decision)
-    → TextDecides (PlanDecides (WasRead told') words) bytes d → TextDecides (PlanDecides (WasRead told) words) bytes d
-text-before told told' same words =
-    text-read (PlanDecides (WasRead told') words) (PlanDecides (WasRead told) words) (plan-read (WasRead told') (WasRead told) (read-before told told' same) words)
+-- what a command says of a plan without a trace is what its words decide
+plan-said : (R : List ℕ → List ℕ → Type 0) (words : List (List ℕ)) (command : Command) (plan : Plan) (d : Decision) → Spells words command → PlanSays command plan d → PlanDecides R words plan d
+plan-said R words command plan _ s (says_accepted e) = let t : Spells words Do.Check = subst (λ (c : Command). Spells words c) e s in checked t.0 t.1
+plan-said R words command plan _ s (says_layout e) = let t : Spells words Do.Layout = subst (λ (c : Command). Spells words c) e s in laid_out t.0 t.1
+plan-said R words command plan _ s (says_hostile asked place a f) = let t = asks-of words command asked s a in hostile t.0 t.1 asked place t.2 f
+
+pub said-decides : (R : List ℕ → List ℕ → Type 0) (words : List (List ℕ)) (command : Command) (bytes : List ℕ) (d : Decision) → Spells words command → TextDecides (PlanSays command) bytes d → TextDecides (PlanDecides R words) bytes d
+said-decides R words command bytes d s h = text-read (PlanSays command) (PlanDecides R words) (λ plan e k. plan-said R words command plan e s k) bytes d h
 
 -- what holds of what was decided holds in another form
 pub map-ok : {T E : Type 0} (r : Result T E) (P Q : T → Type 0) → ((x : T) → P x → Q x) → IfOk r P → IfOk r Q

@@ -1,6 +1,5 @@
-use Rattle.std.proofs.Common.{◌≡◌, ◌≤◌, ◌<◌, ◌⊎◌, inl, inr, ℕ, List, length, drop, Option, Some, None, ◌∙◌, ap, subst, arith}
+use Rattle.std.proofs.Common.{◌≡◌, ◌≤◌, ◌<◌, ◌⊎◌, inl, inr, ℕ, List, length, Option, Some, None, ap, subst, arith}
 use Rattle.std.proofs.lemmas.List.{length-take}
-use Rattle.std.specs.Option.{option_map}
 use Rattle.sdf_plan.specs.declared.plan.Plan.{Plan}
 use Rattle.trace_text.specs.declared.trace.Trace.{Trace}
 use Rattle.decision_core.specs.declared.showing.Asked.{Asked}
@@ -8,13 +7,15 @@ use Rattle.decision_core.specs.declared.showing.Asked.TheVariants as Ask
 use Rattle.decision_core.specs.declared.status.Status.{Status}
 use Rattle.decision_core.specs.declared.status.Status.TheVariants as Ended
 use Rattle.sdf_model.specs.Counts.{text_most}
-use Rattle.shelf_core.specs.Outside.{IsRead, read_most, also_opened}
+use Rattle.shelf_core.specs.Outside.{IsRead, read_most}
 use Rattle.decision_core.specs.declared.showing.Alone.{Alone}
 use Rattle.decision_core.specs.declared.showing.Alone.TheVariants as Only
-use Rattle.decision_core.specs.Decisions.{Decision, AloneDecides, OneTextDecides, long_text_alone, bad_text, good_text, bus_played, ports_played, asked_on, AsksFor, TextDecides, TraceDecides, GeneratedDecides, long_description, refused, accepted, long_trace, bad_trace, good_trace, NamesDescription, IsStatusOf}
-use Rattle.shelf_core.specs.Reading.{Behind, WasRead}
-use Rattle.decision_core.specs.Readings.{IsLong, IsWithinLimit, IsOfText, IsOfPlay, IsUnread, LeavesPlan, LeavesText, ReadLast, read_description, read_trace, OpensText, OpensInTurn, opens_description, opens_trace}
-use Rattle.decision_core.proofs.DecisionLemmas.{same-desc}
+use Rattle.decision_core.specs.Decisions.{Decision, AloneDecides, OneTextDecides, long_text_alone, bad_text, good_text, bus_played, ports_played, asked_on, TextDecides, TraceDecides, GeneratedDecides, long_description, refused, accepted, long_trace, bad_trace, good_trace, IsStatusOf}
+use Rattle.decision_core.specs.Leading.{PlanSays, says_accepted, says_layout, says_hostile}
+use Rattle.decision_core.specs.Readings.{IsLong, IsWithinLimit, IsOfText, IsOfPlan, IsOfPlay, IsUnread}
+use Rattle.command_words.specs.declared.command.Command.{Command}
+use Rattle.command_words.specs.declared.command.Command.TheVariants as Do
+use Rattle.command_words.specs.Words.{Spells}
 
 -- a text is too long, or within the limit, as the bytes are that were read of it
 pub long-read : (told : Option (List ℕ)) (bytes : List ℕ) → IsRead told bytes → text_most < length bytes → IsLong told
@@ -51,38 +52,16 @@ pub alone-status : (a : Alone) (told : Option (List ℕ)) (bytes : List ℕ) (d 
 alone-status (Only.Bus schedule) told bytes d s r t h = text-alone _ _ (bus_played schedule) told bytes d s (λ b e. of-play s e) r t h
 alone-status (Only.Switch schedule) told bytes d s r t h = text-alone _ _ (ports_played schedule) told bytes d s (λ b e. of-play s e) r t h
 
--- the description was opened, and then the trace
-opened-both : (words : List (List ℕ)) (desc desc' trace : List ℕ) (asked : Asked) (start before after : Option (List (List ℕ))) → NamesDescription words desc → AsksFor words desc' trace asked
-    → before ≡ also_opened start desc → after ≡ also_opened before trace → after ≡ also_opened (also_opened start desc') trace
-opened-both words desc desc' trace asked start before after named asks o e =
-    e ∙ ap (λ names. also_opened names trace) (o ∙ ap (λ d. also_opened start d) (same-desc words desc desc' named (inr (inr (trace, asked, asks)))))
+-- what a command says of a plan without a trace is an answer to its description
+plan-status : (words : List (List ℕ)) (command : Command) (plan : Plan) (d : Decision) (s : Status) → Spells words command → PlanSays command plan d → IsStatusOf d s → IsOfPlan words s
+plan-status words command plan _ s spells (says_accepted e) h = let t : Spells words Do.Check = subst (λ (c : Command). Spells words c) e spells in rw h (t.0, inl t.1)
+plan-status words command plan _ s spells (says_layout e) h = let t : Spells words Do.Layout = subst (λ (c : Command). Spells words c) e spells in rw h (t.0, inr t.1)
+plan-status words command plan _ s spells (says_hostile asked place a f) h = rw h tt
 
--- what was opened, once the description was read
-pub text-opens : (told : List ℕ → Option (List ℕ)) (words : List (List ℕ)) (desc bytes : List ℕ) (start before after : Option (List (List ℕ))) → NamesDescription words desc → before ≡ also_opened start desc
-    → IsRead (told desc) bytes → OpensText words bytes before after → OpensInTurn (WasRead told) words start after
-text-opens told words desc bytes start before after named o r (inl e) = opens_description desc named (e ∙ o)
-text-opens told words desc bytes start before after named o r (inr h) = elim h.3 [
-  | inl e ↦ opens_description desc named (e ∙ o)
-  | inr t ↦ opens_trace t.0 t.1 bytes t.2 h.0 t.3 (subst (λ d. WasRead told d bytes) (same-desc words desc t.0 named (inr (inr (t.1, t.2, t.3)))) r) h.1 h.2 (opened-both words desc t.0 t.1 t.2 start before after named t.3 o t.4)
-]
-
--- what was read last, once a description within the limit was read
-plan-read-last : (told told' : List ℕ → Option (List ℕ)) → ((n : List ℕ) → told' n ≡ told n) → (words : List (List ℕ)) (desc : List ℕ) (first old new : Option (List ℕ)) (start before after : Option (List (List ℕ))) (s : Status)
-    → NamesDescription words desc → Behind told desc old → before ≡ also_opened start desc → IsWithinLimit (told desc) → LeavesPlan told' words old new before after s → ReadLast told words first new start after s
-unfolding Behind
-plan-read-last told told' same words desc first old new start before after s named behind o within (inl h) = read_description desc named (h.1 ∙ behind) (h.2 ∙ o) (inr (within, h.0))
-plan-read-last told told' same words desc first old new start before after s named behind o within (inr h) =
-    read_trace h.0 h.1 h.2 h.3 (subst (λ d. IsWithinLimit (told d)) (same-desc words desc h.0 named (inr (inr (h.1, h.2, h.3)))) within)
-    (h.4.0 ∙ ap (option_map (drop read_most)) (same h.1)) (opened-both words desc h.0 h.1 h.2 start before after named h.3 o h.4.2) (subst (λ o. IsOfText o IsOfPlay s) (same h.1) h.4.1)
-
--- what was read last, once the description was read
-pub last-read : (told told' : List ℕ → Option (List ℕ)) → ((n : List ℕ) → told' n ≡ told n) → (words : List (List ℕ)) (desc bytes : List ℕ) (first old new : Option (List ℕ)) (start before after : Option (List (List ℕ))) (s : Status)
-    → NamesDescription words desc → Behind told desc old → before ≡ also_opened start desc → IsRead (told desc) bytes → LeavesText told' words bytes old new before after s → ReadLast told words first new start after s
-unfolding Behind
-last-read told told' same words desc bytes first old new start before after s named behind o r (inl h) =
-    read_description desc named (h.2 ∙ behind) (h.3 ∙ o) (inl (long-read (told desc) bytes r h.0, h.1))
-last-read told told' same words desc bytes first old new start before after s named behind o r (inr h) =
-    plan-read-last told told' same words desc first old new start before after s named behind o (within-read (told desc) bytes r h.0) h.1
+pub said-status : (told : Option (List ℕ)) (words : List (List ℕ)) (command : Command) (bytes : List ℕ) (d : Decision) (s : Status) → Spells words command → IsRead told bytes → TextDecides (PlanSays command) bytes d → IsStatusOf d s → IsOfText told (IsOfPlan words) s
+said-status told words command bytes _ s spells r (long_description l) h = inl (long-read told bytes r l, h)
+said-status told words command bytes _ s spells r (refused q l i) h = inr (within-read told bytes r l, rw h tt)
+said-status told words command bytes _ s spells r (accepted plan d l i says) h = inr (within-read told bytes r l, plan-status words command plan d s spells says h)
 
 -- what `gen` decides is an answer to a command that reads no text
 asked-unread : (plan : Plan) (t : Trace) (a : Asked) (s : Status) → IsStatusOf (asked_on plan t a) s → IsUnread s

@@ -4,4 +4,5 @@ pub mod GenLemmas
 pub mod JudgedLemmas
 pub mod LastLemmas
 pub mod PlayableLemmas
+pub mod SettleLemmas
 pub mod WordLemmas

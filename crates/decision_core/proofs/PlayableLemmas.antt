@@ -9,7 +9,10 @@ use Rattle.decision_core.specs.declared.showing.Alone.{Alone}
 use Rattle.decision_core.specs.declared.showing.Alone.TheVariants as Only
 use Rattle.decision_core.specs.declared.status.Status.{Status}
 use Rattle.decision_core.specs.Decided.{decision_of, IsPlayable}
-use Rattle.decision_core.specs.Decisions.{Decision, Say, Play, Run, PlayBus, PlayPorts, AloneDecides, long_text_alone, bad_text, good_text}
+use Rattle.decision_core.specs.Decisions.{Decision, Say, Play, Run, PlayBus, PlayPorts, AloneDecides, long_text_alone, bad_text, good_text, TextDecides, long_description, refused, accepted}
+use Rattle.decision_core.specs.Leading.{PlanSays, says_accepted, says_layout, says_hostile}
+use Rattle.command_words.specs.declared.command.Command.{Command}
+use Rattle.sdf_plan.specs.declared.plan.Plan.{Plan}
 
 pub said-playable : (d : Decided) (status : Status) (text : List ℕ) → decision_of d ≡ Say status text → IsPlayable d
 said-playable (Is.Say s t) status text e = tt
@@ -34,7 +37,7 @@ of-text (Only.Switch schedule) bytes _ (long_text_alone l) = tt
 of-text (Only.Switch schedule) bytes _ (bad_text k l b) = tt
 of-text (Only.Switch schedule) bytes _ (good_text l g) = record { text = bytes; good = g; given = refl }
 
-kept-playable : (d : Decided) → IsOfText (decision_of d) → IsPlayable d
+pub kept-playable : (d : Decided) → IsOfText (decision_of d) → IsPlayable d
 kept-playable (Is.Say s t) h = tt
 kept-playable (Is.Go plan trace (Ask.Play showing)) h = absurd h
 kept-playable (Is.Go plan trace (Ask.Run steps)) h = absurd h
@@ -43,3 +46,17 @@ kept-playable (Is.Ports ports schedule) h = h
 
 pub alone-playable : (a : Alone) (bytes : List ℕ) (d : Decided) → AloneDecides a bytes (decision_of d) → IsPlayable d
 alone-playable a bytes d h = kept-playable d (of-text a bytes (decision_of d) h)
+
+-- what a description decides without a trace is only said
+text-said : (command : Command) (bytes : List ℕ) (d : Decision) → TextDecides (PlanSays command) bytes d → IsOfText d
+text-said command bytes _ (long_description l) = tt
+text-said command bytes _ (refused r l i) = tt
+text-said command bytes _ (accepted plan d l i says) = plan-says plan d says
+  where
+    plan-says : (plan : Plan) (d : Decision) → PlanSays command plan d → IsOfText d
+    plan-says plan _ (says_accepted e) = tt
+    plan-says plan _ (says_layout e) = tt
+    plan-says plan _ (says_hostile asked place a f) = tt
+
+pub text-playable : (command : Command) (bytes : List ℕ) (d : Decided) → TextDecides (PlanSays command) bytes (decision_of d) → IsPlayable d
+text-playable command bytes d h = kept-playable d (text-said command bytes (decision_of d) h)

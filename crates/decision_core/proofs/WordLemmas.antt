@@ -4,15 +4,15 @@ use Rattle.std.specs.Global.{Global}
 use Rattle.std.specs.declared.string.String.{String}
 use Rattle.command_words.specs.declared.command.Command.{Command}
 use Rattle.command_words.specs.declared.command.Command.TheVariants as Do
-use Rattle.command_words.specs.Words.{texts_of, IsCheck, IsLayout, IsPlay, IsRun, IsGen, IsI2c, IsSwitch, Spells}
+use Rattle.command_words.specs.Words.{texts_of, IsCheck, IsLayout, IsPlay, IsRun, IsI2c, IsSwitch, Spells}
 use Rattle.command_words.specs.declared.command.Schedule.{Schedule}
-use Rattle.command_words.proofs.Letters.{run-or-gen}
 use Rattle.decision_core.specs.declared.showing.Showing.TheVariants as Show
 use Rattle.decision_core.specs.declared.showing.Asked.{Asked}
 use Rattle.decision_core.specs.declared.showing.Asked.TheVariants as Ask
 use Rattle.decision_core.specs.declared.showing.Alone.{Alone}
 use Rattle.decision_core.specs.declared.showing.Alone.TheVariants as Only
 use Rattle.decision_core.specs.Naming.{HasDescription}
+use Rattle.decision_core.specs.Leading.{AsksOfTrace}
 use Rattle.decision_core.specs.Decisions.{NamesDescription, AsksFor, AsksAlone, to_play, to_run}
 
 -- the words of a command are two at least
@@ -35,7 +35,7 @@ one-spelled w (Do.I2c d) s = let e = s.1.words_are in cc
 one-spelled w (Do.Switch d) s = let e = s.1.words_are in cc
 
 -- the names in the words of a command
-pub second-named : (words : List (String Global)) (c : Command) (w : String Global) → Spells (texts_of words) c → HasDescription c → w ≡ get_or words 1 w → NamesDescription (texts_of words) (string_bytes w)
+second-named : (words : List (String Global)) (c : Command) (w : String Global) → Spells (texts_of words) c → HasDescription c → w ≡ get_or words 1 w → NamesDescription (texts_of words) (string_bytes w)
 second-named [] c w s named e = absurd (none-spelled c s)
 second-named (a ∷ []) c w s named e = absurd (one-spelled (string_bytes a) c s)
 second-named (a ∷ b ∷ ws) Do.Check w s named e =
@@ -68,13 +68,22 @@ pub third-named : (words : List (String Global)) (desc trace : List ℕ) (asked 
 third-named words desc trace _ w (to_play o p) e = to_play o (subst (λ x. IsPlay (texts_of words) desc x o) (third-word words _ desc trace _ w p.words_are e) p)
 third-named words desc trace _ w (to_run n p) e = to_run n (subst (λ x. IsRun (texts_of words) desc x n) (third-word words _ desc trace _ w p.words_are e) p)
 
+-- the description's name, however the word is written
+pub named-second : (words : List (String Global)) (c : Command) (w : String Global) (name : List ℕ) → Spells (texts_of words) c → HasDescription c → w ≡ get_or words 1 w → name ≡ string_bytes w → NamesDescription (texts_of words) name
+named-second words c w name s named e n = subst (λ x. NamesDescription (texts_of words) x) (sym n) (second-named words c w s named e)
+
+pub command-two : (words : List (String Global)) (c : Command) → Spells (texts_of words) c → 1 < length words
+command-two [] c s = absurd (none-spelled c s)
+command-two (a ∷ []) c s = absurd (one-spelled (string_bytes a) c s)
+command-two (a ∷ b ∷ ws) c s = omega arith
+
 three-words : (words : List (String Global)) (first desc trace : List ℕ) (more : List (List ℕ)) → texts_of words ≡ first ∷ desc ∷ trace ∷ more → 2 < length words
 three-words [] first desc trace more f = cc
 three-words (a ∷ []) first desc trace more f = cc
 three-words (a ∷ b ∷ []) first desc trace more f = cc
 three-words (a ∷ b ∷ c ∷ ws) first desc trace more f = omega arith
 
-pub asks-three : (words : List (String Global)) (desc trace : List ℕ) (asked : Asked) → AsksFor (texts_of words) desc trace asked → 2 < length words
+asks-three : (words : List (String Global)) (desc trace : List ℕ) (asked : Asked) → AsksFor (texts_of words) desc trace asked → 2 < length words
 asks-three words desc trace _ (to_play o p) = three-words words _ desc trace _ p.words_are
 asks-three words desc trace _ (to_run n p) = three-words words _ desc trace _ p.words_are
 
@@ -86,9 +95,12 @@ second-word (a ∷ b ∷ ws) first trace more w f e =
     let t : trace ≡ string_bytes b = cc in
     t ∙ ap (λ (x : String Global). string_bytes x) (sym e)
 
-pub named-alone : (words : List (String Global)) (trace : List ℕ) (asked : Alone) (w : String Global) → AsksAlone (texts_of words) trace asked → w ≡ get_or words 1 w → AsksAlone (texts_of words) (string_bytes w) asked
+named-alone : (words : List (String Global)) (trace : List ℕ) (asked : Alone) (w : String Global) → AsksAlone (texts_of words) trace asked → w ≡ get_or words 1 w → AsksAlone (texts_of words) (string_bytes w) asked
 named-alone words trace (Only.Bus d) w p e = subst (λ x. IsI2c (texts_of words) x d) (second-word words _ trace _ w p.words_are e) p
 named-alone words trace (Only.Switch d) w p e = subst (λ x. IsSwitch (texts_of words) x d) (second-word words _ trace _ w p.words_are e) p
+
+pub alone-named : (words : List (String Global)) (trace : List ℕ) (asked : Alone) (w : String Global) (name : List ℕ) → AsksAlone (texts_of words) trace asked → w ≡ get_or words 1 w → name ≡ string_bytes w → AsksAlone (texts_of words) name asked
+alone-named words trace asked w name p e n = subst (λ x. AsksAlone (texts_of words) x asked) (sym n) (named-alone words trace asked w p e)
 
 two-words : (words : List (String Global)) (first trace : List ℕ) (more : List (List ℕ)) → texts_of words ≡ first ∷ trace ∷ more → 1 < length words
 two-words [] first trace more f = cc
@@ -109,12 +121,15 @@ has-description (Do.Gen n) g i s = absurd (g n refl)
 has-description (Do.I2c d) g i s = absurd (i d refl)
 has-description (Do.Switch d) g i s = absurd (s d refl)
 
--- the words of `gen` spell no other command
-pub gen-alone : (words : List (List ℕ)) (n : ℕ) (c : Command) → IsGen words n → Spells words c → HasDescription c → ⊥
-gen-alone words n Do.Check g s named = let e = sym g.words_are ∙ s.1.words_are in cc
-gen-alone words n Do.Layout g s named = let e = sym g.words_are ∙ s.1.words_are in cc
-gen-alone words n (Do.Play o) g s named = let e = sym g.words_are ∙ s.2.words_are in cc
-gen-alone words n (Do.Run m) g s named = run-or-gen words _ _ s.2.words_are g.words_are
-gen-alone words n (Do.Gen m) g s named = named
-gen-alone words n (Do.I2c d) g s named = named
-gen-alone words n (Do.Switch d) g s named = named
+-- a command's words ask for what it asks of a trace
+pub asks-of : (words : List (List ℕ)) (command : Command) (asked : Asked) → Spells words command → AsksOfTrace command asked → (desc : List ℕ) × (trace : List ℕ) × AsksFor words desc trace asked
+asks-of words Do.Check asked s a = absurd a
+asks-of words Do.Layout asked s a = absurd a
+asks-of words (Do.Play o) asked s a = (s.0, s.1, subst (λ (x : Asked). AsksFor words s.0 s.1 x) (sym a) (to_play o s.2))
+asks-of words (Do.Run n) asked s a = (s.0, s.1, subst (λ (x : Asked). AsksFor words s.0 s.1 x) (sym a) (to_run n s.2))
+asks-of words (Do.Gen n) asked s a = absurd a
+asks-of words (Do.I2c d) asked s a = absurd a
+asks-of words (Do.Switch d) asked s a = absurd a
+
+pub trace-three : (words : List (String Global)) (c : Command) (asked : Asked) → Spells (texts_of words) c → AsksOfTrace c asked → 2 < length words
+trace-three words c asked s a = let t = asks-of (texts_of words) c asked s a in asks-three words t.0 t.1 asked t.2

@@ -4,6 +4,8 @@ pub mod Decided
 pub mod Decisions
 pub mod Generating
 pub mod Judged
+pub mod Leading
 pub mod Naming
 pub mod Readings
 pub mod Rogues
+pub mod Settled

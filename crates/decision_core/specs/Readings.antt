@@ -58,21 +58,6 @@ LeavesPlay told trace old new before after status =
     Behind told trace new × IsOfText (told trace) IsOfPlay status
     × (after ≡ also_opened before trace)
 
--- the same of the words of a command whose description was read
-abbrev pub LeavesPlan : (List ℕ → Option (List ℕ)) → List (List ℕ) → Option (List ℕ)
-    → Option (List ℕ) → Option (List (List ℕ)) → Option (List (List ℕ)) → Status → Type 0
-LeavesPlan told words old new before after status =
-    (IsOfPlan words status × (new ≡ old) × (after ≡ before))
-    ⊎ ((desc : List ℕ) × (trace : List ℕ) × (asked : Asked) × AsksFor words desc trace asked
-    × LeavesPlay told trace old new before after status)
-
--- the same of these bytes of a description
-abbrev pub LeavesText : (List ℕ → Option (List ℕ)) → List (List ℕ) → List ℕ → Option (List ℕ)
-    → Option (List ℕ) → Option (List (List ℕ)) → Option (List (List ℕ)) → Status → Type 0
-LeavesText told words bytes old new before after status =
-    ((text_most < length bytes) × (status ≡ Ended.TooLong) × (new ≡ old) × (after ≡ before))
-    ⊎ ((length bytes ≤ text_most) × LeavesPlan told words old new before after status)
-
 -- an answer to a command that reads no text
 abbrev pub IsUnread : Status → Type 0
 IsUnread Ended.Ok = Unit {0}
@@ -84,21 +69,6 @@ IsUnread (Ended.Usage k) = ⊥
 IsUnread Ended.ReadFault = ⊥
 IsUnread Ended.WriteFault = ⊥
 IsUnread (Ended.Memory memory) = ⊥
-
--- what was opened behind the description: nothing, or the trace that the words name
-abbrev pub OpensTrace : List (List ℕ) → Option (List (List ℕ)) → Option (List (List ℕ)) → Type 0
-OpensTrace words before after =
-    (after ≡ before)
-    ⊎ ((desc : List ℕ) × (trace : List ℕ) × (asked : Asked) × AsksFor words desc trace asked
-    × (after ≡ also_opened before trace))
-
--- the same of these bytes of the description: nothing where they aren't accepted
-abbrev pub OpensText : List (List ℕ) → List ℕ → Option (List (List ℕ)) → Option (List (List ℕ))
-    → Type 0
-OpensText words bytes before after =
-    (after ≡ before)
-    ⊎ ((plan : Plan) × (length bytes ≤ text_most) × IsAccepted bytes plan
-    × OpensTrace words before after)
 
 -- which texts are opened for the words, and in which order, however the call ends: none where they
 -- name none; the one text that they name; or the description, and next the trace, once the

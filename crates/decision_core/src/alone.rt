@@ -2,11 +2,9 @@
 ghost use Rattle.std.specs.Prelude.{◌≡◌, IfOk, ℕ, List};
 ghost use Rattle.report_text.specs.Answers.{bad_trace_text};
 ghost use Rattle.command_words.specs.Words.{texts_of};
-ghost use Rattle.shelf_core.specs.Shelves.{ReadsFrom};
-ghost use Rattle.shelf_core.specs.Reading.{WasRead};
-ghost use Rattle.decision_core.specs.Decided.{decision_of, OfEach, IsPlayable};
-ghost use Rattle.decision_core.specs.Decisions.{Say, AloneDecides, AsksAlone, Decides};
-ghost use Rattle.decision_core.specs.Readings.{ReadLast, OpensInTurn};
+ghost use Rattle.decision_core.specs.Decided.{decision_of};
+ghost use Rattle.decision_core.specs.Decisions.{Say, AloneDecides, AsksAlone};
+ghost use Rattle.decision_core.specs.Settled.{Settles};
 
 use crate::deciding::{Decided, say_bad_trace, say_too_long};
 use crate::{Alone, Status};
@@ -83,14 +81,9 @@ pub fn decide_alone<F: Shelf>(
     words: &[String],
     asked: Alone,
 ) -> Result<Decided, ReadStop>
-    requires asks { (trace : List ℕ) × AsksAlone (texts_of words.now) trace asked }
-    ensures decides { IfOk result (λ d. Decides (WasRead (F.text shelf.old))
-        (texts_of words.now) (decision_of d)) }
-    ensures reads { ReadsFrom F.text F.left F.opens F.faults F.failed
-        (OpensInTurn (WasRead (F.text shelf.old)) (texts_of words.now))
-        (OfEach (ReadLast (F.text shelf.old) (texts_of words.now)))
-        shelf.old shelf.new result }
-    ensures playable { IfOk result IsPlayable }
+    requires { (trace : List ℕ) × AsksAlone (texts_of words.now) trace asked }
+    ensures { Settles F.text F.left F.opens F.faults F.failed (texts_of words.now) shelf.old
+        shelf.new result }
 {
     let bytes = read_text(alloc, shelf, words[1].as_str())?;
     Ok(decide_bytes(alloc, asked, bytes.as_slice())?)

@@ -1,28 +1,28 @@
 //! What the words and the texts under their names decide, one function for each stage: words,
 //! description, plan, trace.
-ghost use Rattle.std.specs.Prelude.{◌≡◌, Err, IfOk, ℕ, List, None};
+ghost use Rattle.std.specs.Prelude.{◌≡◌, Err, IfOk, ℕ};
 ghost use Rattle.sdf_plan.specs.declared.place.Refusal.{Refusal};
 ghost use Rattle.sdf_plan.specs.Elements.{IsNumbered};
 ghost use Rattle.region_layout.specs.Layouts.{layout_of};
 ghost use Rattle.report_text.specs.Answers.{usage_text, accepted_text, bad_trace_text};
 ghost use Rattle.report_text.specs.Layouts.{layout_text};
-ghost use Rattle.command_words.specs.Words.{texts_of, IsGen, Spells, last_name};
+ghost use Rattle.command_words.specs.Words.{texts_of, IsGen, Spells};
 ghost use Rattle.command_words.specs.declared.command.Command.{Command};
+ghost use Rattle.command_words.specs.declared.command.Command.TheVariants as Do;
 ghost use Rattle.shelf_core.specs.Shelves.{ReadsFrom};
 ghost use Rattle.decision_core.specs.Judged.{IsAcceptedPlan};
 ghost use Rattle.decision_core.specs.Decided.{decision_of, OfEach, IsPlayable};
-ghost use Rattle.decision_core.specs.Decisions.{Say, AsksFor, Decides, TextDecides, PlanDecides};
-ghost use Rattle.decision_core.specs.Decisions.{TraceDecides, GeneratedDecides, refuses, too_long};
+ghost use Rattle.decision_core.specs.Decisions.{Say, Decides, TextDecides, TraceDecides};
+ghost use Rattle.decision_core.specs.Decisions.{GeneratedDecides, refuses, too_long};
 ghost use Rattle.decision_core.specs.Generating.{IsSummary};
 ghost use Rattle.decision_core.specs.Naming.{HasDescription};
 ghost use Rattle.shelf_core.specs.Reading.{WasRead};
-ghost use Rattle.decision_core.specs.Readings.{LeavesPlan, LeavesText, ReadLast};
-ghost use Rattle.decision_core.specs.Readings.{OpensTrace, OpensText, OpensInTurn};
-ghost use Rattle.decision_core.specs.Rogues.{first_rogue};
+ghost use Rattle.decision_core.specs.Readings.{OpensInTurn, ReadLast};
+ghost use Rattle.decision_core.specs.Settled.{Settles, SettlesTrace};
 
 use crate::alone::decide_alone;
-use crate::judging::judge;
-use crate::rogues::first_rogue;
+use crate::describing::{Next, lead_text};
+use crate::judging::{judge, let_go};
 use crate::{Alone, Asked, Showing, Status};
 use cargo_core::Memory;
 use command_words::{Command, Schedule, read_words};
@@ -53,7 +53,7 @@ pub enum Decided {
 }
 
 /// A description is refused.
-fn say_refusal(alloc: Global, refusal: Refusal) -> Result<Decided, Memory>
+pub fn say_refusal(alloc: Global, refusal: Refusal) -> Result<Decided, Memory>
     ensures { IfOk result (λ d. decision_of d ≡ refuses refusal) }
 {
     let text = write_refused(alloc, &refusal)?;
@@ -61,7 +61,7 @@ fn say_refusal(alloc: Global, refusal: Refusal) -> Result<Decided, Memory>
 }
 
 /// A description isn't accepted.
-fn say_unaccepted(alloc: Global, fault: SdfFault) -> Result<Decided, Memory>
+pub fn say_unaccepted(alloc: Global, fault: SdfFault) -> Result<Decided, Memory>
     ensures { IfOk result (λ d. (refusal : Refusal) × (fault ≡ SdfFault.Refused refusal)
         × (decision_of d ≡ refuses refusal)) }
 {
@@ -108,20 +108,21 @@ fn say_usage(alloc: Global, k: u32) -> Result<Decided, Memory>
 }
 
 /// What `check` says of a description that is accepted.
-fn say_accepted(alloc: Global, plan: Plan) -> Result<Decided, Memory>
-    ensures { IfOk result (λ d. decision_of d ≡ Say Status.Ok (accepted_text plan)) }
+pub fn say_accepted(alloc: Global, plan: &Plan) -> Result<Decided, Memory>
+    ensures { IfOk result (λ d. decision_of d ≡ Say Status.Ok (accepted_text plan.now)) }
 {
-    let text = write_accepted(alloc, &plan)?;
+    let text = write_accepted(alloc, plan)?;
     Ok(Decided::Say(Status::Ok, text))
 }
 
 /// What `layout` says of a description that is accepted.
-fn say_layout(alloc: Global, plan: Plan) -> Result<Decided, Memory>
-    requires { IsAcceptedPlan plan }
-    ensures { IfOk result (λ d. decision_of d ≡ Say Status.Ok (layout_text plan (layout_of plan))) }
+pub fn say_layout(alloc: Global, plan: &Plan) -> Result<Decided, Memory>
+    requires { IsAcceptedPlan plan.now }
+    ensures { IfOk result (λ d. decision_of d
+        ≡ Say Status.Ok (layout_text plan.now (layout_of plan.now))) }
 {
-    let layout = lay_out(alloc, &plan)?;
-    let text = write_layout(alloc, &plan, &layout)?;
+    let layout = lay_out(alloc, plan)?;
+    let text = write_layout(alloc, plan, &layout)?;
     Ok(Decided::Say(Status::Ok, text))
 }
 
@@ -133,11 +134,15 @@ fn decide_trace(alloc: Global, plan: Plan, asked: Asked, bytes: &[u8]) -> Result
     ensures playable { IfOk result IsPlayable }
 {
     if bytes.len() > TEXT_MOST {
+        let_go(plan);
         return say_too_long(alloc);
     }
     match read_trace(alloc, bytes, &plan) {
         Ok(trace) => Ok(Decided::Go(plan, trace, asked)),
-        Err(fault) => say_unread(alloc, fault),
+        Err(fault) => {
+            let_go(plan);
+            say_unread(alloc, fault)
+        }
     }
 }
 
@@ -148,8 +153,13 @@ fn decide_generated(alloc: Global, plan: Plan, number: u64) -> Result<Decided, M
     ensures decides { IfOk result (λ d. GeneratedDecides number plan (decision_of d)) }
     ensures playable { IfOk result IsPlayable }
 {
-    let text = generate(alloc, number)?;
-    decide_trace(alloc, plan, Asked::Play(Showing::Summary), text.as_bytes())
+    match generate(alloc, number) {
+        Ok(text) => decide_trace(alloc, plan, Asked::Play(Showing::Summary), text.as_bytes()),
+        Err(memory) => {
+            let_go(plan);
+            Err(memory)
+        }
+    }
 }
 
 /// What `gen` decides, by the bytes of its description.
@@ -167,120 +177,45 @@ fn decide_gen(alloc: Global, desc: &[u8], number: u64) -> Result<Decided, Memory
     }
 }
 
-/// What the trace that the words name decides for a plan.
+/// What the trace of a name decides for a plan.
 fn decide_named<F: Shelf>(
     alloc: Global,
     shelf: &mut F,
-    words: &[String],
+    name: &str,
     plan: Plan,
     asked: Asked,
 ) -> Result<Decided, ReadStop>
     requires accepted { IsAcceptedPlan plan }
     requires numbered { IsNumbered plan }
-    requires friendly { first_rogue plan ≡ None }
-    requires asks { (desc : List ℕ) × (trace : List ℕ)
-        × AsksFor (texts_of words.now) desc trace asked }
-    ensures decides { IfOk result (λ d. PlanDecides (WasRead (F.text shelf.old))
-        (texts_of words.now) plan (decision_of d)) }
-    ensures reads { ReadsFrom F.text F.left F.opens F.faults F.failed
-        (OpensTrace (texts_of words.now))
-        (OfEach (LeavesPlan (F.text shelf.old) (texts_of words.now))) shelf.old shelf.new result }
-    ensures playable { IfOk result IsPlayable }
+    ensures { SettlesTrace F.text F.left F.opens F.faults F.failed name.now plan asked shelf.old
+        shelf.new result }
 {
-    let bytes = read_text(alloc, shelf, words[2].as_str())?;
-    Ok(decide_trace(alloc, plan, asked, bytes.as_slice())?)
-}
-
-/// What a play or a run decides for a plan: that it is refused where there is a hostile client, or
-/// what the trace that the words name decides.
-fn decide_asked<F: Shelf>(
-    alloc: Global,
-    shelf: &mut F,
-    words: &[String],
-    plan: Plan,
-    asked: Asked,
-) -> Result<Decided, ReadStop>
-    requires accepted { IsAcceptedPlan plan }
-    requires numbered { IsNumbered plan }
-    requires asks { (desc : List ℕ) × (trace : List ℕ)
-        × AsksFor (texts_of words.now) desc trace asked }
-    ensures decides { IfOk result (λ d. PlanDecides (WasRead (F.text shelf.old))
-        (texts_of words.now) plan (decision_of d)) }
-    ensures reads { ReadsFrom F.text F.left F.opens F.faults F.failed
-        (OpensTrace (texts_of words.now))
-        (OfEach (LeavesPlan (F.text shelf.old) (texts_of words.now))) shelf.old shelf.new result }
-    ensures playable { IfOk result IsPlayable }
-{
-    let rogue = first_rogue(alloc, &plan)?;
-    match rogue {
-        Some(place) => Ok(say_refusal(alloc, Refusal { rule: 0, place })?),
-        None => decide_named(alloc, shelf, words, plan, asked),
-    }
-}
-
-/// What a command decides for the plan of a description that is accepted.
-fn decide_plan<F: Shelf>(
-    alloc: Global,
-    shelf: &mut F,
-    words: &[String],
-    command: Command,
-    plan: Plan,
-) -> Result<Decided, ReadStop>
-    requires accepted { IsAcceptedPlan plan }
-    requires numbered { IsNumbered plan }
-    requires spells { Spells (texts_of words.now) command }
-    requires named { HasDescription command }
-    ensures decides { IfOk result (λ d. PlanDecides (WasRead (F.text shelf.old))
-        (texts_of words.now) plan (decision_of d)) }
-    ensures reads { ReadsFrom F.text F.left F.opens F.faults F.failed
-        (OpensTrace (texts_of words.now))
-        (OfEach (LeavesPlan (F.text shelf.old) (texts_of words.now))) shelf.old shelf.new result }
-    ensures playable { IfOk result IsPlayable }
-{
-    match command {
-        Command::Check => Ok(say_accepted(alloc, plan)?),
-        Command::Layout => Ok(say_layout(alloc, plan)?),
-        Command::Play(options) => {
-            decide_asked(
-                alloc,
-                shelf,
-                words,
-                plan,
-                Asked::Play(Showing::Report(options)),
-            )
+    match read_text(alloc, shelf, name) {
+        Ok(bytes) => Ok(decide_trace(alloc, plan, asked, bytes.as_slice())?),
+        Err(stop) => {
+            let_go(plan);
+            Err(stop)
         }
-        Command::Run(steps) => decide_asked(alloc, shelf, words, plan, Asked::Run(steps)),
-        Command::Gen(_) => unreachable!(),
-        Command::I2c(_) => unreachable!(),
-        Command::Switch(_) => unreachable!(),
     }
 }
 
-/// What a command decides, by the bytes of its description.
-fn decide_text<F: Shelf>(
+/// What a command on a description decides.
+fn decide_described<F: Shelf>(
     alloc: Global,
     shelf: &mut F,
     words: &[String],
     command: Command,
-    text: &[u8],
 ) -> Result<Decided, ReadStop>
     requires spells { Spells (texts_of words.now) command }
     requires named { HasDescription command }
-    ensures decides { IfOk result (λ d. TextDecides
-        (PlanDecides (WasRead (F.text shelf.old)) (texts_of words.now)) text.now
-        (decision_of d)) }
-    ensures reads { ReadsFrom F.text F.left F.opens F.faults F.failed
-        (OpensText (texts_of words.now) text.now)
-        (OfEach (LeavesText (F.text shelf.old) (texts_of words.now) text.now))
-        shelf.old shelf.new result }
-    ensures playable { IfOk result IsPlayable }
+    ensures { Settles F.text F.left F.opens F.faults F.failed (texts_of words.now) shelf.old
+        shelf.new result }
 {
-    if text.len() > TEXT_MOST {
-        return Ok(say_too_long(alloc)?);
-    }
-    match judge(alloc, text) {
-        Ok(plan) => decide_plan(alloc, shelf, words, command, plan),
-        Err(fault) => Ok(say_unaccepted(alloc, fault)?),
+    let text = read_text(alloc, shelf, words[1].as_str())?;
+    let next = lead_text(alloc, command, text.as_slice())?;
+    match next {
+        Next::Done(decided) => Ok(decided),
+        Next::Trace(plan, asked) => decide_named(alloc, shelf, words[2].as_str(), plan, asked),
     }
 }
 
@@ -291,18 +226,18 @@ fn decide_command<F: Shelf>(
     words: &[String],
     command: Command,
 ) -> Result<Decided, ReadStop>
-    requires spells { Spells (texts_of words.now) command }
-    requires named { HasDescription command }
-    ensures decides { IfOk result (λ d. Decides (WasRead (F.text shelf.old))
-        (texts_of words.now) (decision_of d)) }
-    ensures reads { ReadsFrom F.text F.left F.opens F.faults F.failed
-        (OpensInTurn (WasRead (F.text shelf.old)) (texts_of words.now))
-        (OfEach (ReadLast (F.text shelf.old) (texts_of words.now)))
+    requires { Spells (texts_of words.now) command }
+    ensures settles { Settles F.text F.left F.opens F.faults F.failed (texts_of words.now)
         shelf.old shelf.new result }
-    ensures playable { IfOk result IsPlayable }
+    ensures generates { (n : ℕ) → command ≡ Do.Gen n
+        → (shelf.new ≡ shelf.old) × IfOk result (λ d. IsSummary (decision_of d)) }
 {
-    let text = read_text(alloc, shelf, words[1].as_str())?;
-    decide_text(alloc, shelf, words, command, text.as_slice())
+    match command {
+        Command::Gen(number) => Ok(decide_gen(alloc, FULL_EXAMPLE.as_bytes(), number)?),
+        Command::I2c(schedule) => decide_alone(alloc, shelf, words, Alone::Bus(schedule)),
+        Command::Switch(schedule) => decide_alone(alloc, shelf, words, Alone::Switch(schedule)),
+        _ => decide_described(alloc, shelf, words, command),
+    }
 }
 
 /// What the words decide.
@@ -325,9 +260,6 @@ pub fn decide_words<F: Shelf>(
     ensures playable { IfOk result IsPlayable }
 {
     match read_words(words) {
-        Ok(Command::Gen(number)) => Ok(decide_gen(alloc, FULL_EXAMPLE.as_bytes(), number)?),
-        Ok(Command::I2c(schedule)) => decide_alone(alloc, shelf, words, Alone::Bus(schedule)),
-        Ok(Command::Switch(schedule)) => decide_alone(alloc, shelf, words, Alone::Switch(schedule)),
         Ok(command) => decide_command(alloc, shelf, words, command),
         Err(k) => Ok(say_usage(alloc, k)?),
     }

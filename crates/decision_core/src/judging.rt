@@ -22,8 +22,14 @@ pub fn judge(alloc: Global, text: &[u8]) -> Result<Plan, SdfFault>
     match read_description(alloc, text) {
         Ok(plan) => match check(alloc, &plan) {
             Ok(()) => Ok(plan),
-            Err(fault) => Err(fault),
+            Err(fault) => {
+                let_go(plan);
+                Err(fault)
+            }
         },
         Err(fault) => Err(fault),
     }
 }
+
+/// Lets a plan go. It has many parts, each of which is freed by itself: so this stands once.
+pub fn let_go(_plan: Plan) {}

@@ -3,6 +3,7 @@
 
 mod alone;
 mod deciding;
+mod describing;
 mod judging;
 mod rogues;
 mod showing;

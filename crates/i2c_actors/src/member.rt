@@ -7,7 +7,7 @@ use i2c_virt::i2c_client::BusClient;
 use i2c_virt::{BusDevice, BusDriver, I2cVirt};
 use plain_wires::World;
 use small_system::SmallActor;
-use wire_core::Event;
+use wire_core::{Answer, Event, Op, QueueId};
 
 /// An actor of the bus.
 #[derive(Drop)]
@@ -22,12 +22,20 @@ impl SmallActor for Member {
     ghost means = { member_means };
 
     fn step(&mut self, world: &mut World) -> Result<Event, Memory> {
+        // Each of them writes the call that it makes in the one place.
+        let mut event = Event {
+            op: Op::See,
+            queue: QueueId(0),
+            answer: Answer::No,
+            item: None,
+        };
         match self {
-            Member::Client(client) => client.step(world),
-            Member::Virt(virt) => Ok(virt.step(world)),
-            Member::Driver(driver) => Ok(driver.step(world)),
-            Member::Bus(bus) => Ok(bus.step(world)),
+            Member::Client(client) => client.step(world, &mut event)?,
+            Member::Virt(virt) => virt.step(world, &mut event),
+            Member::Driver(driver) => driver.step(world, &mut event),
+            Member::Bus(bus) => bus.step(world, &mut event),
         }
+        Ok(event)
     }
 
     fn at_rest(&self) -> bool {

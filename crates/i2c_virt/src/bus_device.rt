@@ -14,6 +14,7 @@ ghost use Rattle.i2c_virt.specs.BusDevices.{FitsBus, BusStandsFor, BusRow, SameB
 ghost use Rattle.i2c_virt.specs.BusDevices.{is_serving, bus_round, Accepted};
 ghost use Rattle.i2c_virt.specs.declared.bus_device.BusDevice.{BusDevice};
 
+use crate::calls::{pull, push};
 use crate::i2c_kit::{Device, answer_to, is_bus_request, new_devices};
 use cargo_core::{Body, Bytes, Item, Memory, QueueKind};
 use std::alloc::Global;
@@ -113,52 +114,58 @@ impl BusDevice {
     }
 
     // The next call of the input. What it takes is done.
-    fn step_input<W: Wires>(&mut self, wires: &mut W) -> Event
+    fn step_input<W: Wires>(&mut self, wires: &mut W, event: &mut Event)
         requires { FitsBus (W.ends wires.old) self.old }
         ensures fits { FitsBus (W.ends wires.new) self.new }
         ensures same { SameBus self.old self.new }
-        ensures stepped { Stepped BusStandsFor W.did wires.old wires.new self.old self.new result }
-        ensures posted { Posted (intake_post self.old.input) (is_serving self.old) result
+        ensures stepped { Stepped BusStandsFor W.did wires.old wires.new self.old self.new
+            event.new }
+        ensures posted { Posted (intake_post self.old.input) (is_serving self.old) event.new
             (intake_post self.new.input) }
-        ensures load { is_mark result.op result.answer ≡ false → self.new.load ≡ self.old.load }
-        ensures stray { is_mark result.op result.answer ≡ false → self.new.stray ≡ self.old.stray }
+        ensures load { is_mark event.new.op event.new.answer ≡ false
+            → self.new.load ≡ self.old.load }
+        ensures stray { is_mark event.new.op event.new.answer ≡ false
+            → self.new.stray ≡ self.old.stray }
         ensures output { self.new.output ≡ self.old.output }
         ensures turn { self.new.turn ≡ self.old.turn }
     {
         let need = self.is_serving();
-        let (event, got) = self.input.step(wires, need);
+        let mut got = None;
+        pull(&mut self.input, wires, need, &mut got, event);
         if let Some(entry) = got {
             self.accept(entry);
         }
-        event
     }
 
     // The next call of the output, which puts the answer.
-    fn step_output<W: Wires>(&mut self, wires: &mut W) -> Event
+    fn step_output<W: Wires>(&mut self, wires: &mut W, event: &mut Event)
         requires { FitsBus (W.ends wires.old) self.old }
         ensures fits { FitsBus (W.ends wires.new) self.new }
         ensures same { SameBus self.old self.new }
-        ensures stepped { Stepped BusStandsFor W.did wires.old wires.new self.old self.new result }
-        ensures posted { Posted (outlet_post self.old.output) (is_some self.old.load) result
+        ensures stepped { Stepped BusStandsFor W.did wires.old wires.new self.old self.new
+            event.new }
+        ensures posted { Posted (outlet_post self.old.output) (is_some self.old.load) event.new
             (outlet_post self.new.output) }
-        ensures load { is_mark result.op result.answer ≡ false → self.new.load ≡ self.old.load }
+        ensures load { is_mark event.new.op event.new.answer ≡ false
+            → self.new.load ≡ self.old.load }
         ensures others { self.new ≡ record self.old
             { output = self.new.output; load = self.new.load } }
     {
-        self.output.step(wires, &mut self.load)
+        push(&mut self.output, wires, &mut self.load, event);
     }
 
-    /// Makes one call on one of its ends.
-    pub fn step<W: Wires>(&mut self, wires: &mut W) -> Event
+    /// Makes one call on one of its ends, which `event` tells then.
+    pub fn step<W: Wires>(&mut self, wires: &mut W, event: &mut Event)
         requires { FitsBus (W.ends wires.old) self.old }
         ensures fits { FitsBus (W.ends wires.new) self.new }
         ensures same { SameBus self.old self.new }
-        ensures stepped { Stepped BusStandsFor W.did wires.old wires.new self.old self.new result }
-        ensures turned { Turned (bus_round self.old) result (bus_round self.new) }
+        ensures stepped { Stepped BusStandsFor W.did wires.old wires.new self.old self.new
+            event.new }
+        ensures turned { Turned (bus_round self.old) event.new (bus_round self.new) }
     {
         match self.choose() {
-            0 => self.step_input(wires),
-            1 => self.step_output(wires),
+            0 => self.step_input(wires, event),
+            1 => self.step_output(wires, event),
             _ => unreachable!(),
         }
     }

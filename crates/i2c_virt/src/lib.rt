@@ -4,6 +4,7 @@
 #![tactic(auto)]
 
 mod bus_device;
+mod calls;
 mod desk;
 mod driver;
 pub mod i2c_client;

@@ -23,6 +23,7 @@ ghost use Rattle.i2c_virt.specs.Virtualising.{FitsI2cVirt, I2cVirtStandsFor, Vir
 ghost use Rattle.i2c_virt.specs.Virtualising.{i2c_virt_round, IsNewI2cVirt, FitsEnds, KnowsLowest};
 ghost use Rattle.i2c_virt.specs.Virtualising.{lowest_of};
 
+use crate::calls::{pull, pull_at, push, push_at};
 use crate::{Desk, Giving, Owners, Wanting, Work};
 use buffer_kit::{NetCargo, VirtEnd, VirtEnds};
 use cargo_core::{Body, Item, Memory};
@@ -52,26 +53,29 @@ fn new_desks(alloc: Global, count: usize) -> Result<Vec<Desk>, Memory>
     Ok(desks)
 }
 
-// The next call where entries come from the driver.
+// The next call where entries come from the driver. An entry that comes is kept in `got`.
 fn step_input<W: Wires>(
     ends: &mut VirtEnds,
     wires: &mut W,
     need: bool,
-) -> (Event, Option<(Item, Body)>)
-    requires { FitsVirt (W.ends wires.old) ends.old }
+    got: &mut Option<(Item, Body)>,
+    event: &mut Event,
+)
+    requires fits { FitsVirt (W.ends wires.old) ends.old }
+    requires none { got.old ≡ None }
     ensures fits { FitsVirt (W.ends wires.new) ends.new }
     ensures same { SameVirt ends.old ends.new }
-    ensures on { result.0.queue ≡ ends.old.input.queue }
-    ensures did { W.did wires.old (deed_of result.0 result.1) wires.new }
-    ensures needed { IsSome result.1 → need ≡ true }
-    ensures takes { (n : ℕ) → taken_by (deed_of result.0 result.1) n
-        ≡ if_there (ends.old.input.queue.0 == n) (option_to_list result.1) }
-    ensures puts { (n : ℕ) → put_by (deed_of result.0 result.1) n ≡ [] }
-    ensures posted { PostedAt (virt_posts ends.old) 0 need result.0 (virt_posts ends.new) }
-    ensures still { is_mark result.0.op result.0.answer ≡ false → result.1 ≡ None }
+    ensures on { event.new.queue ≡ ends.old.input.queue }
+    ensures did { W.did wires.old (deed_of event.new got.new) wires.new }
+    ensures needed { IsSome got.new → need ≡ true }
+    ensures takes { (n : ℕ) → taken_by (deed_of event.new got.new) n
+        ≡ if_there (ends.old.input.queue.0 == n) (option_to_list got.new) }
+    ensures puts { (n : ℕ) → put_by (deed_of event.new got.new) n ≡ [] }
+    ensures posted { PostedAt (virt_posts ends.old) 0 need event.new (virt_posts ends.new) }
+    ensures still { is_mark event.new.op event.new.answer ≡ false → got.new ≡ None }
     ensures turn { ends.new.turn ≡ ends.old.turn }
 {
-    ends.input.step(wires, need)
+    pull(&mut ends.input, wires, need, got, event);
 }
 
 // The next call where entries go to the driver. The load goes exactly at a put.
@@ -79,51 +83,55 @@ fn step_output<W: Wires>(
     ends: &mut VirtEnds,
     wires: &mut W,
     load: &mut Option<(Item, Body)>,
-) -> Event
+    event: &mut Event,
+)
     requires fits { FitsVirt (W.ends wires.old) ends.old }
     requires kind { ForSome load.old (λ c. kind_of c.0 ≡ Kind.Net) }
     ensures fits { FitsVirt (W.ends wires.new) ends.new }
     ensures same { SameVirt ends.old ends.new }
-    ensures role { role_of result.op ≡ Producer }
-    ensures did { W.did wires.old (deed_of result (put_of result load.old)) wires.new }
-    ensures load { option_to_list load.old ≡ option_to_list (put_of result load.old)
+    ensures role { role_of event.new.op ≡ Producer }
+    ensures did { W.did wires.old (deed_of event.new (put_of event.new load.old)) wires.new }
+    ensures load { option_to_list load.old ≡ option_to_list (put_of event.new load.old)
         ++ option_to_list load.new }
-    ensures takes { (n : ℕ) → taken_by (deed_of result (put_of result load.old)) n ≡ [] }
-    ensures puts { (n : ℕ) → put_by (deed_of result (put_of result load.old)) n
-        ≡ if_there (ends.old.output.queue.0 == n) (option_to_list (put_of result load.old)) }
-    ensures posted { PostedAt (virt_posts ends.old) 1 (is_some load.old) result
+    ensures takes { (n : ℕ) → taken_by (deed_of event.new (put_of event.new load.old)) n ≡ [] }
+    ensures puts { (n : ℕ) → put_by (deed_of event.new (put_of event.new load.old)) n
+        ≡ if_there (ends.old.output.queue.0 == n) (option_to_list (put_of event.new load.old)) }
+    ensures posted { PostedAt (virt_posts ends.old) 1 (is_some load.old) event.new
         (virt_posts ends.new) }
-    ensures still { is_mark result.op result.answer ≡ false → load.new ≡ load.old }
+    ensures still { is_mark event.new.op event.new.answer ≡ false → load.new ≡ load.old }
     ensures turn { ends.new.turn ≡ ends.old.turn }
 {
-    ends.output.step(wires, load)
+    push(&mut ends.output, wires, load, event);
 }
 
 // The next call where entries come from the client at a place. It takes one exactly where it
-// gives one.
+// gives one, in `got`.
 fn step_from<W: Wires>(
     ends: &mut VirtEnds,
     wires: &mut W,
     place: usize,
     need: bool,
-) -> (Event, Option<(Item, Body)>)
+    got: &mut Option<(Item, Body)>,
+    event: &mut Event,
+)
     requires fits { FitsVirt (W.ends wires.old) ends.old }
     requires there { place < length (from_queues ends.old) }
+    requires none { got.old ≡ None }
     ensures fits { FitsVirt (W.ends wires.new) ends.new }
     ensures same { SameVirt ends.old ends.new }
-    ensures on { slice_get (from_queues ends.old) place ≡ Some result.0.queue }
-    ensures taken { IsSome result.1 ↔ (result.0.op ≡ Op.Take) }
-    ensures did { W.did wires.old (deed_of result.0 result.1) wires.new }
-    ensures needed { IsSome result.1 → need ≡ true }
-    ensures takes { (n : ℕ) → taken_by (deed_of result.0 result.1) n
-        ≡ if_there (result.0.queue.0 == n) (option_to_list result.1) }
-    ensures puts { (n : ℕ) → put_by (deed_of result.0 result.1) n ≡ [] }
-    ensures posted { PostedAt (virt_posts ends.old) (2 + place) need result.0
+    ensures on { slice_get (from_queues ends.old) place ≡ Some event.new.queue }
+    ensures taken { IsSome got.new ↔ (event.new.op ≡ Op.Take) }
+    ensures did { W.did wires.old (deed_of event.new got.new) wires.new }
+    ensures needed { IsSome got.new → need ≡ true }
+    ensures takes { (n : ℕ) → taken_by (deed_of event.new got.new) n
+        ≡ if_there (event.new.queue.0 == n) (option_to_list got.new) }
+    ensures puts { (n : ℕ) → put_by (deed_of event.new got.new) n ≡ [] }
+    ensures posted { PostedAt (virt_posts ends.old) (2 + place) need event.new
         (virt_posts ends.new) }
-    ensures still { is_mark result.0.op result.0.answer ≡ false → result.1 ≡ None }
+    ensures still { is_mark event.new.op event.new.answer ≡ false → got.new ≡ None }
     ensures turn { ends.new.turn ≡ ends.old.turn }
 {
-    ends.from_clients.step(wires, place, need)
+    pull_at(&mut ends.from_clients, wires, place, need, got, event);
 }
 
 // The next call where entries go to the client at a place. The load goes exactly at a put.
@@ -132,26 +140,27 @@ fn step_to<W: Wires>(
     wires: &mut W,
     place: usize,
     load: &mut Option<(Item, Body)>,
-) -> Event
+    event: &mut Event,
+)
     requires fits { FitsVirt (W.ends wires.old) ends.old }
     requires there { place < length (to_queues ends.old) }
     requires kind { ForSome load.old (λ c. kind_of c.0 ≡ Kind.Net) }
     ensures fits { FitsVirt (W.ends wires.new) ends.new }
     ensures same { SameVirt ends.old ends.new }
-    ensures role { role_of result.op ≡ Producer }
-    ensures on { slice_get (to_queues ends.old) place ≡ Some result.queue }
-    ensures did { W.did wires.old (deed_of result (put_of result load.old)) wires.new }
-    ensures load { option_to_list load.old ≡ option_to_list (put_of result load.old)
+    ensures role { role_of event.new.op ≡ Producer }
+    ensures on { slice_get (to_queues ends.old) place ≡ Some event.new.queue }
+    ensures did { W.did wires.old (deed_of event.new (put_of event.new load.old)) wires.new }
+    ensures load { option_to_list load.old ≡ option_to_list (put_of event.new load.old)
         ++ option_to_list load.new }
-    ensures takes { (n : ℕ) → taken_by (deed_of result (put_of result load.old)) n ≡ [] }
-    ensures puts { (n : ℕ) → put_by (deed_of result (put_of result load.old)) n
-        ≡ if_there (result.queue.0 == n) (option_to_list (put_of result load.old)) }
+    ensures takes { (n : ℕ) → taken_by (deed_of event.new (put_of event.new load.old)) n ≡ [] }
+    ensures puts { (n : ℕ) → put_by (deed_of event.new (put_of event.new load.old)) n
+        ≡ if_there (event.new.queue.0 == n) (option_to_list (put_of event.new load.old)) }
     ensures posted { PostedAt (virt_posts ends.old) (2 + length (from_queues ends.old) + place)
-        (is_some load.old) result (virt_posts ends.new) }
-    ensures still { is_mark result.op result.answer ≡ false → load.new ≡ load.old }
+        (is_some load.old) event.new (virt_posts ends.new) }
+    ensures still { is_mark event.new.op event.new.answer ≡ false → load.new ≡ load.old }
     ensures turn { ends.new.turn ≡ ends.old.turn }
 {
-    ends.to_clients.step(wires, place, load)
+    push_at(&mut ends.to_clients, wires, place, load, event);
 }
 
 // Whether a call is one after which its actor may need something else.
@@ -236,60 +245,61 @@ impl I2cVirt {
     }
 
     // The next call where responses come.
-    fn step_response<W: Wires>(&mut self, wires: &mut W) -> Event
+    fn step_response<W: Wires>(&mut self, wires: &mut W, event: &mut Event)
         requires { FitsEnds (W.ends wires.old) self.old }
         ensures fits { FitsEnds (W.ends wires.new) self.new }
         ensures same { SameI2cVirt self.old self.new }
         ensures stepped { Stepped I2cVirtStandsFor W.did wires.old wires.new
-            self.old self.new result }
-        ensures posted { PostedAt (virt_posts self.old.ends) 0 (is_none self.old.work.stray) result
+            self.old self.new event.new }
+        ensures posted { PostedAt (virt_posts self.old.ends) 0 (is_none self.old.work.stray)
+            event.new
             (virt_posts self.new.ends) }
-        ensures still { is_mark result.op result.answer ≡ false
+        ensures still { is_mark event.new.op event.new.answer ≡ false
             → WorkIsStill self.old.work self.new.work }
         ensures turn { self.new.ends.turn ≡ self.old.ends.turn }
         ensures lowest { self.new.lowest ≡ self.old.lowest }
     {
         let free = self.work.stray.is_none();
-        let (event, got) = step_input(&mut self.ends, wires, free);
+        let mut got = None;
+        step_input(&mut self.ends, wires, free, &mut got, event);
         if let Some(entry) = got {
             self.work.respond(entry);
         }
-        event
     }
 
     // The next call where requests of the client at a place come.
-    fn step_request<W: Wires>(&mut self, wires: &mut W, place: usize) -> Event
+    fn step_request<W: Wires>(&mut self, wires: &mut W, place: usize, event: &mut Event)
         requires fits { FitsEnds (W.ends wires.old) self.old }
         requires there { place < length (from_queues self.old.ends) }
         ensures fits { FitsEnds (W.ends wires.new) self.new }
         ensures same { SameI2cVirt self.old self.new }
         ensures stepped { Stepped I2cVirtStandsFor W.did wires.old wires.new
-            self.old self.new result }
+            self.old self.new event.new }
         ensures posted { PostedAt (virt_posts self.old.ends) (2 + place)
-            (wants_at self.old.work place) result (virt_posts self.new.ends) }
-        ensures still { is_mark result.op result.answer ≡ false
+            (wants_at self.old.work place) event.new (virt_posts self.new.ends) }
+        ensures still { is_mark event.new.op event.new.answer ≡ false
             → WorkIsStill self.old.work self.new.work }
         ensures turn { self.new.ends.turn ≡ self.old.ends.turn }
         ensures lowest { self.new.lowest ≡ self.old.lowest }
     {
         let wants = self.work.wants(place);
-        let (event, got) = step_from(&mut self.ends, wires, place, wants);
+        let mut got = None;
+        step_from(&mut self.ends, wires, place, wants, &mut got, event);
         if let Some(entry) = got {
             self.work.request(place, entry);
         }
-        event
     }
 
     // The next call where requests go to the driver.
-    fn step_driver<W: Wires>(&mut self, wires: &mut W) -> Event
+    fn step_driver<W: Wires>(&mut self, wires: &mut W, event: &mut Event)
         requires { FitsEnds (W.ends wires.old) self.old }
         ensures fits { FitsEnds (W.ends wires.new) self.new }
         ensures same { SameI2cVirt self.old self.new }
         ensures stepped { Stepped I2cVirtStandsFor W.did wires.old wires.new
-            self.old self.new result }
-        ensures posted { PostedAt (virt_posts self.old.ends) 1 (is_owing self.old.work) result
+            self.old self.new event.new }
+        ensures posted { PostedAt (virt_posts self.old.ends) 1 (is_owing self.old.work) event.new
             (virt_posts self.new.ends) }
-        ensures still { is_mark result.op result.answer ≡ false
+        ensures still { is_mark event.new.op event.new.answer ≡ false
             → WorkIsStill self.old.work self.new.work }
         ensures turn { self.new.ends.turn ≡ self.old.ends.turn }
         ensures lowest { self.new.lowest ≡ self.old.lowest }
@@ -297,37 +307,39 @@ impl I2cVirt {
         match self.work.leaver() {
             None => {
                 let mut nothing = None;
-                step_output(&mut self.ends, wires, &mut nothing)
+                step_output(&mut self.ends, wires, &mut nothing, event);
             }
             Some(place) => {
                 let desk = &mut self.work.desks[place];
-                step_output(&mut self.ends, wires, &mut desk.leaving)
+                step_output(&mut self.ends, wires, &mut desk.leaving, event);
             }
         }
     }
 
     // The next call where answers go to the client at a place.
-    fn step_answer<W: Wires>(&mut self, wires: &mut W, place: usize) -> Event
+    fn step_answer<W: Wires>(&mut self, wires: &mut W, place: usize, event: &mut Event)
         requires fits { FitsEnds (W.ends wires.old) self.old }
         requires there { place < length (to_queues self.old.ends) }
         ensures fits { FitsEnds (W.ends wires.new) self.new }
         ensures same { SameI2cVirt self.old self.new }
         ensures stepped { Stepped I2cVirtStandsFor W.did wires.old wires.new
-            self.old self.new result }
+            self.old self.new event.new }
         ensures posted { PostedAt (virt_posts self.old.ends)
-            (2 + length (from_queues self.old.ends) + place) (gives_at self.old.work place) result
+            (2 + length (from_queues self.old.ends) + place) (gives_at self.old.work place)
+            event.new
             (virt_posts self.new.ends) }
-        ensures still { is_mark result.op result.answer ≡ false
+        ensures still { is_mark event.new.op event.new.answer ≡ false
             → WorkIsStill self.old.work self.new.work }
         ensures turn { self.new.ends.turn ≡ self.old.ends.turn }
         ensures lowest { self.new.lowest ≡ self.old.lowest }
     {
         if !self.work.gives(place) {
             let mut nothing = None;
-            return step_to(&mut self.ends, wires, place, &mut nothing);
+            step_to(&mut self.ends, wires, place, &mut nothing, event);
+            return;
         }
         let desk = &mut self.work.desks[place];
-        step_to(&mut self.ends, wires, place, &mut desk.held)
+        step_to(&mut self.ends, wires, place, &mut desk.held, event);
     }
 
     // The lowest of the ends that aren't settled.
@@ -387,6 +399,7 @@ impl I2cVirt {
     }
 
     // Whether an end is settled.
+    #[inline(always)]
     fn is_settled_at(&self, at: VirtEnd) -> bool
         requires { IsThere self.now.ends at }
         ensures { (p : Post) → slice_get (virt_posts self.now.ends) (place_of self.now.ends at)
@@ -440,44 +453,43 @@ impl I2cVirt {
     }
 
     // The next call at an end.
-    fn step_at<W: Wires>(&mut self, wires: &mut W, at: VirtEnd) -> Event
+    fn step_at<W: Wires>(&mut self, wires: &mut W, at: VirtEnd, event: &mut Event)
         requires fits { FitsEnds (W.ends wires.old) self.old }
         requires there { IsThere self.old.ends at }
         ensures fits { FitsEnds (W.ends wires.new) self.new }
         ensures same { SameI2cVirt self.old self.new }
         ensures stepped { Stepped I2cVirtStandsFor W.did wires.old wires.new
-            self.old self.new result }
+            self.old self.new event.new }
         ensures posted { PostedAt (virt_posts self.old.ends) (place_of self.old.ends at) (need_of
             (is_none self.old.work.stray) (is_owing self.old.work) (wants_at self.old.work)
-            (gives_at self.old.work) at) result (virt_posts self.new.ends) }
-        ensures still { is_mark result.op result.answer ≡ false
+            (gives_at self.old.work) at) event.new (virt_posts self.new.ends) }
+        ensures still { is_mark event.new.op event.new.answer ≡ false
             → WorkIsStill self.old.work self.new.work }
         ensures turn { self.new.ends.turn ≡ self.old.ends.turn }
         ensures lowest { self.new.lowest ≡ self.old.lowest }
     {
         match at {
-            VirtEnd::Input => self.step_response(wires),
-            VirtEnd::Output => self.step_driver(wires),
-            VirtEnd::FromClient(place) => self.step_request(wires, place),
-            VirtEnd::ToClient(place) => self.step_answer(wires, place),
+            VirtEnd::Input => self.step_response(wires, event),
+            VirtEnd::Output => self.step_driver(wires, event),
+            VirtEnd::FromClient(place) => self.step_request(wires, place, event),
+            VirtEnd::ToClient(place) => self.step_answer(wires, place, event),
         }
     }
 
-    /// Makes one call on one of its ends.
-    pub fn step<W: Wires>(&mut self, wires: &mut W) -> Event
+    /// Makes one call on one of its ends, which `event` tells then.
+    pub fn step<W: Wires>(&mut self, wires: &mut W, event: &mut Event)
         requires { FitsI2cVirt (W.ends wires.old) self.old }
         ensures fits { FitsI2cVirt (W.ends wires.new) self.new }
         ensures same { SameI2cVirt self.old self.new }
         ensures stepped { Stepped I2cVirtStandsFor W.did wires.old wires.new
-            self.old self.new result }
-        ensures turned { Turned (i2c_virt_round self.old) result (i2c_virt_round self.new) }
+            self.old self.new event.new }
+        ensures turned { Turned (i2c_virt_round self.old) event.new (i2c_virt_round self.new) }
     {
         let at = self.choose();
         let settled = self.is_settled_at(at);
-        let event = self.step_at(wires, at);
-        let same = self.is_same_at(at, settled, &event);
+        self.step_at(wires, at, event);
+        let same = self.is_same_at(at, settled, event);
         self.look(same);
-        event
     }
 }
 

@@ -1,7 +1,7 @@
 //! The program of a client of the bus. It is this project's own; that a client has one queue each
 //! way is sDDF's.
-ghost use Rattle.std.specs.Prelude.{◌≡◌, ◌<◌, ◌≤◌, ◌^◌, ◌==◌, ◌∷◌, [], ℕ, None, IfOk, OnErr};
-ghost use Rattle.std.specs.Prelude.{false, is_none, length};
+ghost use Rattle.std.specs.Prelude.{◌≡◌, ◌<◌, ◌≤◌, ◌^◌, ◌==◌, ◌∷◌, [], ℕ, None, IfOk, OnOk};
+ghost use Rattle.std.specs.Prelude.{OnErr, false, is_none, length};
 ghost use Rattle.wire_core.specs.Lists.{Passed, Stepped, nothing_passed};
 ghost use Rattle.wire_core.specs.Marks.{is_mark};
 ghost use Rattle.turn_kit.specs.Turns.{Turned, Posted, choice_of, chosen_place, last_after};
@@ -13,6 +13,7 @@ ghost use Rattle.i2c_virt.specs.I2cClient.Asking.{IsAsking, SameAsking, AreReque
 ghost use Rattle.i2c_virt.specs.I2cClient.Clients.{FitsClient, ClientStandsFor, ClientRow, SameClient};
 ghost use Rattle.i2c_virt.specs.I2cClient.Clients.{IsNewClient, is_asking, client_round, Received};
 
+use crate::calls::{pull, push};
 use crate::i2c_client::Asking;
 use cargo_core::{Body, Item, Memory, PoolId, Series};
 use i2c_text::{BusAsk, BusReply};
@@ -115,73 +116,81 @@ impl BusClient {
     }
 
     // The next call where responses come. What it takes is recorded.
-    fn step_responses<W: Wires>(&mut self, wires: &mut W) -> Event
+    fn step_responses<W: Wires>(&mut self, wires: &mut W, event: &mut Event)
         requires fits { FitsClient (W.ends wires.old) self.old }
         requires place { 0 < self.old.asking.replies.places }
         requires bytes { MOST_BYTES ≤ self.old.asking.replies.bytes }
         ensures fits { FitsClient (W.ends wires.new) self.new }
         ensures same { SameClient self.old self.new }
         ensures stepped { Stepped ClientStandsFor W.did wires.old wires.new self.old self.new
-            result }
-        ensures posted { Posted (intake_post self.old.responses) (is_none self.old.stray) result
+            event.new }
+        ensures posted { Posted (intake_post self.old.responses) (is_none self.old.stray) event.new
             (intake_post self.new.responses) }
-        ensures asking { is_mark result.op result.answer ≡ false
+        ensures asking { is_mark event.new.op event.new.answer ≡ false
             → self.new.asking ≡ self.old.asking }
-        ensures stray { is_mark result.op result.answer ≡ false → self.new.stray ≡ self.old.stray }
+        ensures stray { is_mark event.new.op event.new.answer ≡ false
+            → self.new.stray ≡ self.old.stray }
         ensures requests { self.new.requests ≡ self.old.requests }
         ensures turn { self.new.turn ≡ self.old.turn }
     {
-        let (event, got) = self.responses.step(wires, self.stray.is_none());
+        let mut got = None;
+        pull(
+            &mut self.responses,
+            wires,
+            self.stray.is_none(),
+            &mut got,
+            event,
+        );
         if let Some(entry) = got {
             self.receive(entry);
         }
-        event
     }
 
     // The next call where requests go.
-    fn step_requests<W: Wires>(&mut self, wires: &mut W) -> Event
+    fn step_requests<W: Wires>(&mut self, wires: &mut W, event: &mut Event)
         requires { FitsClient (W.ends wires.old) self.old }
         ensures fits { FitsClient (W.ends wires.new) self.new }
         ensures same { SameClient self.old self.new }
         ensures stepped { Stepped ClientStandsFor W.did wires.old wires.new self.old self.new
-            result }
-        ensures posted { Posted (outlet_post self.old.requests) (is_asking self.old) result
+            event.new }
+        ensures posted { Posted (outlet_post self.old.requests) (is_asking self.old) event.new
             (outlet_post self.new.requests) }
-        ensures asking { is_mark result.op result.answer ≡ false
+        ensures asking { is_mark event.new.op event.new.answer ≡ false
             → self.new.asking ≡ self.old.asking }
         ensures others { self.new
             ≡ record self.old { requests = self.new.requests; asking = self.new.asking } }
     {
         if !self.is_asking() {
             let mut nothing = None;
-            return self.requests.step(wires, &mut nothing);
+            push(&mut self.requests, wires, &mut nothing, event);
+            return;
         }
-        let event = self.requests.step(wires, &mut self.asking.load);
+        push(&mut self.requests, wires, &mut self.asking.load, event);
         if self.asking.load.is_none() {
             self.asking.go_on();
         }
-        event
     }
 
-    /// Makes one call on one of its ends. The memory of the next reply is taken first; after want
-    /// of memory no call was made and nothing changed.
-    pub fn step<W: Wires>(&mut self, wires: &mut W) -> Result<Event, Memory>
+    /// Makes one call on one of its ends, which `event` tells then. The memory of the next reply is
+    /// taken first; after want of memory no call was made and nothing changed.
+    pub fn step<W: Wires>(&mut self, wires: &mut W, event: &mut Event) -> Result<(), Memory>
         requires { FitsClient (W.ends wires.old) self.old }
         ensures fits { FitsClient (W.ends wires.new) self.new }
         ensures same { SameClient self.old self.new }
-        ensures stepped { IfOk result (λ e. Stepped ClientStandsFor W.did wires.old wires.new
-            self.old self.new e) }
-        ensures turned { IfOk result (λ e. Turned (client_round self.old) e
+        ensures stepped { OnOk result (Stepped ClientStandsFor W.did wires.old wires.new
+            self.old self.new event.new) }
+        ensures turned { OnOk result (Turned (client_round self.old) event.new
             (client_round self.new)) }
         ensures no_call { OnErr result (wires.new ≡ wires.old) }
         ensures unchanged { OnErr result (self.new ≡ self.old) }
     {
         self.asking.reserve()?;
         match self.choose() {
-            0 => Ok(self.step_responses(wires)),
-            1 => Ok(self.step_requests(wires)),
+            0 => self.step_responses(wires, event),
+            1 => self.step_requests(wires, event),
             _ => unreachable!(),
         }
+        Ok(())
     }
 }
 

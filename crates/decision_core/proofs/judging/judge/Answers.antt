@@ -1,5 +1,4 @@
 use Rattle.std.proofs.Common.{◌≡◌, inr}
-use Rattle.sdf_plan.specs.declared.place.Refusal.{Refusal}
 use Rattle.sdf_plan.specs.declared.place.SdfFault.TheVariants as Fault
 use Rattle.decision_core.proofs.judging.judge.Goals as goal
 

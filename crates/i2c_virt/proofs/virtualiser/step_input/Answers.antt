@@ -3,4 +3,4 @@ use Rattle.buffer_kit.proofs.VirtFits.{input_moved}
 use Rattle.i2c_virt.proofs.virtualiser.step_input.Goals as goal
 
 pub returns-clause-fits : goal.returns-clause-fits
-returns-clause-fits g c = input_moved (g.W.Wires.ends c.args.wires.now) (g.W.Wires.ends c.step.new.wires) c.step.result.0 c.step.ensures.moves net_kinds c.args.ends.now c.requires c.step.new.self c.step.ensures.queue c.step.ensures.role c.step.ensures.on c.step.ensures.agrees
+returns-clause-fits g c = input_moved (g.W.Wires.ends c.args.wires.now) (g.W.Wires.ends c.pull.new.wires) c.pull.new.event c.pull.ensures.moves net_kinds c.args.ends.now c.requires.fits c.pull.new.input c.pull.ensures.queue c.pull.ensures.role c.pull.ensures.on c.pull.ensures.agrees

@@ -14,7 +14,7 @@ use Rattle.i2c_virt.proofs.virtualiser.I2cVirt.step_answer.Goals as goal
 pub returns-then-not-gives-clause-stepped : goal.returns-then-not-gives-clause-stepped
 returns-then-not-gives-clause-stepped g c =
     let v = c.args.self.now in
-    let e = c.step_to.result in
+    let e = c.step_to.new.event in
     record {
       body = option_map (λ x. x.1) (put_of e None);
       happened = c.step_to.ensures.did;
@@ -47,14 +47,14 @@ returns-clause-posted g c =
     let x = c.index_mut-desk.result.now in
     let gives = sym c.gives.ensures ∙ c.if-not-gives.false in
     let t = gives_there v.work c.args.place x gives c.index_mut-desk.ensures.value in
-    subst (λ b. PostedAt (virt_posts v.ends) (2 + length (from_queues v.ends) + c.args.place) b c.step_to-2.result (virt_posts c.step_to-2.new.ends)) (t.1 ∙ sym gives) c.step_to-2.ensures.posted
+    subst (λ b. PostedAt (virt_posts v.ends) (2 + length (from_queues v.ends) + c.args.place) b c.step_to-2.new.event (virt_posts c.step_to-2.new.ends)) (t.1 ∙ sym gives) c.step_to-2.ensures.posted
 
 pub returns-clause-stepped : goal.returns-clause-stepped
 returns-clause-stepped g c =
     let v = c.args.self.now in
     let x = c.index_mut-desk.result.now in
     let k = c.args.place in
-    let e = c.step_to-2.result in
+    let e = c.step_to-2.new.event in
     let n = c.step_to-2.ensures in
     let fit = c.requires.fits.ends_fit in
     let gives = sym c.gives.ensures ∙ c.if-not-gives.false in

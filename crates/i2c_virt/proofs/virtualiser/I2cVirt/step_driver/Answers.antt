@@ -14,7 +14,7 @@ use Rattle.i2c_virt.proofs.virtualiser.I2cVirt.step_driver.Goals as goal
 pub returns-in-None-clause-stepped : goal.returns-in-None-clause-stepped
 returns-in-None-clause-stepped g c =
     let v = c.args.self.now in
-    let e = c.step_output.result in
+    let e = c.step_output.new.event in
     record {
       body = option_map (λ x. x.1) (put_of e None);
       happened = c.step_output.ensures.did;
@@ -46,13 +46,13 @@ returns-in-Some-clause-posted g c =
     let v = c.args.self.now in
     let x = c.index_mut-desk.result.now in
     let t = leaving_there v.work c.in-Some.place x c.in-Some.ensures.1 c.index_mut-desk.ensures.value in
-    subst (λ b. PostedAt (virt_posts v.ends) 1 b c.step_output-in-Some.result (virt_posts c.step_output-in-Some.new.ends)) (t.1 ∙ sym c.in-Some.ensures.0) c.step_output-in-Some.ensures.posted
+    subst (λ b. PostedAt (virt_posts v.ends) 1 b c.step_output-in-Some.new.event (virt_posts c.step_output-in-Some.new.ends)) (t.1 ∙ sym c.in-Some.ensures.0) c.step_output-in-Some.ensures.posted
 
 pub returns-in-Some-clause-stepped : goal.returns-in-Some-clause-stepped
 returns-in-Some-clause-stepped g c =
     let v = c.args.self.now in
     let x = c.index_mut-desk.result.now in
-    let e = c.step_output-in-Some.result in
+    let e = c.step_output-in-Some.new.event in
     let n = c.step_output-in-Some.ensures in
     let fit = c.requires.ends_fit in
     let t = leaving_there v.work c.in-Some.place x c.in-Some.ensures.1 c.index_mut-desk.ensures.value in

@@ -14,34 +14,34 @@ use Rattle.i2c_virt.proofs.virtualiser.I2cVirt.step_request.Goals as goal
 pub returns-in_default-clause-stepped : goal.returns-in_default-clause-stepped
 returns-in_default-clause-stepped g c =
     let v = c.args.self.now in
-    let e = c.step_from-got.result.0 in
+    let e = c.step_from.new.event in
     record {
-      body = option_map (λ x. x.1) c.step_from-got.result.1;
-      happened = c.step_from-got.ensures.did;
-      kept = λ passed h. moved v.ends c.step_from-got.new.ends c.step_from-got.ensures.same v.work (with_deed passed (deed_of e c.step_from-got.result.1))
+      body = option_map (λ x. x.1) c.step_from.new.got;
+      happened = c.step_from.ensures.did;
+      kept = λ passed h. moved v.ends c.step_from.new.ends c.step_from.ensures.same v.work (with_deed passed (deed_of e c.step_from.new.got))
           (still v.ends.input.queue.0 v.ends.output.queue.0 (from_queues v.ends) (to_queues v.ends) v.work v.work passed _ _ _ h
-          (λ n. c.step_from-got.ensures.takes n ∙ (ap (λ (o : Option Cargo). if_there (e.queue.0 == n) (option_to_list o)) c.in_default.is ∙ none_if (e.queue.0 == n))) c.step_from-got.ensures.puts
-          (order_still (from_queues v.ends) passed.calls e (not_taken (from_queues v.ends) e (λ take. let some = c.step_from-got.ensures.taken.1 take in let no : false ≡ true = ap (λ (o : Option Cargo). is_some o) (sym c.in_default.is) ∙ some in cc))));
+          (λ n. c.step_from.ensures.takes n ∙ (ap (λ (o : Option Cargo). if_there (e.queue.0 == n) (option_to_list o)) c.in_default.is ∙ none_if (e.queue.0 == n))) c.step_from.ensures.puts
+          (order_still (from_queues v.ends) passed.calls e (not_taken (from_queues v.ends) e (λ take. let some = c.step_from.ensures.taken.1 take in let no : false ≡ true = ap (λ (o : Option Cargo). is_some o) (sym c.in_default.is) ∙ some in cc))));
     }
 
 pub returns-in-Some-clause-stepped : goal.returns-in-Some-clause-stepped
 returns-in-Some-clause-stepped g c =
     let v = c.args.self.now in
-    let e = c.step_from-got.result.0 in
+    let e = c.step_from.new.event in
     let k = c.args.place in
     let fit = c.requires.fits.ends_fit in
     let some = ap (λ (o : Option Cargo). is_some o) c.in-Some.is in
-    let wants : wants_at v.work k ≡ true = sym c.wants-wants.ensures ∙ c.step_from-got.ensures.needed some in
+    let wants : wants_at v.work k ≡ true = sym c.wants-wants.ensures ∙ c.step_from.ensures.needed some in
     let free = free_from v.work.stray _ wants in
-    let at = c.step_from-got.ensures.on in
+    let at = c.step_from.ensures.on in
     let there = c.requires.there in
     let many = c.requires.fits.from_each in
     record {
-      body = option_map (λ x. x.1) c.step_from-got.result.1;
-      happened = c.step_from-got.ensures.did;
-      kept = λ passed h. moved v.ends c.step_from-got.new.ends c.step_from-got.ensures.same c.request.new.self (with_deed passed (deed_of e c.step_from-got.result.1))
+      body = option_map (λ x. x.1) c.step_from.new.got;
+      happened = c.step_from.ensures.did;
+      kept = λ passed h. moved v.ends c.step_from.new.ends c.step_from.ensures.same c.request.new.self (with_deed passed (deed_of e c.step_from.new.got))
           (request_in v.ends.input.queue.0 v.ends.output.queue.0 (from_queues v.ends) (to_queues v.ends) v.work c.request.new.self passed _ _ _ h free c.request.ensures.work k e.queue c.in-Some.entry at fit.from_clients.apart (fit.inputs_apart k e.queue at) many (omega (arith, there, many)) (open_there v.work k wants)
-          (λ n. c.step_from-got.ensures.takes n ∙ ap (λ (o : Option Cargo). if_there (e.queue.0 == n) (option_to_list o)) c.in-Some.is) c.step_from-got.ensures.puts
-          (order_longer (from_queues v.ends) passed.calls e _ (taken_from (from_queues v.ends) e k fit.from_clients.apart at (c.step_from-got.ensures.taken.0 some)))
+          (λ n. c.step_from.ensures.takes n ∙ ap (λ (o : Option Cargo). if_there (e.queue.0 == n) (option_to_list o)) c.in-Some.is) c.step_from.ensures.puts
+          (order_longer (from_queues v.ends) passed.calls e _ (taken_from (from_queues v.ends) e k fit.from_clients.apart at (c.step_from.ensures.taken.0 some)))
           c.request.ensures.same c.request.ensures.asked);
     }
