@@ -1,5 +1,5 @@
 -- A system that takes over what actors left goes on from it.
-use Rattle.std.proofs.Common.{◌≡◌, ◌<◌, ◌≤◌, ◌++◌, ℕ, zero, suc, false, Option, Some, None, List, [], ◌∷◌, All, length, map, slice_get, refl, sym, ap, ◌∙◌, subst, arith}
+use Rattle.std.proofs.Common.{◌≡◌, ◌<◌, ◌≤◌, ◌+◌, ◌*◌, ◌++◌, ℕ, zero, suc, false, Option, Some, None, List, [], ◌∷◌, All, length, map, slice_get, refl, sym, ap, ◌∙◌, subst, arith}
 use Rattle.std.specs.List.{AllZip}
 use Rattle.std.specs.Option.{option_map_or}
 use Rattle.std.proofs.lemmas.List.{length-map}
@@ -265,7 +265,9 @@ module _ (s : Setting) (rings : List RingIs) (parts : List Apart) (fitted : IsFi
     stands = stands_now;
     carry = λ calm_here place placed. (
         let same = parts_same actors nows calm forgotten in
-        subst (λ (c : List Part). CarryPages (cast_naming (scene_of c) place) (moved history []) passed) (sym same) (held.carry calm place (subst (IsPlaced rows place) same placed) (moved history []) items)
+        let none = none_wild (map part_of actors) calm rows in
+        let carried = held.carry place (subst (IsPlaced rows place) same placed) (λ blk is k q at is_wild. absurd (let no = none (blk.first + 4 + 2 * k) in cc)) (moved history []) items in
+        subst (λ (c : List Part). CarryPages (cast_naming (scene_of c) place) (moved history []) passed) (sym same) (record { sent = carried.sent; taken = carried.taken; bodies = λ n k c at b. carried.bodies n (none n) k c at b })
         );
     sends = sends_now;
     noted = noted;
@@ -405,8 +407,8 @@ abbrev Given : Type 0
 Given = List QueueRow × List PoolRow × Crew × Crew × Crew
 
 module _ (plan : Plan) (valid : Valid plan) (trace : Trace) (s : Setting) (cast : IsCastOf plan trace s) (rings : List RingIs) (parts : List Apart) (come : HaveComeFrom s rings parts) (rows : List QueueRow) (rows_are : rows ≡ queues_of plan) where
-  calm : AllCalm s.cast
-  calm = cast_calm plan trace valid s cast
+  calm_plan : AllCalm s.cast
+  calm_plan = cast_calm plan trace valid s cast
 
   few_cast : length s.cast ≤ 65536
   few_cast = subst (λ (n : ℕ). n ≤ 65536) (sym cast.count) (few_numbers plan valid)
@@ -431,7 +433,7 @@ module _ (plan : Plan) (valid : Valid plan) (trace : Trace) (s : Setting) (cast 
     done_there = subst (λ (rs : List QueueRow). AreFinished rs rings parts actors ended) same_rows done
 
     pub parts_ended : AllZip IsEndedOf rows ended
-    parts_ended = subst (λ (rs : List QueueRow). AllZip IsEndedOf rs ended) (sym same_rows) (come_ended s calm rings parts come few_cast actors nows ended done_there forgotten)
+    parts_ended = subst (λ (rs : List QueueRow). AllZip IsEndedOf rs ended) (sym same_rows) (come_ended s calm_plan rings parts come few_cast actors nows ended done_there forgotten)
 
     module _ (pools : List PoolRow) (pools_are : pools ≡ pools_of plan) (net serial blk : Crew) (net_is : net ≡ net_crew plan) (serial_is : serial ≡ serial_crew plan) (blk_is : blk ≡ blk_crew plan) where
       abbrev given : Given
@@ -444,7 +446,7 @@ module _ (plan : Plan) (valid : Valid plan) (trace : Trace) (s : Setting) (cast 
       same_given = λ i. (sym same_rows i, (cast.pools ∙ sym pools_are) i, (cast.net ∙ sym net_is) i, (cast.serial ∙ sym serial_is) i, (cast.blk ∙ sym blk_is) i)
 
       pub parts_go : GoesOn (begun (history_of rows ended) rows pools nows net serial blk) (all_adopted rows ended) nows
-      parts_go = subst (λ (g : Given). GoesOn (begun (history_of g.0 ended) g.0 g.1 nows g.2 g.3 g.4) (all_adopted g.0 ended) nows) same_given (come_goes s calm rings parts come few_cast actors nows ended done_there forgotten)
+      parts_go = subst (λ (g : Given). GoesOn (begun (history_of g.0 ended) g.0 g.1 nows g.2 g.3 g.4) (all_adopted g.0 ended) nows) same_given (come_goes s calm_plan rings parts come few_cast actors nows ended done_there forgotten)
 
       pub parts_adopted : (t : Shown) → t ≡ started (history_of rows ended) rows pools (all_adopted rows ended) nows net serial blk → IsAdopted s parts t
-      parts_adopted t is = come_adopted s calm rings parts come few_cast actors nows ended done_there forgotten t (is ∙ ap (λ (g : Given). started (history_of g.0 ended) g.0 g.1 (all_adopted g.0 ended) nows g.2 g.3 g.4) (sym same_given))
+      parts_adopted t is = come_adopted s calm_plan rings parts come few_cast actors nows ended done_there forgotten t (is ∙ ap (λ (g : Given). started (history_of g.0 ended) g.0 g.1 (all_adopted g.0 ended) nows g.2 g.3 g.4) (sym same_given))

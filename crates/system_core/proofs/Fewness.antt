@@ -110,25 +110,25 @@ module _ (pool : ℕ) where
   Shares from o size ks = (i : ℕ) (k : Keeper) → slice_get ks i ≡ Some k → length (k.hand pool) ≡ (if o == from + i then size else 0)
 
   next : (from o size : ℕ) (k : Keeper) (ks : List Keeper) → Shares from o size (k ∷ ks) → Shares (from + 1) o size ks
-  next from o size k ks all i x at = all (suc i) x at ∙ ap (λ m. if o == m then size else 0) (omega arith)
+  next from o size k ks shares i x at = shares (suc i) x at ∙ ap (λ m. if o == m then size else 0) (omega arith)
 
   nobody : (from o size : ℕ) (ks : List Keeper) → o < from → Shares from o size ks → sum_by (λ (k : Keeper). length (k.hand pool)) ks ≡ 0
-  nobody from o size [] lt all = refl
-  nobody from o size (k ∷ ks) lt all =
-      let here = all 0 k refl ∙ ap (λ t. if t then size else 0) (ne_eqb o (from + 0) (λ e. omega (arith, e, lt))) in
-      omega (arith, sum_by-cons (λ (y : Keeper). length (y.hand pool)) k ks, here, nobody (from + 1) o size ks (omega (arith, lt)) (next from o size k ks all))
+  nobody from o size [] lt shares = refl
+  nobody from o size (k ∷ ks) lt shares =
+      let here = shares 0 k refl ∙ ap (λ t. if t then size else 0) (ne_eqb o (from + 0) (λ e. omega (arith, e, lt))) in
+      omega (arith, sum_by-cons (λ (y : Keeper). length (y.hand pool)) k ks, here, nobody (from + 1) o size ks (omega (arith, lt)) (next from o size k ks shares))
+
+  one_more : (from o size : ℕ) (k : Keeper) (ks : List Keeper) → Shares from o size (k ∷ ks) → sum_by (λ (y : Keeper). length (y.hand pool)) ks ≤ size → ((eqb o (from + 0) ≡ true) × (o ≡ from + 0)) ⊎ ((eqb o (from + 0) ≡ false) × (o ≢ from + 0)) → sum_by (λ (y : Keeper). length (y.hand pool)) (k ∷ ks) ≤ size
+  one_more from o size k ks shares rest (inl here) =
+      let mine = shares 0 k refl ∙ ap (λ t. if t then size else 0) here.0 in
+      omega (arith, sum_by-cons (λ (y : Keeper). length (y.hand pool)) k ks, mine, nobody (from + 1) o size ks (omega (arith, here.1)) (next from o size k ks shares))
+  one_more from o size k ks shares rest (inr away) =
+      let mine = shares 0 k refl ∙ ap (λ t. if t then size else 0) away.0 in
+      omega (arith, sum_by-cons (λ (y : Keeper). length (y.hand pool)) k ks, mine, rest)
 
   at_most : (from o size : ℕ) (ks : List Keeper) → Shares from o size ks → sum_by (λ (k : Keeper). length (k.hand pool)) ks ≤ size
-  at_most from o size [] all = omega arith
-  at_most from o size (k ∷ ks) all = by (eqb_tells o (from + 0))
-    where
-      by : ((eqb o (from + 0) ≡ true) × (o ≡ from + 0)) ⊎ ((eqb o (from + 0) ≡ false) × (o ≢ from + 0)) → sum_by (λ (y : Keeper). length (y.hand pool)) (k ∷ ks) ≤ size
-      by (inl here) =
-          let mine = all 0 k refl ∙ ap (λ t. if t then size else 0) here.0 in
-          omega (arith, sum_by-cons (λ (y : Keeper). length (y.hand pool)) k ks, mine, nobody (from + 1) o size ks (omega (arith, here.1)) (next from o size k ks all))
-      by (inr away) =
-          let mine = all 0 k refl ∙ ap (λ t. if t then size else 0) away.0 in
-          omega (arith, sum_by-cons (λ (y : Keeper). length (y.hand pool)) k ks, mine, at_most (from + 1) o size ks (next from o size k ks all))
+  at_most from o size [] shares = omega arith
+  at_most from o size (k ∷ ks) shares = one_more from o size k ks shares (at_most (from + 1) o size ks (next from o size k ks shares)) (eqb_tells o (from + 0))
 
   spread_shares : (sizes own : ℕ → ℕ) (ks : List Keeper) → AreSpread sizes own ks → Shares 0 (own pool) (sizes pool) ks
   spread_shares sizes own ks spread i k at = ap length (spread i k at pool) ∙ (by (own pool == i) ∙ ap (λ m. if own pool == m then sizes pool else 0) (omega arith))

@@ -45,3 +45,13 @@ kept_rows hostile (row ∷ rows) (suc n) = kept_rows hostile rows n
 
 pub kept_none : (cast : List Part) (rows : List QueueRow) → AllCalm cast → (n : ℕ) → kept_at [] n ≡ wild_in (hostiles cast) rows n
 kept_none cast rows calm n = sym (none_wild cast calm rows n)
+
+pub kept_next : (f : QueueRow → Bool) (rows : List QueueRow) (i : ℕ) (row : QueueRow) → slice_get rows i ≡ Some row → map f (take (suc i) rows) ≡ map f (take i rows) ++ f row ∷ []
+kept_next f [] i row at = cc
+kept_next f (x ∷ rows) zero row at = ap (λ y. f y ∷ []) (some_is at)
+kept_next f (x ∷ rows) (suc i) row at = ap (λ l. f x ∷ l) (kept_next f rows i row at)
+
+pub kept_whole : (f : QueueRow → Bool) (rows : List QueueRow) (i : ℕ) → length rows ≤ i → map f (take i rows) ≡ map f rows
+kept_whole f [] i le = refl
+kept_whole f (x ∷ rows) zero le = absurd (omega (arith, le))
+kept_whole f (x ∷ rows) (suc i) le = ap (λ l. f x ∷ l) (kept_whole f rows i (omega (arith, le)))

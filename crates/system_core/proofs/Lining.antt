@@ -1,5 +1,5 @@
 -- The lines of pools that a system reports are those of the table of owners, and nothing is bad.
-use Rattle.std.proofs.Common.{◌≡◌, ◌-◌, ◌^◌, ◌≤◌, ℕ, suc, min, Some, List, [], ◌∷◌, length, map, slice_get, sum_by, refl, sym, ap, ◌∙◌, subst, arith}
+use Rattle.std.proofs.Common.{◌≡◌, ◌+◌, ◌-◌, ◌^◌, ◌≤◌, ℕ, suc, min, Some, List, [], ◌∷◌, length, map, slice_get, sum_by, refl, sym, ap, ◌∙◌, subst, arith}
 use Rattle.std.proofs.lemmas.List.Sums.{sum_by-cons}
 use Rattle.wire_core.specs.Journal.{EachMoment, start_history}
 use Rattle.wire_core.proofs.BellTheorem.{queues_flow}
@@ -84,8 +84,9 @@ module _ (a : Inside) (i : IsSystem a) where
       let shown = shown_weight k i.holds.passed a.wires.world a.actors.items (λ j x there. fits_whole (end_at a.wires.world) x (i.holds.fits j x there)) in
       let all = cast_whole a.rows.items a.actors.items i.holds.passed a.wires.world over (of_pool (record { 0 = k })) in
       let few = pool_weight k a.rows.items a.pools.items place cast c pooled.2 in
-      let size : place_sizes place (0 + k) ≡ row.buffers = pooled.2.sized k row at in
-      omega (arith, shown, all, few, ap (place_sizes place) (let e : 0 + k ≡ k = omega arith in e), size)
+      let zero_more : 0 + k ≡ k = omega arith in
+      let size : place_sizes place k ≡ row.buffers = sym (ap (place_sizes place) zero_more) ∙ pooled.2.sized k row at in
+      omega (arith, shown, all, few, size)
 
   -- where nobody is hostile
   module _ (calm : AllCalm cast) where

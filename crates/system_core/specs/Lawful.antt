@@ -148,7 +148,8 @@ pub record IsTold (s : Shown) : Type 0 where
   -- where nobody is hostile, the lines of the pools are those of the table of owners after the
   -- journal, from any table on with which it begins
   pub pools : AllCalm s.setting.cast → (place : PoolPlace)
-      → IsPlaced s.setting.rows place s.setting.cast → HasPools s.setting.pools place → (start : Table)
+      → IsPlaced s.setting.rows place s.setting.cast → HasPools s.setting.pools place
+      → (start : Table)
       → BeginsWith s.setting.history s.setting.rows place s.setting.cast start → s.state.pools
       ≡ table_lines (replay (cast_naming s.setting.scene place) s.setting.history start
       s.journal) 0 s.setting.pools
@@ -164,7 +165,8 @@ pub record IsTold (s : Shown) : Type 0 where
   pub no_pools : HasNoNetwork s.setting.cast → HasNoBlock s.setting.cast → s.state.pools ≡ []
   -- where nobody is hostile, the buffers are those of these pools, one by one
   pub buffers : AllCalm s.setting.cast → (place : PoolPlace)
-      → IsPlaced s.setting.rows place s.setting.cast → HasPools s.setting.pools place → TellsBuffers place s
+      → IsPlaced s.setting.rows place s.setting.cast → HasPools s.setting.pools place
+      → TellsBuffers place s
   -- and nothing was counted as bad
   pub bad : AllCalm s.setting.cast → s.state.bad ≡ 0
 

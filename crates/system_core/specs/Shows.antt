@@ -27,8 +27,8 @@ pub record Crew : Type 0 where
 
 -- what stays the same while a system is played, but for the names that are kept of what was put to
 -- queues with a hostile end, which grow: what its queues had before its journal begins, its queues,
--- its pools by their numbers, its actors' parts, the scene in which needs and rows are said, and who
--- is who in the classes
+-- its pools by their numbers, its actors' parts, the scene in which needs and rows are said, and
+-- who is who in the classes
 pub record Setting : Type 0 where
   pub history : History
   pub rows : List QueueRow
@@ -87,8 +87,8 @@ RowsStand s journal = RowsHold (sheet_in s) (hostile_in s) s.cast (moved_in s jo
 
 -- the names that are kept tell all that needs and rows ask of what passed by a journal
 abbrev pub NamesTell : Setting → List Entry → Type 0
-NamesTell s journal =
-    AllWithin (LiesWithin (wild_in (hostile_in s) s.rows)) (told_by s.names) s.history s.cast journal
+NamesTell s journal = AllWithin (LiesWithin (wild_in (hostile_in s) s.rows)) (told_by s.names)
+    s.history s.cast journal
 
 -- the setting stays but for the names that are kept, and these grew at their end
 pub record KeepsSetting (old new : Setting) : Type 0 where

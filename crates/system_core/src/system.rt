@@ -290,8 +290,8 @@ impl System {
         let _made = self.journal.len();
     }
 
-    /// The system of a plan without hostile clients in its start state: the actors and queues of its
-    /// layout, with what a trace gives them.
+    /// The system of a plan without hostile clients in its start state: the actors and queues of
+    /// its layout, with what a trace gives them.
     pub fn build(
         alloc: Global,
         plan: &Plan,

@@ -47,7 +47,8 @@ impl System {
     /// Takes a system apart before its first step: a new ring for each queue, and each actor with
     /// the ends that the rows give it, both in the order of the layout. Each end is as its ring was
     /// opened: it counts no look that answered no and no step, and its waiter and ringer are those
-    /// of the start. Of a system with hostile actors less is said. After want of memory nothing is left of the system.
+    /// of the start. Of a system with hostile actors less is said. After want of memory nothing is
+    /// left of the system.
     pub fn take_apart(self) -> Result<Parts, Memory>
         requires anew { BeginsAnew self.setting }
         requires unplayed { self.journal ≡ [] }

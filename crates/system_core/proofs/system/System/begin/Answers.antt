@@ -17,15 +17,15 @@ pub invariant_of-system : goal.invariant_of-system
 invariant_of-system c =
     let s = begun (history_of c.args.rows.items c.args.past.value.items) c.args.rows.items c.args.pools.items c.args.actors.items c.args.net c.args.serial c.args.blk in
     record {
-      fitted = rw c.new-names.ensures.items c.requires.fitted;
-      before = rw c.new-names.ensures.items c.requires.before;
-      holds = rw (c.new-journal.ensures.items, c.new-names.ensures.items) c.requires.holds;
-      rows_hold = rw (c.new-journal.ensures.items, c.new-names.ensures.items) (rows_now (map part_of c.args.actors.items) (history_of c.args.rows.items c.args.past.value.items) c.args.rows.items [] c.args.world c.args.actors.items [] c.requires.holds refl, tt);
-      names_tell = rw (c.new-journal.ensures.items, c.new-names.ensures.items) (tells_now (history_of c.args.rows.items c.args.past.value.items) c.args.rows.items [] c.args.world c.args.actors.items [] c.requires.holds c.args.pools.items (fitted_place s c.requires.fitted), tt);
-      brisk = rw c.new-journal.ensures.items ((λ a calm r n. omega arith), tt);
+      fitted = rw c.new.ensures.items c.requires.fitted;
+      before = rw c.new.ensures.items c.requires.before;
+      holds = rw (c.new-2.ensures.items, c.new.ensures.items) c.requires.holds;
+      rows_hold = rw (c.new-2.ensures.items, c.new.ensures.items) (rows_now (map part_of c.args.actors.items) (history_of c.args.rows.items c.args.past.value.items) c.args.rows.items [] c.args.world c.args.actors.items [] c.requires.holds refl, tt);
+      names_tell = rw (c.new-2.ensures.items, c.new.ensures.items) (tells_now (history_of c.args.rows.items c.args.past.value.items) c.args.rows.items [] c.args.world c.args.actors.items [] c.requires.holds c.args.pools.items (fitted_place s c.requires.fitted), tt);
+      brisk = rw c.new-2.ensures.items ((λ a calm r n. omega arith), tt);
       kept = λ n. c.in_ok-kept.ensures n ∙ ap₂ (λ (xs : List Actor) (rs : List QueueRow). wild_in (hostiles (map part_of xs)) rs n) c.deref-4.ensures.value c.deref-3.ensures.value;
       none_last = refl;
-      running = rw (c.new-journal.ensures.items, c.new-names.ensures.items) (c.in_ok-running.ensures.list
+      running = rw (c.new-2.ensures.items, c.new.ensures.items) (c.in_ok-running.ensures.list
           ∙ (ap (λ rs. runs (begun (history_of rs c.args.past.value.items) rs [] c.deref-2.result.now nobody nobody nobody) []) c.deref.ensures.value
           ∙ ap (λ xs. runs (begun (history_of c.args.rows.items c.args.past.value.items) c.args.rows.items [] xs nobody nobody nobody) []) c.deref-2.ensures.value));
       room = rw c.deref-2.ensures.value at c.in_ok-running.ensures.room;

@@ -1,6 +1,7 @@
 use Rattle.std.proofs.Common.{List, map, sym, ap, ◌∙◌, subst}
 use Rattle.std.proofs.lemmas.Result.{IfOk-weaker}
 use Rattle.wire_core.specs.declared.names.QueueRow.{QueueRow}
+use Rattle.actor_set.specs.Actors.{part_of}
 use Rattle.actor_set.specs.Laws.Kinds.{AllCalm}
 use Rattle.order_law.specs.ActorParts.Given.{apart_of}
 use Rattle.order_law.specs.ActorParts.Opened.{AreAsOpened}
@@ -21,8 +22,8 @@ pub returns-clause-apart : goal.returns-clause-apart
 returns-clause-apart c =
     let anew = subst (λ (s : Shown). BeginsAnew s.setting) (sym c.self.view_is) c.requires.anew in
     let none = ap (λ (s : Shown). s.journal) c.self.view_is ∙ c.requires.unplayed in
-    let ready : AllCalm c.self.now.setting.cast → AreReady c.deref.result.now c.self.inside.actors.items = λ calm. rw c.deref.ensures.value (are_ready c.self.inside c.self.invariant anew none (subst (λ (s : Shown). AllCalm s.setting.cast) (sym c.self.view_is) calm)) in
-    IfOk-weaker c.open_apart.result _ _ (λ p opened calm. subst (λ (rows : List QueueRow). AreApart rows p.rings.items (map apart_of p.actors.items)) (c.deref.ensures.value ∙ ap (λ (s : Shown). s.setting.rows) c.self.view_is) (c.opened_law.ensures.apart c.deref.result.now c.self.inside.actors.items p.rings.items p.actors.items opened (ready calm))) c.open_apart.ensures
+    let ready : AllCalm (map part_of c.self.inside.actors.items) → AreReady c.deref.result.now c.self.inside.actors.items = λ calm. rw c.deref.ensures.value (are_ready c.self.inside c.self.invariant anew none calm) in
+    IfOk-weaker c.open_apart.result _ _ (λ p opened calm. subst (λ (rows : List QueueRow). AreApart rows p.rings.items (map apart_of p.actors.items)) (c.deref.ensures.value ∙ ap (λ (s : Shown). s.setting.rows) c.self.view_is) (c.opened_law.ensures.apart c.deref.result.now c.self.inside.actors.items p.rings.items p.actors.items opened (ready (subst (λ (s : Shown). AllCalm s.setting.cast) (sym c.self.view_is) calm)))) c.open_apart.ensures
 
 pub returns-clause-nothing : goal.returns-clause-nothing
 returns-clause-nothing c = IfOk-weaker c.open_apart.result _ _ (λ p opened. c.opened_law.ensures.nothing c.deref.result.now c.self.inside.actors.items p.rings.items p.actors.items opened) c.open_apart.ensures
