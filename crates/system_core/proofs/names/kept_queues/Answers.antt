@@ -4,7 +4,7 @@ use Rattle.play_core.specs.Names.{is_wild}
 use Rattle.actor_set.specs.Actors.{part_of}
 use Rattle.actor_set.specs.Laws.Kinds.{hostiles}
 use Rattle.noted_wires.specs.Noting.{kept_at}
-use Rattle.system_core.proofs.Keeping.{kept_next, kept_none, kept_rows, kept_whole}
+use Rattle.system_core.proofs.Keeping.{kept_more, kept_none, kept_rows, kept_whole}
 use Rattle.system_core.proofs.names.kept_queues.Goals as goal
 use Rattle.system_core.proofs.names.kept_queues.Goals.{then-has_hostile+else-loop-row-test, else-has_hostile}
 
@@ -14,7 +14,7 @@ loop-row-preserved c =
     c.in_ok-push.ensures.items
     ∙ (ap (λ ks. ks ++ c.is_wild.result ∷ []) c.loop-row.invariant
     ∙ (ap (λ (b : Bool). map of (take c.loop-row.row-index c.args.rows.now) ++ b ∷ []) c.is_wild.ensures
-    ∙ sym (kept_next of c.args.rows.now c.loop-row.row-index c.row-item.result (slice_get_read c.args.rows.now _ c.loop-row.row-index c.row-item.result refl c.loop-row-test.true c.row-item.is))))
+    ∙ sym (kept_more of c.args.rows.now c.loop-row.row-index c.row-item.result (slice_get_read c.args.rows.now _ c.loop-row.row-index c.row-item.result refl c.loop-row-test.true c.row-item.is))))
 
 pub returns : goal.returns
 returns c = elim c.if-has_hostile.branch [
