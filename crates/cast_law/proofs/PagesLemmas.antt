@@ -4,3 +4,4 @@ pub mod Beside
 pub mod Lending
 pub mod Holding
 pub mod Once
+pub mod Showing

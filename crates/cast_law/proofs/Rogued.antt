@@ -1,10 +1,9 @@
 -- The hostile clients of a plan stand at the queues of its classes' clients, with these clients' pools.
-use Rattle.std.proofs.Common.{◌≡◌, ◌⊎◌, ◌+◌, ◌*◌, ◌||◌, ◌++◌, ◌<◌, ℕ, zero, suc, Bool, true, false, if◌then◌else◌, Option, Some, None, inl, inr, List, [], ◌∷◌, length, map, slice_get, refl, sym, ap, ap₂, ◌∙◌, subst, arith}
+use Rattle.std.proofs.Common.{◌≡◌, ◌+◌, ◌*◌, ◌||◌, ◌++◌, ◌<◌, ℕ, zero, suc, Bool, true, false, if◌then◌else◌, Option, Some, None, inl, inr, List, [], length, map, slice_get, refl, sym, ap, ap₂, ◌∙◌, subst, arith}
 use Rattle.std.specs.Option.{option_map, option_map_or}
 use Rattle.cargo_core.specs.declared.item.QueueKind.TheVariants as Kind
 use Rattle.wire_core.specs.declared.names.QueueRow.{QueueRow}
 use Rattle.wire_core.specs.Ends.{Consumer, Producer}
-use Rattle.play_core.specs.Moved.{Seat}
 use Rattle.play_core.specs.Names.{carries_pages, wild_in}
 use Rattle.play_core.specs.Wants.{intake, outlet}
 use Rattle.play_core.proofs.Lists.{some_is, map_from, there_is}
@@ -28,7 +27,7 @@ use Rattle.actor_set.specs.Actors.{part_of}
 use Rattle.actor_set.specs.declared.actor.Actor.{Actor}
 use Rattle.actor_set.specs.Laws.Kinds.{hostiles}
 use Rattle.layout_laws.specs.Jobs.Jobs.{Job, EthDevice, EthDriver, NetReceiver, NetSender, NetCopier, NetClient, UartDevice, UartDriver, SerialReceiver, SerialSender, SerialClient, DiskDevice, DiskDriver, BlkVirtualiser, BlkClient, HasJob}
-use Rattle.layout_laws.specs.Seats.Ends.{IsOf, ask_ends, blk_count, ends_from, net_count}
+use Rattle.layout_laws.specs.Seats.Ends.{IsOf, ask_ends, blk_count, ends_from}
 use Rattle.layout_laws.proofs.SeatsLemmas.Having.{job_is_of}
 use Rattle.layout_laws.proofs.SeatsLemmas.Naming.{blk_named, net_named}
 use Rattle.layout_laws.proofs.SeatsLemmas.Seats.{has_seat}

@@ -9,7 +9,7 @@ ghost use Rattle.wire_core.specs.Journal.{History};
 ghost use Rattle.wire_core.specs.Lists.{Passed};
 ghost use Rattle.wire_core.specs.Queues.{Queue};
 ghost use Rattle.buffer_kit.specs.Conserving.{Count, counted, the_page, of_other_length};
-ghost use Rattle.play_core.specs.Moved.{moved};
+ghost use Rattle.play_core.specs.Moved.{Moved, moved};
 ghost use Rattle.play_core.specs.Sheets.{AreFilled, AreSeated};
 ghost use Rattle.play_core.specs.Still.{IsPeopled};
 ghost use Rattle.owner_law.specs.Pages.{CarryPages};
@@ -23,7 +23,9 @@ ghost use Rattle.wired_law.specs.Buffers.{HasEachOnce};
 ghost use Rattle.wired_law.specs.Wiring.{AreAtWork};
 ghost use Rattle.cast_law.specs.Pools.Places.{PoolPlace, IsPlaced, HasPools};
 ghost use Rattle.cast_law.specs.Pools.Places.{cast_naming, place_pools, place_sizes};
-ghost use Rattle.cast_law.specs.Pools.Pooling.{AreAtPlay, AreOverQueues};
+ghost use Rattle.cast_law.specs.Pools.Beside.{CastCarries};
+ghost use Rattle.cast_law.specs.Pools.Holders.{holders_of};
+ghost use Rattle.cast_law.specs.Pools.Pooling.{AddUp, AreAtPlay, AreOverQueues};
 ghost use Rattle.cast_law.specs.Pages.Paging.{page_holders, part_pools, pools_weigh};
 ghost use Rattle.cast_law.specs.Pages.Paging.{cast_weighs, shown_bodies};
 
@@ -31,8 +33,9 @@ ghost use Rattle.cast_law.specs.Pages.Paging.{cast_weighs, shown_bodies};
 /// counted of buffers by their pool, their number and their length, the queues and the actors have
 /// what all buffers of the cast's pools weigh, each with its pool's length. So each buffer of each
 /// pool is in one place and there once, and no buffer of a pool has another length than the pool's.
-/// Where nobody is hostile and entries carry what their items name, it is in what queues and actors
-/// show: in the queues, in hands, and lent.
+/// Where entries carry what their items name at all queues but those of hostile clients, it is in
+/// what queues and actors show: in the queues, in hands, and lent; so the numbers of each pool's line
+/// add up, those of hostile clients' pools too.
 pub fn cast_page_law()
     ensures held { (rows : List QueueRow) (actors : List Actor) (passed : Passed)
         (world : List Queue) (over : AreOverQueues rows actors passed world)
@@ -48,6 +51,16 @@ pub fn cast_page_law()
         → HasPools pools place → CarryPages (cast_naming (scene_of (map part_of actors)) place)
         (moved history journal) passed → (f : Count)
         → counted f (shown_bodies world actors) ≡ pools_weigh f (map part_of actors) }
+    ensures shown_beside { (rows : List QueueRow) (actors : List Actor) (passed : Passed)
+        (world : List Queue) → AreOverQueues rows actors passed world → (place : PoolPlace)
+        → IsPlaced rows place (map part_of actors) → (m : Moved)
+        → CastCarries rows place actors m passed → (f : Count)
+        → counted f (shown_bodies world actors) ≡ pools_weigh f (map part_of actors) }
+    ensures add_up { (rows : List QueueRow) (actors : List Actor) (passed : Passed)
+        (world : List Queue) → AreOverQueues rows actors passed world → (place : PoolPlace)
+        → IsPlaced rows place (map part_of actors) → (m : Moved)
+        → CastCarries rows place actors m passed → (pools : List PoolRow)
+        → HasPools pools place → AddUp world (holders_of actors) pools }
     ensures once { (rows : List QueueRow) (actors : List Actor) (passed : Passed)
         (world : List Queue) → AreOverQueues rows actors passed world
         → (pools : List PoolRow) (place : PoolPlace) → IsPlaced rows place (map part_of actors)

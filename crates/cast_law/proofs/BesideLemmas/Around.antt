@@ -1,6 +1,6 @@
 -- A cast at work in which some clients may be hostile: what items name at an actor's queues, and that
 -- no more is answered than asked.
-use Rattle.std.proofs.Common.{◌≡◌, ◌⊎◌, ◌+◌, ◌*◌, ◌<◌, ◌≤◌, ℕ, zero, suc, Bool, true, false, cond, Option, None, Some, List, [], ◌∷◌, length, map, slice_get, refl, sym, ap, ◌∙◌, subst, arith, inl, inr}
+use Rattle.std.proofs.Common.{◌≡◌, ◌+◌, ◌*◌, ◌<◌, ◌≤◌, ℕ, Bool, true, false, cond, Option, None, Some, List, [], ◌∷◌, length, map, slice_get, refl, sym, ap, ◌∙◌, subst, arith, inl, inr}
 use Rattle.std.proofs.lemmas.List.{length-map}
 use Rattle.cargo_core.specs.Items.{kind_of}
 use Rattle.cargo_core.specs.Lists.{IsPrefix}
@@ -10,41 +10,38 @@ use Rattle.wire_core.specs.declared.names.QueueRow.{QueueRow}
 use Rattle.wire_core.specs.Deeds.{Cargo}
 use Rattle.wire_core.specs.Ends.{Role, End}
 use Rattle.wire_core.specs.Lists.{Passed}
-use Rattle.wire_core.specs.Queues.{items_of}
 use Rattle.play_core.specs.Manners.{Calm}
-use Rattle.play_core.specs.Moved.{Moved, Seat}
-use Rattle.play_core.specs.Names.{Names, Wild, names_at, wild_in}
+use Rattle.play_core.specs.Moved.{Moved}
+use Rattle.play_core.specs.Names.{Wild, names_at, wild_in}
 use Rattle.play_core.specs.Rests.Showing.{HaveItems}
 use Rattle.play_core.specs.Sheets.{AreFilled, AreSeated, Scene}
 use Rattle.play_core.proofs.Lists.{map_from, there_is}
 use Rattle.play_core.proofs.Walks.{begins_few}
-use Rattle.owner_law.specs.Things.{Answers, NoBuffers, Naming, Window, Names as Kinds_}
+use Rattle.owner_law.specs.Things.{Answers, NoBuffers, Naming, Window}
 use Rattle.owner_law.specs.Pools.Places.{PoolAt, own_pool}
 use Rattle.net_law.specs.Parts.Parts.{Way}
 use Rattle.net_law.proofs.PartsLemmas.Leasing.{prefix_get}
-use Rattle.net_law.specs.TxParts.Numbers.{NetPlace}
-use Rattle.blk_law.specs.Sheets.Numbers.{BlkPlace, IsBlkClientOf, disk_at, blk_driver_at, sharers_from, virt_at, blk_client_at}
+use Rattle.blk_law.specs.Sheets.Numbers.{BlkPlace, disk_at, blk_driver_at, virt_at, blk_client_at}
 use Rattle.blk_law.specs.Sheets.Parts.{Sharer}
 use Rattle.blk_law.specs.Sheets.Rows.{answer_item, AsksInOrder}
 use Rattle.blk_law.specs.Owners.Answering.{IsInOrder}
-use Rattle.blk_virt.specs.Virtualising.{BlkVirtRow}
 use Rattle.blk_virt.specs.declared.virtualiser.BlkVirt.{BlkVirt}
 use Rattle.blk_virt.proofs.Rows.{row_of as server_row}
 use Rattle.blk_quiet.proofs.CastLemmas.Numbers.{virt_queues}
 use Rattle.blk_quiet.proofs.PoolsLemmas.Sizing.{IsAnswer}
 use Rattle.cargo_core.specs.declared.item.Ask.{Ask}
-use Rattle.actor_set.specs.Parts.{HostilePart, Part, RoguePart, NetworkPart, SendingPart, BlockPart}
-use Rattle.actor_set.specs.Actors.{ActorStandsFor, part_of}
+use Rattle.actor_set.specs.Parts.{Part, BlockPart}
+use Rattle.actor_set.specs.Actors.{part_of}
 use Rattle.actor_set.specs.declared.actor.Actor.{Actor}
 use Rattle.actor_set.specs.declared.actor.Actor.TheVariants as Kinds
 use Rattle.actor_set.specs.Laws.Kinds.{hostiles, manner_of, scene_of, sheet}
-use Rattle.actor_set.specs.Laws.Scenes.{ToldInTurn, told_sheet}
+use Rattle.actor_set.specs.Laws.Scenes.{told_sheet}
 use Rattle.actor_set.proofs.LawsLemmas.ToldRows.{told_row}
 use Rattle.wired_law.specs.Wiring.{AreAtWork, HasBlk, HasPart}
 use Rattle.wired_law.proofs.Acting.{virt_actor}
 use Rattle.cast_law.specs.Pools.Beside.{AllTold}
 use Rattle.cast_law.specs.Pools.Holders.{NamesAt, TakesNet}
-use Rattle.cast_law.specs.Pools.Places.{HasBlkAt, HasNetAt, IsPlaced, PoolPlace, behind, cast_naming, first_naming}
+use Rattle.cast_law.specs.Pools.Places.{HasBlkAt, IsPlaced, PoolPlace, behind, cast_naming, first_naming}
 use Rattle.cast_law.proofs.PoolsLemmas.Calmed.{Calmed, IsLike, calmed}
 use Rattle.cast_law.proofs.PoolsLemmas.Naming.{names_at as names_of_part, takes_net}
 use Rattle.cast_law.proofs.PoolsLemmas.Ordering.{answers_behind, asked_kind, no_answer}

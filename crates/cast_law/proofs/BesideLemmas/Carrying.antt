@@ -1,26 +1,24 @@
 -- Entries that carry what is named beside hostile clients do so after a call of an actor.
-use Rattle.std.proofs.Common.{◌≡◌, ◌≢◌, ◌⊎◌, ◌==◌, ◌+◌, ◌++◌, ◌<◌, ◌≤◌, ℕ, Bool, true, false, Option, Some, List, [], ◌∷◌, append-nil, length, map, slice_get, refl, sym, ap, ◌∙◌, subst, arith, inl, inr}
+use Rattle.std.proofs.Common.{◌≡◌, ◌≢◌, ◌⊎◌, ◌==◌, ◌+◌, ◌*◌, ◌++◌, ◌<◌, ◌≤◌, ℕ, Bool, true, false, Option, Some, List, [], ◌∷◌, append-nil, length, map, slice_get, refl, sym, ap, ◌∙◌, subst, arith, inl, inr}
 use Rattle.std.proofs.Math.Dec.{eqb}
 use Rattle.std.proofs.lemmas.Bool.Decides.{eqb_tells}
 use Rattle.std.proofs.lemmas.List.{length-map}
-use Rattle.cargo_core.specs.Lists.{IsPrefix}
 use Rattle.cargo_core.specs.declared.item.Item.{Item}
 use Rattle.wire_core.specs.declared.names.Op.{Op}
 use Rattle.wire_core.specs.declared.names.Op.TheVariants as Do
 use Rattle.wire_core.specs.declared.names.QueueRow.{QueueRow}
 use Rattle.wire_core.specs.Deeds.{Cargo, Deed, cargo_of}
-use Rattle.wire_core.specs.Ends.{Role, Consumer, Producer, role_of}
+use Rattle.wire_core.specs.Ends.{Role, Consumer, role_of}
 use Rattle.wire_core.specs.Journal.{owner_of}
 use Rattle.wire_core.specs.Lists.{Passed, if_put, if_there, put_by, with_deed}
 use Rattle.wire_core.specs.Queues.{is_store, items_of}
 use Rattle.play_core.specs.Moved.{Moved, Seat}
 use Rattle.play_core.specs.Names.{Wild, wild_in}
 use Rattle.play_core.specs.Rests.Showing.{HaveItems}
-use Rattle.play_core.specs.Sheets.{Scene}
 use Rattle.play_core.specs.Wants.{intake, outlet}
 use Rattle.play_core.proofs.Lists.{map_get, some_is, there_below}
-use Rattle.owner_law.specs.Things.{Answers, Buffer, Buffers, Frames, Leases, Names, Naming, NoBuffers, Returns, Whole, Window, as_buffer, buffer_of, requests_of, thing_at, thing_of}
-use Rattle.owner_law.specs.Pages.{CarryPages, as_page}
+use Rattle.owner_law.specs.Things.{Answers, Buffers, Frames, Leases, Names, Naming, NoBuffers, Returns, Whole, Window, as_buffer, buffer_of, requests_of, thing_at, thing_of}
+use Rattle.owner_law.specs.Pages.{CarryPages}
 use Rattle.owner_law.specs.Pools.Handing.{AllCarry}
 use Rattle.owner_law.proofs.Carrying.{get_first}
 use Rattle.actor_set.specs.Parts.{Part}
@@ -30,7 +28,7 @@ use Rattle.actor_set.specs.Laws.Kinds.{AllCalm, hostiles, scene_of, sheet}
 use Rattle.actor_set.proofs.LawsLemmas.PartEnds.{end_seat, to_part}
 use Rattle.actor_set.proofs.LawsLemmas.Starts.{fits_whole}
 use Rattle.actor_set.proofs.LawsLemmas.Told.{none_wild}
-use Rattle.cast_law.specs.Pools.Beside.{AllTold, CarryBeside, CastCarries, IsCallAmong, is_rogues}
+use Rattle.cast_law.specs.Pools.Beside.{CarryBeside, CastCarries, IsCallAmong, RoguesAsk, is_rogues}
 use Rattle.cast_law.specs.Pools.Places.{IsPlaced, PoolPlace, cast_naming}
 use Rattle.cast_law.proofs.BesideLemmas.Around.{Around, answers_few, off}
 use Rattle.cast_law.proofs.BesideLemmas.Hands.{Takes, each_puts}
@@ -40,6 +38,18 @@ use Rattle.cast_law.proofs.BesideLemmas.Rounds.{none_after}
 -- where nobody is hostile all entries carry what is named
 pub plain_carries : (rows : List QueueRow) (place : PoolPlace) (actors : List Actor) (m : Moved) (passed : Passed) → AllCalm (map part_of actors) → CastCarries rows place actors m passed → CarryPages (cast_naming (scene_of (map part_of actors)) place) m passed
 plain_carries rows place actors m passed calm carried = record { sent = carried.sent; taken = carried.taken; bodies = λ n k c at b. carried.bodies n (none_wild (map part_of actors) calm rows n) k c at b }
+
+-- and the other way round; of hostile clients nothing is asked then
+pub beside_carries : (rows : List QueueRow) (place : PoolPlace) (actors : List Actor) (m : Moved) (passed : Passed) → AllCalm (map part_of actors) → CarryPages (cast_naming (scene_of (map part_of actors)) place) m passed → CastCarries rows place actors m passed
+beside_carries rows place actors m passed calm carried = record {
+  sent = carried.sent;
+  taken = carried.taken;
+  bodies = λ n quiet k c at b. carried.bodies n k c at b;
+  others = λ n wild k c at b off. absurd (let none = none_wild (map part_of actors) calm rows n in cc);
+}
+
+pub calm_asks : (rows : List QueueRow) (place : PoolPlace) (cast : List Part) (passed : Passed) → AllCalm cast → RoguesAsk (wild_in (hostiles cast) rows) place passed
+calm_asks rows place cast passed calm blk here k q at is = absurd (let none = none_wild cast calm rows (blk.first + 4 + 2 * k) in cc)
 
 -- an entry that stands among the first stands there still
 get_before : (xs ys : List Cargo) (k : ℕ) → k < length xs → slice_get (items_of (xs ++ ys)) k ≡ slice_get (items_of xs) k

@@ -1,6 +1,6 @@
 -- Each actor hands pages on at its queues without a hostile end, where what it took there carries what
 -- is named.
-use Rattle.std.proofs.Common.{◌≡◌, ◌⊎◌, ◌==◌, ◌&&◌, ◌+◌, ◌*◌, ◌++◌, ◌<◌, ◌≤◌, ℕ, zero, suc, Bool, true, false, cond, Option, None, Some, List, [], ◌∷◌, append_assoc, flat_map, length, map, slice_get, refl, sym, ap, ap₂, ◌∙◌, subst, arith, inl, inr}
+use Rattle.std.proofs.Common.{◌≡◌, ◌⊎◌, ◌==◌, ◌&&◌, ◌+◌, ◌*◌, ◌++◌, ◌<◌, ℕ, zero, suc, Bool, true, false, cond, Option, None, Some, List, [], ◌∷◌, append_assoc, flat_map, length, slice_get, refl, sym, ap, ◌∙◌, subst, arith, inl, inr}
 use Rattle.cargo_core.specs.Lists.{IsPrefix}
 use Rattle.cargo_core.specs.declared.item.Body.{Body}
 use Rattle.cargo_core.specs.declared.item.Body.TheVariants as Carried
@@ -13,7 +13,7 @@ use Rattle.wire_core.specs.Lists.{Passed}
 use Rattle.turn_kit.specs.Hands.{bodies_at}
 use Rattle.play_core.specs.Manners.{Calm}
 use Rattle.play_core.specs.Moved.{Moved, Seat}
-use Rattle.play_core.specs.Names.{Wild, wild_in}
+use Rattle.play_core.specs.Names.{Wild}
 use Rattle.play_core.specs.Wants.{intake, outlet}
 use Rattle.play_core.proofs.Lists.{some_is, map_get, there_below, there_is}
 use Rattle.owner_law.specs.Things.{Buffer, Buffers, NoBuffers, Naming, as_buffer, requests_of, thing_at}
@@ -21,7 +21,6 @@ use Rattle.owner_law.specs.Pages.{as_page}
 use Rattle.owner_law.specs.Pools.Handing.{AllCarry, HandsOn}
 use Rattle.owner_law.specs.Pools.Places.{PoolAt, by_offset}
 use Rattle.buffer_kit.specs.Conserving.{Count, counted, the_page, weight, weighed}
-use Rattle.buffer_kit.specs.Pools.{page_bodies}
 use Rattle.buffer_kit.specs.Virtualising.{from_queues, to_queues}
 use Rattle.buffer_kit.proofs.Conserving.{counted-at}
 use Rattle.net_copier.specs.declared.NetCopier.{NetCopier}
@@ -30,7 +29,7 @@ use Rattle.net_virt_tx.specs.declared.NetVirtTx.{NetVirtTx}
 use Rattle.net_virt_tx.proofs.Rounds.{row_of as sender_row}
 use Rattle.client_programs.specs.declared.rogue.Rogue.{Rogue}
 use Rattle.net_law.specs.Owners.Names.{ClientPools}
-use Rattle.net_law.specs.Parts.Parts.{NetPart, NetDevice, NetDriver, NetReceiver, NetCopier as CopierPart, NetClient, Lessee}
+use Rattle.net_law.specs.Parts.Parts.{NetClient, Lessee}
 use Rattle.net_law.specs.Parts.Numbers.{client_at, client_first, copier_at, driver_at, lessees_from, receiver_at}
 use Rattle.net_law.specs.Parts.Playing.{client_part, copier_part, device_part, driver_part, receiver_part}
 use Rattle.eth_driver.specs.Four.{four_pipes}
@@ -41,7 +40,7 @@ use Rattle.net_law.proofs.PartsLemmas.Pairs.{twice, pair_first, pair_second}
 use Rattle.net_law.specs.TxParts.Parts.{SendPart, Shipper}
 use Rattle.net_law.specs.TxParts.Numbers.{NetPlace, own_pools, sender_at, shippers_from}
 use Rattle.net_law.specs.TxParts.Playing.{send_part}
-use Rattle.net_law.specs.TxParts.Table.{send_sheet, shipper_ends}
+use Rattle.net_law.specs.TxParts.Table.{shipper_ends}
 use Rattle.net_quiet.proofs.PoolsLemmas.Carrying.{leased_on}
 use Rattle.net_law.specs.RxOwners.Virtualiser.{AreNet}
 use Rattle.net_virt_tx.specs.Sending.{TxRow}
@@ -50,7 +49,7 @@ use Rattle.net_quiet.proofs.TxCast.Numbers.{sender_queues}
 use Rattle.blk_virt.specs.Desks.{holders}
 use Rattle.blk_virt.specs.declared.virtualiser.BlkVirt.{BlkVirt}
 use Rattle.blk_virt.proofs.Rows.{row_of as server_row}
-use Rattle.blk_law.specs.Sheets.Parts.{BlkPart, Sharer}
+use Rattle.blk_law.specs.Sheets.Parts.{Sharer}
 use Rattle.blk_law.specs.Sheets.Numbers.{BlkPlace, blk_client_at, blk_driver_at, sharers_from, virt_at}
 use Rattle.cargo_core.specs.Blocks.{blk_buffer_bytes}
 use Rattle.cargo_core.specs.declared.item.Ask.{Ask}
@@ -58,19 +57,19 @@ use Rattle.blk_virt.specs.Virtualising.{BlkVirtRow}
 use Rattle.blk_law.specs.Owners.Answering.{NamesAsked, disk_windows}
 use Rattle.blk_law.specs.VirtScene.Playing.{BothInTurn}
 use Rattle.blk_law.specs.Sheets.Playing.{sharers, virt_part}
-use Rattle.blk_law.specs.Sheets.Table.{blk_sheet, sharer_ends}
+use Rattle.blk_law.specs.Sheets.Table.{sharer_ends}
 use Rattle.blk_quiet.proofs.CastLemmas.Numbers.{virt_queues}
 use Rattle.page_law.specs.WildPages.Rounds.{AllMove}
-use Rattle.actor_set.specs.Parts.{HostilePart, Part, RoguePart, UartPart, DriverPart, RxPart, TxPart, ClientPart, NetworkPart, SendingPart, BlockPart}
-use Rattle.actor_set.specs.Actors.{IsWhole, part_of, numbers, rogue_part}
+use Rattle.actor_set.specs.Parts.{HostilePart, Part, RoguePart, ClientPart, NetworkPart, SendingPart, BlockPart}
+use Rattle.actor_set.specs.Actors.{part_of, numbers, rogue_part}
 use Rattle.actor_set.specs.declared.actor.Actor.{Actor}
 use Rattle.actor_set.specs.declared.actor.Actor.TheVariants as Kinds
-use Rattle.actor_set.specs.Laws.Kinds.{hostiles, manner_of, scene_of, sheet}
+use Rattle.actor_set.specs.Laws.Kinds.{manner_of, sheet}
 use Rattle.actor_set.specs.Laws.Turning.{InTurn}
 use Rattle.actor_set.specs.Rogues.{pages_weigh}
 use Rattle.actor_set.proofs.LawsLemmas.Starts.{fits_whole}
 use Rattle.actor_set.proofs.RogueLemmas.Ends.{pages_counted}
-use Rattle.wired_law.specs.Wiring.{HasBlk, HasPart, HasWhole, IsOfNetwork}
+use Rattle.wired_law.specs.Wiring.{HasWhole, IsOfNetwork}
 use Rattle.wired_law.proofs.Wiring.{sender_is}
 use Rattle.wired_law.proofs.Blocks.{virt_is}
 use Rattle.cast_law.specs.Pools.Beside.{RoguesAsk}

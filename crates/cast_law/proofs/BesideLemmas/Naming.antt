@@ -1,19 +1,19 @@
 -- What items name at queues without a hostile end, and nothing at the others.
-use Rattle.std.proofs.Common.{◌≡◌, ◌⊎◌, ℕ, zero, suc, Bool, true, false, cond, Some, None, List, [], ◌∷◌, ◌++◌, flat_map, map, slice_get, refl, sym, ap, ◌∙◌, subst, inl, inr}
+use Rattle.std.proofs.Common.{◌≡◌, ℕ, suc, Bool, true, false, cond, Some, List, slice_get, refl, sym, ap, ◌∙◌, subst}
 use Rattle.play_core.specs.Moved.{Seat}
 use Rattle.play_core.specs.Names.{Wild}
 use Rattle.play_core.specs.Sheets.{Scene}
 use Rattle.play_core.specs.Wants.{intake, outlet}
 use Rattle.play_core.proofs.Lists.{map_from}
-use Rattle.owner_law.specs.Things.{NoBuffers, Naming, Names}
+use Rattle.owner_law.specs.Things.{NoBuffers, Naming}
 use Rattle.net_law.specs.Owners.Ends.{NameBuffers}
 use Rattle.net_law.specs.Owners.Lending.{Borrower}
 use Rattle.net_law.specs.Parts.Naming.{NamesPart}
 use Rattle.net_law.specs.Parts.Rows.{borrower_of, lender_of}
 use Rattle.net_law.specs.Parts.Parts.{NetPart, NetDevice, NetDriver, NetReceiver, NetCopier, NetClient, Lessee, Way}
 use Rattle.net_law.proofs.PartsLemmas.Pairs.{twice, pair_first, pair_second}
-use Rattle.blk_law.specs.Sheets.Parts.{BlkPart, DiskDevice, BlkDriver, BlkVirt, BlkClient}
-use Rattle.actor_set.specs.Parts.{HostilePart, Part, UartPart, DriverPart, RxPart, TxPart, ClientPart, NetworkPart, SendingPart, BlockPart}
+use Rattle.blk_law.specs.Sheets.Parts.{DiskDevice, BlkDriver, BlkClient}
+use Rattle.actor_set.specs.Parts.{Part, NetworkPart, BlockPart}
 use Rattle.actor_set.specs.Laws.Kinds.{sheet}
 use Rattle.cast_law.specs.Pools.Holders.{NothingAt, NamesAt}
 
@@ -87,13 +87,18 @@ module _ (naming : Naming) (wild : Wild) where
         let first : slice_get ways 0 ≡ Some (record { input = w.req; output = w.disk_req }) = ap (λ l. slice_get l 0) w.ways_are in
         let second : slice_get ways 1 ≡ Some (record { input = w.disk_resp; output = w.resp }) = ap (λ l. slice_get l 1) w.ways_are in
         let ins = λ (k : ℕ) (x : Way) (at : slice_get ways k ≡ Some x). calm (twice k) (intake x.input) (pair_first (λ (y : Way). intake y.input) (λ y. outlet y.output) ways k x at) in
-        let outs = λ (k : ℕ) (x : Way) (at : slice_get ways k ≡ Some x). calm (suc (twice k)) (outlet x.output) (pair_second (λ (y : Way). intake y.input) (λ y. outlet y.output) ways k x at) in
-        ((names.0.0, record {
-          req = w.req;
-          disk_req = w.disk_req;
-          disk_resp = w.disk_resp;
-          resp = w.resp;
-          ways_are = w.ways_are;
-          asked = (at_calm w.req (ins 0 (record { input = w.req; output = w.disk_req }) first) ∙ w.asked.0, at_calm w.resp (outs 1 (record { input = w.disk_resp; output = w.resp }) second) ∙ w.asked.1);
-          passed_on = (at_calm w.disk_req (outs 0 (record { input = w.req; output = w.disk_req }) first) ∙ w.passed_on.0, at_calm w.disk_resp (ins 1 (record { input = w.disk_resp; output = w.resp }) second) ∙ w.passed_on.1);
-        }), tt)
+        let outs = λ (k : ℕ) (x : Way) (at : slice_get ways k ≡ Some x). calm (suc (twice k)) (outlet x.output) (pair_second (λ (y : Way). intake y.input) (λ y. outlet y.output) ways k x at) in (
+          (
+            names.0.0,
+            record {
+              req = w.req;
+              disk_req = w.disk_req;
+              disk_resp = w.disk_resp;
+              resp = w.resp;
+              ways_are = w.ways_are;
+              asked = (at_calm w.req (ins 0 (record { input = w.req; output = w.disk_req }) first) ∙ w.asked.0, at_calm w.resp (outs 1 (record { input = w.disk_resp; output = w.resp }) second) ∙ w.asked.1);
+              passed_on = (at_calm w.disk_req (outs 0 (record { input = w.req; output = w.disk_req }) first) ∙ w.passed_on.0, at_calm w.disk_resp (ins 1 (record { input = w.disk_resp; output = w.resp }) second) ∙ w.passed_on.1);
+            },
+          ),
+          tt,
+        )

@@ -1,17 +1,17 @@
 -- Which queues of a cast have a hostile end, and who has the other one.
-use Rattle.std.proofs.Common.{◌≡◌, ◌≢◌, ◌⊎◌, ◌+◌, ◌*◌, ◌<◌, ◌≤◌, ◌&&◌, ℕ, zero, suc, Bool, true, false, not, Option, None, Some, List, [], ◌∷◌, ◌++◌, length, map, slice_get, refl, sym, ap, ap₂, ◌∙◌, subst, arith, inl, inr}
+use Rattle.std.proofs.Common.{◌≡◌, ◌⊎◌, ◌+◌, ◌*◌, ◌<◌, ◌&&◌, ℕ, zero, suc, Bool, true, false, not, Option, None, Some, List, [], ◌∷◌, ◌++◌, length, map, slice_get, refl, sym, ap, ap₂, ◌∙◌, subst, arith, inl, inr}
 use Rattle.std.specs.Option.{option_map_or}
 use Rattle.cargo_core.specs.declared.item.QueueKind.{QueueKind}
 use Rattle.cargo_core.specs.declared.item.QueueKind.TheVariants as Kind
 use Rattle.wire_core.specs.declared.names.QueueRow.{QueueRow}
 use Rattle.wire_core.specs.Ends.{Role, Consumer, Producer}
 use Rattle.wire_core.specs.Journal.{Hostiles, is_calm, owner_of}
-use Rattle.play_core.specs.Manners.{Calm, Manner, Hostile, is_hostile}
+use Rattle.play_core.specs.Manners.{Calm, is_hostile}
 use Rattle.play_core.specs.Moved.{Seat}
 use Rattle.play_core.specs.Names.{Wild, carries_pages, is_wild, wild_in}
-use Rattle.play_core.specs.Sheets.{AreFilled, AreSeated, IsSeat, Scene}
+use Rattle.play_core.specs.Sheets.{AreFilled, AreSeated, Scene}
 use Rattle.play_core.specs.Wants.{intake, outlet}
-use Rattle.play_core.proofs.Lists.{some_is, there_below, there_is}
+use Rattle.play_core.proofs.Lists.{some_is, there_below}
 use Rattle.owner_law.specs.Pools.Places.{PoolAt}
 use Rattle.net_law.specs.Owners.Names.{ClientPools}
 use Rattle.net_law.specs.Parts.Numbers.{client_first, copier_at}
@@ -21,12 +21,11 @@ use Rattle.net_law.proofs.PartsLemmas.Pairs.{twice, pair_first, pair_second}
 use Rattle.blk_law.specs.Sheets.Parts.{Sharer}
 use Rattle.blk_law.specs.Sheets.Numbers.{BlkPlace, sharers_from, virt_at}
 use Rattle.actor_set.specs.Parts.{HostilePart, Part, RoguePart, UartPart, DriverPart, RxPart, TxPart, ClientPart, NetworkPart, SendingPart, BlockPart}
-use Rattle.actor_set.specs.Laws.Kinds.{hostiles, manner_of, manners, scene_of, sheet}
+use Rattle.actor_set.specs.Laws.Kinds.{hostiles, manner_of, scene_of, sheet}
 use Rattle.wired_law.specs.Wiring.{HasBlk, HasWhole}
 use Rattle.cast_law.specs.Pools.Places.{HasBlkAt, HasNetAt}
 use Rattle.cast_law.specs.Pools.Rogues.{HasRogues, IsBareRogue, IsBlkRogue, IsNetRogue, IsRogueOf}
 use Rattle.cast_law.proofs.PoolsLemmas.Blocks.{sharer_there}
-use Rattle.cast_law.proofs.PoolsLemmas.Naming.{same_end}
 use Rattle.cast_law.proofs.PoolsLemmas.Table.{shipper_there}
 
 not_false : (t : Bool) → not t ≡ false → t ≡ true

@@ -1,6 +1,6 @@
 -- At the queues of hostile clients there is no page of another's pool: what goes round there are their
 -- own buffers.
-use Rattle.std.proofs.Common.{◌≡◌, ◌⊎◌, ◌==◌, ◌&&◌, ◌||◌, ◌+◌, ◌*◌, ◌++◌, ◌<◌, ◌≤◌, ℕ, zero, suc, Bool, true, false, cond, if◌then◌else◌, Option, None, Some, List, [], ◌∷◌, length, map, slice_get, refl, sym, ap, ap₂, ◌∙◌, subst, arith, eq-eqb, inl, inr}
+use Rattle.std.proofs.Common.{◌≡◌, ◌⊎◌, ◌==◌, ◌&&◌, ◌||◌, ◌+◌, ◌*◌, ◌<◌, ℕ, zero, suc, Bool, true, false, cond, if◌then◌else◌, Some, List, [], ◌∷◌, length, slice_get, refl, sym, ap, ap₂, ◌∙◌, subst, arith, eq-eqb, inl, inr}
 use Rattle.std.proofs.lemmas.List.{length-map}
 use Rattle.std.proofs.lemmas.List.Sums.{sum_by-append}
 use Rattle.cargo_core.specs.Lists.{IsPrefix}
@@ -10,7 +10,6 @@ use Rattle.wire_core.specs.Deeds.{Cargo, Deed}
 use Rattle.wire_core.specs.Ends.{Role}
 use Rattle.wire_core.specs.Lists.{Passed, with_deed}
 use Rattle.wire_core.specs.Marks.{sum_below}
-use Rattle.turn_kit.specs.Hands.{bodies_at}
 use Rattle.turn_kit.specs.declared.pipe.Pipe.{Pipe}
 use Rattle.play_core.specs.Moved.{Moved}
 use Rattle.play_core.specs.Names.{Wild}
@@ -62,7 +61,7 @@ use Rattle.wired_law.proofs.Acting.{copier_actor, device_actor, driver_actor, se
 use Rattle.cast_core.specs.Hostile.{pool_pages}
 use Rattle.cast_law.specs.Pages.Paging.{pool_weighs}
 use Rattle.cast_law.specs.Pools.Beside.{RoguesAsk, in_blk, in_net, is_blk_rogues, is_net_rogues, is_rogues}
-use Rattle.cast_law.specs.Pools.Places.{HasBlkAt, HasNetAt, PoolPlace}
+use Rattle.cast_law.specs.Pools.Places.{PoolPlace}
 use Rattle.cast_law.specs.Pools.Rogues.{IsBlkRogue, IsNetRogue}
 use Rattle.cast_law.proofs.PoolsLemmas.Calmed.{pool_all}
 use Rattle.cast_law.proofs.BesideLemmas.Around.{Around, cast, scene, wild, naming, off, part_names}
@@ -263,17 +262,21 @@ module _ (rows : List QueueRow) (place : PoolPlace) (actors : List Actor) (passe
             let moves : PipesStandFor (four_pipes p.driver.pipes) after = a.work.stands whole.driver.0 (Kinds.EthDriver p) (dx.1 ∙ ap (λ y. Some y) dr.1) in
             let wires : DeviceStandsFor e after = a.work.stands whole.device.0 (Kinds.EthDevice e) (ex.1 ∙ ap (λ y. Some y) ev.1) in
             let wire = device_sends net.first (scene rows place actors after m a).frames e ev.2 in
-            let driven = driver_sends net.first p.driver.pipes dr.2 in
-            (p.driver.pipes.rest.rest.first, e.wire.pipe, p.driver.pipes.rest.rest.rest, record {
-              first = moves.1.1.0;
-              second = wires.sends.moved;
-              third = moves.1.1.1.0;
-              to_driver = driven.0 ∙ sym own.0;
-              to_device = wire.0 ∙ sym driven.1;
-              from_device = driven.2 ∙ sym wire.1;
-              from_driver = own.1 ∙ sym driven.3;
-              begins = a.work.hands_over;
-            })
+            let driven = driver_sends net.first p.driver.pipes dr.2 in (
+              p.driver.pipes.rest.rest.first,
+              e.wire.pipe,
+              p.driver.pipes.rest.rest.rest,
+              record {
+                first = moves.1.1.0;
+                second = wires.sends.moved;
+                third = moves.1.1.1.0;
+                to_driver = driven.0 ∙ sym own.0;
+                to_device = wire.0 ∙ sym driven.1;
+                from_device = driven.2 ∙ sym wire.1;
+                from_driver = own.1 ∙ sym driven.3;
+                begins = a.work.hands_over;
+              },
+            )
 
         -- its queues are closed
         module _ (s : Client) (s_at : slice_get v.work.clients.items k ≡ Some s) (sends returns : QueueId) (q_at : slice_get (from_queues v.ends) k ≡ Some sends) (r_at : slice_get (to_queues v.ends) k ≡ Some returns) where

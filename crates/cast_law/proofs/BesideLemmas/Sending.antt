@@ -1,6 +1,6 @@
 -- The sending virtualiser hands on what its clients sent, and what came back to each client that
 -- isn't hostile; of a hostile one it sends on what is in its own buffers alone.
-use Rattle.std.proofs.Common.{◌≡◌, ◌==◌, ◌&&◌, ◌+◌, ◌-◌, ◌*◌, ◌<◌, ◌≤◌, ℕ, zero, suc, Bool, true, false, not, nat_le, nat_lt, Some, List, [], ◌∷◌, ◌++◌, All, length, map, flat_map, slice_get, refl, sym, ap, ◌∙◌, subst, arith, ltb-true, lt-ltb, eqb-true, inl}
+use Rattle.std.proofs.Common.{◌≡◌, ◌==◌, ◌&&◌, ◌+◌, ◌-◌, ◌*◌, ◌<◌, ◌≤◌, ℕ, zero, suc, true, not, nat_le, nat_lt, Some, List, [], ◌∷◌, slice_get, refl, sym, ap, ◌∙◌, subst, arith, ltb-true, lt-ltb, eqb-true, inl}
 use Rattle.std.specs.List.{filter}
 use Rattle.std.proofs.lemmas.Bool.{le-leb}
 use Rattle.std.proofs.lemmas.Option.{get_or_from_slice_get}
@@ -24,7 +24,6 @@ use Rattle.buffer_kit.specs.Virtualising.{from_queues, to_queues}
 use Rattle.net_virt_tx.specs.declared.NetVirtTx.{NetVirtTx}
 use Rattle.net_virt_tx.specs.declared.descriptors.Sender.{Sender}
 use Rattle.net_virt_tx.specs.Descriptors.{with_addr, to_client}
-use Rattle.net_virt_tx.specs.Clients.{range_of}
 use Rattle.net_virt_tx.proofs.Counting.{ends_within}
 use Rattle.net_virt_tx.specs.Serving.{is_good_of, is_own, own_of, bad_ones}
 use Rattle.net_virt_tx.specs.Sending.{TxRow, IsAnyones}

@@ -1,7 +1,7 @@
 -- The virtualiser of the block class hands on its own buffer, what its clients asked, and what was
 -- answered, to each client that isn't hostile; of a hostile one it sends on what is in its own
 -- buffers alone.
-use Rattle.std.proofs.Common.{◌≡◌, ◌==◌, ◌&&◌, ◌+◌, ◌*◌, ◌<◌, ◌≤◌, ◌++◌, ℕ, zero, suc, Bool, true, false, not, Option, Some, None, List, [], ◌∷◌, length, map, flat_map, drop, slice_get, refl, sym, ap, ap₂, ◌∙◌, subst, arith, eqb-true, ltb-true, inl}
+use Rattle.std.proofs.Common.{◌≡◌, ◌==◌, ◌&&◌, ◌+◌, ◌*◌, ◌<◌, ◌≤◌, ◌++◌, ℕ, zero, suc, Bool, true, false, not, Option, Some, None, List, [], ◌∷◌, length, map, drop, slice_get, refl, sym, ap, ap₂, ◌∙◌, subst, arith, eqb-true, ltb-true, inl}
 use Rattle.std.specs.List.{filter}
 use Rattle.std.proofs.lemmas.Bool.{and_parts}
 use Rattle.std.proofs.lemmas.List.{append-nil}
@@ -45,7 +45,7 @@ use Rattle.net_law.proofs.PartsLemmas.Items.{all_at}
 use Rattle.net_law.proofs.PartsLemmas.Leasing.{prefix_get}
 use Rattle.net_quiet.proofs.PoolsLemmas.Carrying.{HasPage, page_carries, carries_page}
 use Rattle.blk_law.specs.Sheets.Parts.{Sharer}
-use Rattle.blk_law.specs.Sheets.Playing.{holder_pool, sharers, virt_part}
+use Rattle.blk_law.specs.Sheets.Playing.{holder_pool, sharers}
 use Rattle.blk_law.specs.VirtScene.Playing.{BothInTurn}
 use Rattle.blk_law.specs.Sheets.Rows.{IsRequestIn, item_for_disk, numbered_item}
 use Rattle.blk_law.specs.Owners.Answering.{ArePoolsApart, disk_windows, IsInOrder, NamesAsked}

@@ -1,6 +1,6 @@
 -- Each buffer of a cast's pools is there once, and none has another length than its pool's, whoever
 -- is hostile.
-use Rattle.std.proofs.Common.{◌≡◌, ◌⊎◌, ◌+◌, ◌<◌, ◌≤◌, ◌++◌, ℕ, zero, suc, Option, None, Some, List, [], ◌∷◌, flat_map, slice_get, refl, sym, ap, ◌∙◌, subst, arith, inl, inr}
+use Rattle.std.proofs.Common.{◌≡◌, ◌⊎◌, ◌<◌, ◌≤◌, ℕ, zero, suc, Option, None, Some, List, [], ◌∷◌, flat_map, slice_get, refl, sym, ap, ◌∙◌, subst, arith, inl, inr}
 use Rattle.wire_core.specs.declared.names.PoolRow.{PoolRow}
 use Rattle.wire_core.specs.declared.names.QueueRow.{QueueRow}
 use Rattle.play_core.specs.Sheets.{AreSeated}
@@ -11,7 +11,7 @@ use Rattle.net_law.specs.Owners.Names.{ClientPools}
 use Rattle.net_law.specs.Parts.Numbers.{client_at, receiver_at}
 use Rattle.net_law.specs.TxParts.Numbers.{NetPlace, own_pools}
 use Rattle.blk_law.specs.Sheets.Numbers.{BlkPlace, blk_client_at, virt_at}
-use Rattle.actor_set.specs.Parts.{Part, NetworkPart, BlockPart, HostilePart}
+use Rattle.actor_set.specs.Parts.{Part, NetworkPart, BlockPart}
 use Rattle.actor_set.specs.Laws.Kinds.{scene_of, sheet}
 use Rattle.cast_law.specs.Pools.Places.{HasBlkAt, HasNetAt, HasPools, IsPlaced, PoolPlace, place_pools, place_sizes, pools_behind, pools_first}
 use Rattle.cast_law.specs.Pages.Paging.{part_pools, pools_weigh}

@@ -83,11 +83,11 @@ queues_weigh f [] = refl
 queues_weigh f (q ∷ world) =
     omega (arith, first_sum (λ n. weighed f (queue_at (q ∷ world) n).entries) (length world), queues_weigh f world, sum_by-cons (λ (r : Queue). weighed f r.entries) q world)
 
-counted-flat : {X : Type 0} (f : Count) (g : X → List Body) (xs : List X) → counted f (flat_map g xs) ≡ sum_by (λ x. counted f (g x)) xs
+pub counted-flat : {X : Type 0} (f : Count) (g : X → List Body) (xs : List X) → counted f (flat_map g xs) ≡ sum_by (λ x. counted f (g x)) xs
 counted-flat f g [] = refl
 counted-flat f g (x ∷ xs) = omega (arith, counted-append f (g x) (flat_map g xs), sum_by-cons (λ y. counted f (g y)) x xs, counted-flat f g xs)
 
-sums_alike : (xs : List Actor) (g h : Actor → ℕ) → ((k : ℕ) (x : Actor) → slice_get xs k ≡ Some x → g x ≡ h x) → sum_by g xs ≡ sum_by h xs
+pub sums_alike : (xs : List Actor) (g h : Actor → ℕ) → ((k : ℕ) (x : Actor) → slice_get xs k ≡ Some x → g x ≡ h x) → sum_by g xs ≡ sum_by h xs
 sums_alike [] g h same = refl
 sums_alike (x ∷ xs) g h same = omega (arith, sum_by-cons g x xs, sum_by-cons h x xs, same 0 x refl, sums_alike xs g h (λ k y at. same (suc k) y at))
 

@@ -1,6 +1,6 @@
 -- A cast with hostile clients beside one in which the calm client of its number plays each of them:
 -- it has the same ends and the same buffers.
-use Rattle.std.proofs.Common.{◌≡◌, ◌⊎◌, ◌+◌, ◌*◌, ◌++◌, ◌<◌, ℕ, zero, suc, Bool, true, false, Option, None, Some, List, [], ◌∷◌, length, map, flat_map, slice_get, refl, sym, ap, ap₂, ◌∙◌, subst, arith, inl, inr}
+use Rattle.std.proofs.Common.{◌≡◌, ◌⊎◌, ◌+◌, ◌*◌, ◌++◌, ℕ, zero, suc, Bool, true, false, Option, None, Some, List, [], ◌∷◌, length, map, flat_map, slice_get, refl, sym, ap, ap₂, ◌∙◌, subst, arith, inl, inr}
 use Rattle.std.specs.List.{AllZip, sum_by}
 use Rattle.std.proofs.lemmas.List.Sums.{sum_by-cons, sum_by-append}
 use Rattle.cargo_core.specs.declared.item.Ask.{Ask}
@@ -30,7 +30,7 @@ use Rattle.actor_set.specs.Parts.{HostilePart, PageAt, Part, RoguePart, UartPart
 use Rattle.actor_set.specs.Laws.Kinds.{AllCalm, frames_of, hostiles, image_of, manner_of, scene_of, sheet}
 use Rattle.actor_set.specs.Rogues.{page_weighs, pages_weigh}
 use Rattle.actor_set.proofs.LawsLemmas.Told.{none_wild}
-use Rattle.wired_law.specs.Wiring.{HasBlk, HasBlkIn, HasNoBlock, HasNoNetwork, HasPart, HasWhole, HasWholeIn, IsOfBlock, IsOfNetwork}
+use Rattle.wired_law.specs.Wiring.{HasBlk, HasBlkIn, HasPart, HasWhole, HasWholeIn, IsOfBlock, IsOfNetwork}
 use Rattle.cast_core.specs.Hostile.{pool_pages}
 use Rattle.cast_law.specs.Pages.Paging.{part_weighs, pool_weighs, pools_weigh}
 use Rattle.cast_law.specs.Pools.Places.{HasBlkAt, HasNetAt}

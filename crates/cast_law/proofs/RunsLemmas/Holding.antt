@@ -32,7 +32,6 @@ use Rattle.actor_set.proofs.LawsLemmas.PartEnds.{to_part, end_seat, same_part}
 use Rattle.actor_set.proofs.LawsLemmas.Starts.{fits_whole}
 use Rattle.wired_law.specs.Wiring.{IsWired, AreAtWork, AreOfKind, ClientsSend}
 use Rattle.wired_law.proofs.Wiring.{sends_on, nothing_sent}
-use Rattle.owner_law.specs.Pools.Places.{PoolAt}
 use Rattle.cast_law.specs.Pools.Beside.{CastCarries, RoguesAsk}
 use Rattle.cast_law.specs.Pools.Places.{PoolPlace, IsInPlace, IsPlaced}
 use Rattle.cast_law.proofs.BesideLemmas.Carrying.{call_carries}

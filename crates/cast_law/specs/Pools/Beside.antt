@@ -11,8 +11,8 @@ use Rattle.play_core.specs.Moved.{Moved}
 use Rattle.play_core.specs.Names.{Wild, names_at, wild_in}
 use Rattle.play_core.specs.Sheets.{AreFilled, AreSeated}
 use Rattle.owner_law.specs.Pages.{as_page}
-use Rattle.owner_law.specs.Things.{Buffer, Window, Names, NoBuffers, Buffers, Frames, Leases}
-use Rattle.owner_law.specs.Things.{Returns, Answers, Naming, as_buffer, requests_of, thing_at}
+use Rattle.owner_law.specs.Things.{Buffer}
+use Rattle.owner_law.specs.Things.{Naming, as_buffer, requests_of, thing_at}
 use Rattle.owner_law.specs.Pools.Places.{PoolAt}
 use Rattle.net_law.specs.Owners.Names.{ClientPools}
 use Rattle.net_law.specs.Parts.Numbers.{client_first}

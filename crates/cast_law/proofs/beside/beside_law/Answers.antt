@@ -1,5 +1,5 @@
 use Rattle.std.proofs.Common.{sym}
-use Rattle.cast_law.proofs.BesideLemmas.Carrying.{call_carries, plain_carries}
+use Rattle.cast_law.proofs.BesideLemmas.Carrying.{beside_carries, call_carries, calm_asks, plain_carries}
 use Rattle.cast_law.proofs.beside.beside_law.Goals as goal
 
 pub returns-clause-starts : goal.returns-clause-starts
@@ -10,3 +10,9 @@ returns-clause-carries c = λ rows place olds news passed d k m m' call was item
 
 pub returns-clause-plain : goal.returns-clause-plain
 returns-clause-plain c = plain_carries
+
+pub returns-clause-beside : goal.returns-clause-beside
+returns-clause-beside c = beside_carries
+
+pub returns-clause-asks : goal.returns-clause-asks
+returns-clause-asks c = λ rows place cast passed calm. calm_asks rows place cast passed calm

@@ -1,4 +1,5 @@
 use Rattle.cast_law.proofs.PagesLemmas.Holding.{cast_held, cast_whole, cast_shown, cast_once, cast_lengths, place_lengths}
+use Rattle.cast_law.proofs.PagesLemmas.Showing.{all_add_up, shown_all}
 use Rattle.cast_law.proofs.pages.cast_page_law.Goals as goal
 
 pub returns-clause-held : goal.returns-clause-held
@@ -18,3 +19,9 @@ returns-clause-all_lengths c = λ rows actors passed world over pools place plac
 
 pub returns-clause-shown : goal.returns-clause-shown
 returns-clause-shown c = λ history rows actors journal passed world play pools place placed has carry f. cast_shown history rows actors journal passed world play pools place placed has carry f
+
+pub returns-clause-shown_beside : goal.returns-clause-shown_beside
+returns-clause-shown_beside c = λ rows actors passed world over place placed m carry f. shown_all rows actors passed world over place placed m carry f
+
+pub returns-clause-add_up : goal.returns-clause-add_up
+returns-clause-add_up c = λ rows actors passed world over place placed m carry pools has. all_add_up rows actors passed world over place placed m carry pools has
