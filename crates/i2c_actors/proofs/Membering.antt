@@ -1,6 +1,5 @@
-use Rattle.std.proofs.Common.{◌≡◌, ap, ◌∙◌, List, Result, Ok, Err, IfOk, length}
+use Rattle.std.proofs.Common.{◌≡◌, ap, ◌∙◌, List, length}
 use Rattle.cargo_core.specs.declared.item.PoolId.{PoolId}
-use Rattle.cargo_core.specs.declared.memory.Memory.{Memory}
 use Rattle.wire_core.specs.declared.names.QueueId.{QueueId}
 use Rattle.wire_core.specs.declared.names.Event.{Event}
 use Rattle.wire_core.specs.Lists.{Stepped}
@@ -23,7 +22,7 @@ use Rattle.i2c_actors.specs.Members.{Asks, Serves, Copies, Answers, member_means
 
 -- A step of any kind of actor is one of the member.
 
-client_acts : (w v : List Queue) (old new : BusClient) (e : Event) → Stepped ClientStandsFor Happens w v old new e → Turned (client_round old) e (client_round new) → SameClient old new
+pub client_acts : (w v : List Queue) (old new : BusClient) (e : Event) → Stepped ClientStandsFor Happens w v old new e → Turned (client_round old) e (client_round new) → SameClient old new
     → Acts member_means w v (Members.Client old) (Members.Client new) e
 client_acts w v old new e st turned same = record {
   body = st.body;
@@ -35,12 +34,6 @@ client_acts w v old new e st turned same = record {
         ∙ (ap (λ (p : PoolId). Asks old.requests.queue.0 old.responses.queue.0 p new.asking.script) same.asking.same_pool ∙ ap (λ (xs : List BusAsk). Asks old.requests.queue.0 old.responses.queue.0 old.asking.pool xs) same.asking.script));
   };
 }
-
--- a step that may want memory
-pub client_ok : (w v : List Queue) (old new : BusClient) (r : Result Event Memory) → IfOk r (Stepped ClientStandsFor Happens w v old new) → IfOk r (λ e. Turned (client_round old) e (client_round new)) → SameClient old new
-    → IfOk r (Acts member_means w v (Members.Client old) (Members.Client new))
-client_ok w v old new (Ok e) st turned same = client_acts w v old new e st turned same
-client_ok w v old new (Err m) st turned same = tt
 
 pub virt_acts : (w v : List Queue) (old new : I2cVirt) (e : Event) → Stepped I2cVirtStandsFor Happens w v old new e → Turned (i2c_virt_round old) e (i2c_virt_round new) → SameI2cVirt old new
     → Acts member_means w v (Members.Virt old) (Members.Virt new) e
