@@ -1,9 +1,8 @@
 -- Whoever is hostile, queues and actors show no more buffers of a pool than it has.
-use Rattle.std.proofs.Common.{◌≡◌, ◌≢◌, ◌⊎◌, ◌==◌, ◌+◌, ◌++◌, ◌≤◌, ◌<◌, ℕ, zero, suc, Bool, true, false, cond, if◌then◌else◌, Some, List, [], ◌∷◌, length, length-append, map, slice_get, sum_by, refl, sym, ap, ◌∙◌, subst, arith, inl, inr, eq-eqb, ne_eqb}
+use Rattle.std.proofs.Common.{◌≡◌, ◌≢◌, ◌⊎◌, ◌==◌, ◌+◌, ◌≤◌, ◌<◌, ℕ, zero, suc, Bool, true, false, cond, if◌then◌else◌, Some, List, [], ◌∷◌, length, length-append, map, slice_get, sum_by, refl, sym, ap, ◌∙◌, arith, inl, inr, ne_eqb}
 use Rattle.std.proofs.Math.Dec.{eqb}
 use Rattle.std.proofs.lemmas.Bool.Decides.{eqb_tells}
 use Rattle.std.proofs.lemmas.List.Sums.{sum_by-cons}
-use Rattle.cargo_core.specs.declared.item.PoolId.{PoolId}
 use Rattle.cargo_core.specs.Bodies.{buffers_of}
 use Rattle.wire_core.specs.declared.names.PoolRow.{PoolRow}
 use Rattle.wire_core.specs.declared.names.QueueRow.{QueueRow}
@@ -15,25 +14,24 @@ use Rattle.buffer_kit.specs.Conserving.{Count, counted as weighs, weighed, of_po
 use Rattle.buffer_kit.proofs.Conserving.{pool_counted}
 use Rattle.play_core.specs.Sheets.{Scene}
 use Rattle.owner_law.specs.Keeping.{Keeper, keeper_of}
-use Rattle.owner_law.specs.Pools.Lines.{Holder}
 use Rattle.owner_law.specs.Pools.Places.{PoolAt, numbers_from, pool_hand}
-use Rattle.owner_law.specs.Pools.Spread.{AreSpread, share_of}
+use Rattle.owner_law.specs.Pools.Spread.{AreSpread}
 use Rattle.net_quiet.proofs.PoolsLemmas.Lending.{loans_many}
 use Rattle.net_virt_rx.specs.Sharing.{lent_many}
 use Rattle.net_law.specs.Parts.Parts.{NetDevice, NetDriver, NetReceiver, NetCopier, NetClient}
 use Rattle.blk_law.specs.Sheets.Parts.{DiskDevice, BlkDriver, BlkVirt, BlkClient}
 use Rattle.actor_set.specs.Parts.{PageAt, Part, UartPart, DriverPart, RxPart, TxPart, ClientPart, NetworkPart, SendingPart, BlockPart, HostilePart}
-use Rattle.actor_set.specs.Actors.{IsWhole, actor_hand, actor_lent, part_of}
+use Rattle.actor_set.specs.Actors.{IsWhole, actor_hand, actor_lent}
 use Rattle.actor_set.specs.declared.actor.Actor.{Actor}
 use Rattle.actor_set.specs.declared.actor.Actor.TheVariants as Kinds
 use Rattle.actor_set.specs.Laws.Kinds.{scene_of, sheet}
 use Rattle.actor_set.specs.Rogues.{page_weighs, pages_in, pages_weigh}
 use Rattle.cast_law.specs.Pages.Paging.{actor_kept, actor_weighs, cast_weighs, part_weighs, pool_weighs, pools_weigh}
 use Rattle.cast_law.specs.Pools.Holders.{holders_of}
-use Rattle.cast_law.specs.Pools.Places.{PoolPlace, IsPlaced, HasPools, place_sizes}
+use Rattle.cast_law.specs.Pools.Places.{PoolPlace, HasPools, place_sizes}
 use Rattle.cast_law.specs.Pools.Pooling.{keepers_at}
 use Rattle.cast_law.specs.PoolLines.PoolLines.{counted}
-use Rattle.cast_law.proofs.PoolsLemmas.Calmed.{Calmed, no_rogues}
+use Rattle.cast_law.proofs.PoolsLemmas.Calmed.{Calmed}
 use Rattle.cast_law.proofs.PoolsLemmas.Dealing.{owner, are_spread}
 use Rattle.system_core.specs.States.{held_by, lent_by}
 use Rattle.system_core.proofs.Counting.{hands_are, lents_are}

@@ -1,5 +1,5 @@
 -- What is said by the names that are kept stays said as more of them are kept.
-use Rattle.std.proofs.Common.{◌≡◌, ◌≤◌, ◌+◌, ℕ, true, Some, List, [], slice_get, length, length-append, refl, sym, ap, ◌∙◌, subst, arith}
+use Rattle.std.proofs.Common.{◌≡◌, ◌≤◌, List, slice_get, length, length-append, refl, sym, ap, ◌∙◌, arith}
 use Rattle.cargo_core.specs.Lists.{IsPrefix}
 use Rattle.wire_core.specs.declared.names.Entry.{Entry}
 use Rattle.wire_core.specs.declared.names.QueueRow.{QueueRow}
@@ -10,7 +10,6 @@ use Rattle.play_core.specs.Sheets.{AreSeated, Scene}
 use Rattle.play_core.proofs.Moments.{each_moment}
 use Rattle.play_core.proofs.Noting.{notes_grow}
 use Rattle.play_core.proofs.Staying.{runs_same, rows_stay}
-use Rattle.net_law.specs.TxScene.Table as sending
 use Rattle.blk_law.specs.Sheets.Parts.{BlkPart, DiskDevice, BlkDriver, BlkVirt, BlkClient}
 use Rattle.blk_law.specs.VirtScene.Table as block
 use Rattle.actor_set.specs.Parts.{Part, UartPart, DriverPart, RxPart, TxPart, ClientPart, NetworkPart, SendingPart, BlockPart, HostilePart}

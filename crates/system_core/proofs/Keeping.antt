@@ -1,11 +1,10 @@
 -- Of which queues names are kept, by the rows and by who is hostile.
-use Rattle.std.proofs.Common.{◌≡◌, ◌≤◌, ◌+◌, ◌++◌, ℕ, zero, suc, Bool, true, false, Some, None, Option, List, [], ◌∷◌, length, map, take, slice_get, refl, sym, ap, ◌∙◌, subst, arith}
-use Rattle.std.specs.Option.{option_map_or}
+use Rattle.std.proofs.Common.{◌≡◌, ◌≤◌, ◌+◌, ◌++◌, ℕ, zero, suc, Bool, false, Some, List, [], ◌∷◌, length, map, take, slice_get, refl, sym, ap, ◌∙◌, subst, arith}
 use Rattle.wire_core.specs.declared.names.QueueRow.{QueueRow}
 use Rattle.wire_core.specs.Journal.{Hostiles}
 use Rattle.play_core.specs.Manners.{Calm, Hostile, Manner, is_hostile}
 use Rattle.play_core.specs.Names.{is_wild, wild_in}
-use Rattle.play_core.proofs.Lists.{map_from, some_is}
+use Rattle.play_core.proofs.Lists.{some_is}
 use Rattle.actor_set.specs.Parts.{Part}
 use Rattle.actor_set.specs.Actors.{part_of}
 use Rattle.actor_set.specs.declared.actor.Actor.{Actor}

@@ -1,33 +1,25 @@
 -- A step over queues of which names are kept: that it may be made, and which name it adds.
-use Rattle.std.proofs.Common.{◌≡◌, ◌⊎◌, ◌<◌, ◌++◌, ◌&&◌, ◌||◌, ℕ, zero, suc, Bool, true, false, not, is_some, Option, Some, None, List, [], ◌∷◌, All, length, map, take, slice_get, inl, inr, refl, sym, ap, ap₂, ◌∙◌, subst, arith}
-use Rattle.std.specs.Prelude.{slice_index_or}
-use Rattle.std.specs.Option.{option_map_or}
+use Rattle.std.proofs.Common.{◌≡◌, ◌⊎◌, ◌<◌, ◌++◌, ℕ, Bool, true, false, not, is_some, Option, Some, None, List, [], length, map, slice_get, inl, inr, refl, sym, ap, ap₂, ◌∙◌, subst}
 use Rattle.std.proofs.lemmas.Bool.{ltb-true}
 use Rattle.std.proofs.lemmas.List.Elements.{All-append}
 use Rattle.wire_core.specs.declared.names.Event.{Event}
-use Rattle.wire_core.specs.declared.names.Entry.{Entry}
 use Rattle.wire_core.specs.declared.names.QueueId.{QueueId}
-use Rattle.wire_core.specs.declared.names.QueueRow.{QueueRow}
 use Rattle.wire_core.specs.Deeds.{Cargo, Deed, cargo_of}
-use Rattle.wire_core.specs.Ends.{Consumer, Producer}
-use Rattle.wire_core.specs.Journal.{Hostiles}
 use Rattle.wire_core.specs.Lists.{Stepped, if_put}
 use Rattle.wire_core.specs.Queues.{Happens, end_at}
 use Rattle.play_core.specs.Manners.{Calm}
 use Rattle.play_core.specs.Moved.{moved}
-use Rattle.play_core.specs.Names.{Name, Noted, Wild, is_wild, notes_of, wild_in}
+use Rattle.play_core.specs.Names.{Name, Noted, Wild, notes_of, wild_in}
 use Rattle.play_core.proofs.Noting.{notes_none}
 use Rattle.play_core.specs.Runs.{is_runnable}
-use Rattle.play_core.proofs.Lists.{map_get, some_is}
+use Rattle.play_core.proofs.Lists.{map_get}
 use Rattle.client_programs.specs.declared.rogue.Rogue.{Rogue}
 use Rattle.client_programs.specs.Rogue.Acts.{is_done}
-use Rattle.client_programs.specs.Rogue.Clients.{FitsRogue, ends_of, left_of}
-use Rattle.actor_set.specs.Parts.{Part}
-use Rattle.actor_set.specs.Actors.{ActorStandsFor, FitsActor, MayStep, part_of}
+use Rattle.client_programs.specs.Rogue.Clients.{FitsRogue, left_of}
+use Rattle.actor_set.specs.Actors.{ActorStandsFor, MayStep, part_of}
 use Rattle.actor_set.specs.declared.actor.Actor.{Actor}
 use Rattle.actor_set.specs.declared.actor.Actor.TheVariants as Kinds
-use Rattle.actor_set.specs.Laws.Kinds.{AllCalm, hostiles, manner_of}
-use Rattle.actor_set.proofs.LawsLemmas.Calm.{manner_at}
+use Rattle.actor_set.specs.Laws.Kinds.{AllCalm, manner_of}
 use Rattle.actor_set.proofs.LawsLemmas.Rounds.{calm_or_rogue, may_is}
 use Rattle.actor_set.proofs.LawsLemmas.Told.{none_wild}
 use Rattle.actor_set.proofs.RogueLemmas.Playing.{runs as acts_run}

@@ -10,7 +10,7 @@ use Rattle.play_core.specs.Names.{Noted, Wild, told_by, wild_in}
 use Rattle.play_core.specs.Wants.{all_settled}
 use Rattle.play_core.specs.Runs.{called_from, is_runnable}
 use Rattle.play_core.specs.Sheets.{RowsHold, Scene}
-use Rattle.play_core.proofs.Lists.{map_get, map_from}
+use Rattle.play_core.proofs.Lists.{map_from}
 use Rattle.client_programs.specs.declared.rogue.Rogue.{Rogue}
 use Rattle.client_programs.specs.Rogue.Acts.{is_done}
 use Rattle.client_programs.specs.Rogue.Clients.{left_of}

@@ -221,10 +221,13 @@ module _ (history : History) (rows : List QueueRow) (names : List Noted) (w v : 
 
   -- it may make the call, and a store where it is hostile
   may' : MayCall hostile queue_row (role_of e.op) k
-  may' = record { some = (calls.role, has_end); own = λ calm. elim calls.sort.1 [
-    | inl same ↦ subst (λ r. owner_of queue_row r ≡ k) same has_end
-    | inr store ↦ let no : true ≡ false = sym store ∙ plain (calm_there (map part_of actors) k x cast_here calm) in absurd cc
-  ] }
+  may' = record {
+    some = (calls.role, has_end);
+    own = λ calm. elim calls.sort.1 [
+      | inl same ↦ subst (λ r. owner_of queue_row r ≡ k) same has_end
+      | inr store ↦ let no : true ≡ false = sym store ∙ plain (calm_there (map part_of actors) k x cast_here calm) in absurd cc
+    ];
+  }
 
   pub may_there : (row : QueueRow) → slice_get rows e.queue.0 ≡ Some row → MayCall hostile row (role_of e.op) k
   may_there row there = subst (λ r. MayCall hostile r (role_of e.op) k) (some_is (sym row_there ∙ there)) may'

@@ -31,7 +31,7 @@ mod apart;
 use crate::crew::Crew;
 use crate::crews::{blk_crew, net_crew, serial_crew};
 use crate::lines::{bad, lines, pool_copies};
-use crate::names::{kept_queues, keep_name, make_room};
+use crate::names::{keep_name, kept_queues, make_room};
 use crate::records::{frame_records, line, records, replies, wire};
 use actor_set::Actor;
 use cargo_core::{Memory, Series, Word};

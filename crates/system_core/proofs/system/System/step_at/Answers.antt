@@ -1,15 +1,12 @@
-use Rattle.std.proofs.Common.{◌≡◌, ◌<◌, ◌++◌, ℕ, [], ◌∷◌, refl, sym, ap, ap₂, ◌∙◌, length, length-set, map, slice_get, slice_set, Some, List, subst, arith}
+use Rattle.std.proofs.Common.{◌≡◌, ◌<◌, ◌++◌, ℕ, [], ◌∷◌, refl, sym, ap, ◌∙◌, length, length-set, map, slice_get, slice_set, Some, List, subst, arith}
 use Rattle.std.specs.Vec.{vec_len}
 use Rattle.std.proofs.lemmas.Option.{slice_get_read, slice_get_within}
-use Rattle.cargo_core.specs.Lists.{IsPrefix}
 use Rattle.wire_core.specs.Journal.{EachMoment}
 use Rattle.wire_core.specs.Marks.{no_drops, Brisk}
 use Rattle.play_core.specs.Names.{Noted, notes_of, wild_in}
 use Rattle.actor_set.specs.Actors.{part_of}
-use Rattle.actor_set.specs.Parts.{Part}
 use Rattle.actor_set.specs.Laws.Kinds.{hostiles, scene_of}
 use Rattle.noted_wires.specs.Noting.{kept_at, notes_in}
-use Rattle.noted_wires.specs.declared.wires.NotedWires.{NotedWires}
 use Rattle.system_core.specs.Shows.{Setting, Shown, KeepsSetting, hostile_in, runs, NamesTell, RowsStand}
 use Rattle.system_core.specs.States.{history_of, begun}
 use Rattle.system_core.specs.Lawful.{IsFitted}
