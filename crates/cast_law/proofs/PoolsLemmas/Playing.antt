@@ -117,7 +117,7 @@ begins_anew rows cast calm seated place placed numbered = record {
 }
 
 -- at the end of a journal queues have what is of their kind
-kindly_last : (history : History) (rows : List QueueRow) (journal : List Entry) (passed : Passed) → HaveItems passed (moved history journal) → AreOfKind rows passed → ((n : ℕ) → IsPrefix (passed.taken n) (passed.sent n)) → AreKindly history rows journal
+pub kindly_last : (history : History) (rows : List QueueRow) (journal : List Entry) (passed : Passed) → HaveItems passed (moved history journal) → AreOfKind rows passed → ((n : ℕ) → IsPrefix (passed.taken n) (passed.sent n)) → AreKindly history rows journal
 kindly_last history rows journal passed items kinds begins n = by (slice_get rows n) refl
   where
     by : (o : Option QueueRow) → slice_get rows n ≡ o → IsKindly o (sent history n journal) (taken history n journal)
