@@ -5,11 +5,14 @@ pub mod Calming
 pub mod Apart
 pub mod Seated
 pub mod Wired
+pub mod Rogued
 pub mod Pooled
 pub mod Blocks
 pub mod Joined
 pub mod QuietLemmas
 pub mod PoolsLemmas
+pub mod BesideLemmas
+pub mod OwningLemmas
 pub mod PastOwners
 pub mod PoolLines
 pub mod PagesLemmas

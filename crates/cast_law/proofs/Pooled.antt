@@ -34,6 +34,7 @@ use Rattle.cast_core.proofs.Listing.{value_is, value_count}
 use Rattle.cast_core.proofs.Rooms.{pools_apart, blk_size, has_blk_pools}
 use Rattle.cast_law.specs.Pools.Places.{HasNetAt, HasBlkAt, IsPlaced, HasPools, ArePooled, pools_first, pools_behind, place_pools}
 use Rattle.cast_law.specs.Places.{pool_place}
+use Rattle.cast_law.proofs.Rogued.{rogues_are}
 use Rattle.cast_law.proofs.Blocks.{pools_before, no_block}
 use Rattle.cast_law.proofs.Joined.{whole_network, whole_block}
 use Rattle.cast_law.proofs.Wired.{no_network}
@@ -240,7 +241,7 @@ module _ (plan : Plan) (trace : Trace) where
 
     -- the classes with pools stand at the plan's place
     pub placed : (actors : List Actor) → IsReadFor plan trace → AreCast plan trace actors → IsPlaced (queues_of plan) (pool_place plan trace) (map part_of actors)
-    placed actors read cast = record { net = first plan.net refl; blk = behind plan.blk refl }
+    placed actors read cast = record { net = first plan.net refl; blk = behind plan.blk refl; rogues = rogues_are plan trace actors valid read cast }
       where
         first : (n : Option Net) → plan.net ≡ n → HasNetAt (queues_of plan) (option_map (λ net. net_place plan trace) n) (map part_of actors)
         first None none = no_network plan trace actors valid cast none

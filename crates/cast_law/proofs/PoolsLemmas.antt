@@ -1,5 +1,6 @@
 pub mod Table
 pub mod Blocks
+pub mod Calmed
 pub mod Alike
 pub mod Apart
 pub mod Moments

@@ -26,7 +26,6 @@ use Rattle.wired_law.specs.Wiring.{IsWired}
 use Rattle.cast_law.specs.Seats.{AreSeated}
 use Rattle.cast_law.proofs.Parting.{end_is, is_end, kind_is}
 use Rattle.cast_law.proofs.Apart.{cast_apart}
-use Rattle.cast_law.proofs.Calming.{all_calm}
 
 -- the actor of a job has the job's part
 pub part_there : (parts : Job → Option Part) (plan : Plan) (actors : List Actor) → Valid plan → AreCastBy parts plan actors → (job : Job) (k : ℕ) → HasJob plan job k → slice_get (map part_of actors) k ≡ parts job
@@ -77,7 +76,6 @@ module _ (plan : Plan) (trace : Trace) (actors : List Actor) (valid : Valid plan
 
   pub seated : IsWired (queues_of plan) (map part_of actors) → length (queues_of plan) ≤ 65536 → length (actors_of plan) ≤ 65536 → AreSeated (queues_of plan) actors
   seated wired numbered few = record {
-    calm = all_calm plan trace actors cast;
     new = λ k x at. (cast.each k x at).new;
     apart = apart;
     seats = seat;

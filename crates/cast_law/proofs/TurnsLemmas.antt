@@ -24,7 +24,7 @@ use Rattle.actor_set.specs.Parts.{Part}
 use Rattle.actor_set.specs.Actors.{part_of}
 use Rattle.actor_set.specs.declared.actor.Actor.{Actor}
 use Rattle.actor_set.specs.declared.actor.Actor.TheVariants as Kinds
-use Rattle.actor_set.specs.Laws.Kinds.{hostiles, scene_of}
+use Rattle.actor_set.specs.Laws.Kinds.{AllCalm, hostiles, scene_of}
 use Rattle.actor_set.specs.Laws.Scenes.{LiesWithin, ToldInTurn, told_sheet}
 use Rattle.actor_set.specs.Laws.Turning.{InTurn}
 use Rattle.actor_set.proofs.LawsLemmas.Told.{none_wild}
@@ -93,7 +93,7 @@ module _ (ends : Role → ℕ → End) (rows : List QueueRow) (pools : List Pool
   cast = map part_of actors
 
   once : HasEachOnce rows actors passed
-  once = each_once ends rows actors passed in_place.calm in_place.peopled in_place.seated in_place.filled pools in_place.pooled.0 in_place.pooled.1 in_place.pooled.2 work
+  once = each_once ends rows actors passed in_place.peopled in_place.seated in_place.filled pools in_place.pooled.0 in_place.pooled.1 in_place.pooled.2 work
 
   pub beside_turns : (wild : Wild) → AreInTurn wild actors passed
   beside_turns wild = beside (scene_of cast) ends rows actors passed work (wired_place rows pools cast in_place) once wild
@@ -113,6 +113,6 @@ module _ (ends : Role → ℕ → End) (rows : List QueueRow) (pools : List Pool
       let x = map_from part_of actors k p at in
       subst (λ q. LiesWithin (wild_in (hostiles cast) rows) names q m) x.2 (told_within (scene_of cast) (wild_in (hostiles cast) rows) names x.0 passed m items (told_turns sends names kept k x.0 x.1))
 
-  -- nobody is hostile, so no name is asked
-  pub calm_turns : ClientsSend rows cast passed → (k : ℕ) (x : Actor) → slice_get actors k ≡ Some x → InTurn (scene_of cast) x passed
-  calm_turns sends k x at = turns_calm (scene_of cast) (wild_in (hostiles cast) rows) (names_at passed) x passed (none_wild cast in_place.calm rows) (told_turns sends (names_at passed) (λ n is_wild. ([], append-nil (names_at passed n))) k x at)
+  -- where nobody is hostile no name is asked
+  pub calm_turns : AllCalm cast → ClientsSend rows cast passed → (k : ℕ) (x : Actor) → slice_get actors k ≡ Some x → InTurn (scene_of cast) x passed
+  calm_turns calm sends k x at = turns_calm (scene_of cast) (wild_in (hostiles cast) rows) (names_at passed) x passed (none_wild cast calm rows) (told_turns sends (names_at passed) (λ n is_wild. ([], append-nil (names_at passed n))) k x at)

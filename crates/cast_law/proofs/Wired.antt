@@ -343,7 +343,7 @@ module _ (plan : Plan) (trace : Trace) (actors : List Actor) (valid : Valid plan
         by (Some sent) at = λ j frame j_at. all_at (IsTraceFrame (frame_most plan)) sent (all_at (All (IsTraceFrame (frame_most plan))) trace.sends shapes.sends k sent at) j frame j_at
 
     -- the queues on which a client sends are wild where its actor is hostile
-    send_wild : (k : ℕ) (c : NetClientKeys) → slice_get net.client k ≡ Some c
+    pub send_wild : (k : ℕ) (c : NetClientKeys) → slice_get net.client k ≡ Some c
         → (wild_in (hostiles cast) (queues_of plan) (client_first place.first k + 4) ≡ hostiles cast (actor_named plan c.pd).0) × (wild_in (hostiles cast) (queues_of plan) (client_first place.first k + 5) ≡ hostiles cast (actor_named plan c.pd).0)
     send_wild k c at =
         let client = (actor_named plan c.pd).0 in

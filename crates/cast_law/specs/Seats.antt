@@ -7,14 +7,11 @@ use Rattle.cargo_core.specs.Capacities.{IsCapacity}
 use Rattle.actor_set.specs.Actors.{ActorEnd, part_of}
 use Rattle.actor_set.specs.declared.actor.Actor.{Actor}
 use Rattle.actor_set.specs.StartStates.{IsNew, HasApartEnds, HasSeat, kind_at}
-use Rattle.actor_set.specs.Laws.Kinds.{AllCalm}
 use Rattle.wired_law.specs.Wiring.{IsWired}
 
 -- actors in their start state, each with the ends that the rows give it, and the owners of each
 -- queue are there
 pub record AreSeated (rows : List QueueRow) (actors : List Actor) : Type 0 where
-  -- nobody is hostile
-  pub calm : AllCalm (map part_of actors)
   pub new : (k : ℕ) (x : Actor) → slice_get actors k ≡ Some x → IsNew x
   pub apart : (k : ℕ) (x : Actor) → slice_get actors k ≡ Some x → HasApartEnds x
   pub seats : (k : ℕ) (x : Actor) → slice_get actors k ≡ Some x → (r : Role) (n : ℕ)

@@ -24,7 +24,9 @@ ghost use Rattle.cast_law.specs.Pools.Places.{IsPlaced, HasPools};
 ghost use Rattle.cast_law.specs.Places.{pool_place};
 ghost use Rattle.cast_law.specs.Seats.{AreSeated};
 
+pub mod beside;
 pub mod gone;
+pub mod owners;
 pub mod pages;
 pub mod past_owners;
 pub mod pool_lines;

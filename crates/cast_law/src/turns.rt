@@ -12,7 +12,7 @@ ghost use Rattle.play_core.specs.Sheets.{RowsHold};
 ghost use Rattle.actor_set.specs.Parts.{Part};
 ghost use Rattle.actor_set.specs.Actors.{part_of};
 ghost use Rattle.actor_set.specs.declared.actor.Actor.{Actor};
-ghost use Rattle.actor_set.specs.Laws.Kinds.{hostiles, scene_of};
+ghost use Rattle.actor_set.specs.Laws.Kinds.{AllCalm, hostiles, scene_of};
 ghost use Rattle.actor_set.specs.Laws.Scenes.{LiesWithin, ToldInTurn, told_sheet};
 ghost use Rattle.actor_set.specs.Laws.Turning.{InTurn};
 ghost use Rattle.wired_law.specs.Wiring.{AreAtWork, AreInTurn, ClientsSend, TellsKept};
@@ -23,7 +23,7 @@ ghost use Rattle.cast_law.specs.Pools.Places.{IsInPlace};
 /// that are told nothing does at any actor, where clients that aren't hostile put good descriptors
 /// and requests alone; so the rows of all actors that aren't hostile hold by these names, and stay
 /// as more are told, for what is asked of them is told. Names that are kept in the order of the
-/// puts tell enough. Nobody is hostile yet, so no name is asked.
+/// puts tell enough. Where nobody is hostile no name is asked.
 pub fn cast_turn_law()
     ensures beside { (ends : Role → ℕ → End) (rows : List QueueRow) (pools : List PoolRow)
         (actors : List Actor) (passed : Passed) → IsInPlace rows pools (map part_of actors)
@@ -54,8 +54,8 @@ pub fn cast_turn_law()
     ensures noted { (wild : Wild) (notes : List Noted) (passed : Passed)
         → AreNoted wild notes passed → TellsKept wild (told_by notes) passed }
     ensures calm { (ends : Role → ℕ → End) (rows : List QueueRow) (pools : List PoolRow)
-        (actors : List Actor) (passed : Passed) → IsInPlace rows pools (map part_of actors)
-        → AreAtWork ends rows actors passed → ClientsSend rows (map part_of actors) passed
-        → (k : ℕ) (x : Actor) → slice_get actors k ≡ Some x
-        → InTurn (scene_of (map part_of actors)) x passed }
+        (actors : List Actor) (passed : Passed) → AllCalm (map part_of actors)
+        → IsInPlace rows pools (map part_of actors) → AreAtWork ends rows actors passed
+        → ClientsSend rows (map part_of actors) passed → (k : ℕ) (x : Actor)
+        → slice_get actors k ≡ Some x → InTurn (scene_of (map part_of actors)) x passed }
 {}

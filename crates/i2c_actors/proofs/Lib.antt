@@ -1,5 +1,4 @@
 -- The proofs on the actors of the bus as one type.
-pub mod Membering
 pub mod Queueing
 pub mod Places
 pub mod Fresh

@@ -274,3 +274,26 @@ choice_rest v h =
     let two = length-append (needs_from (λ k. false) 0 fs) (needs_from (λ k. false) 0 ts) in
     offered_rest (choosing (length (virt_posts v.ends)) v.ends.turn.last) 0 (virt_posts v.ends) (i2c_virt_round v).needs (virt_needs v.ends false false (λ k. false) (λ k. false)) (omega (arith, a, b, c, d, one, two))
     (refl, (refl, false_append (needs_from (λ k. false) 0 fs) (needs_from (λ k. false) 0 ts) (false_needs 0 fs) (false_needs 0 ts))) h
+
+-- where all are settled, the lowest is the end that was woken, unless it is settled still
+unsettled_rest : (x : Option Stand) (place : ℕ) (ps : List Post) (ns : List Bool) → settled_all ps ns ≡ true → unsettled_from x place ps ns ≡ x
+unsettled_rest x place [] ns h = refl
+unsettled_rest x place (r ∷ ps) [] h = refl
+unsettled_rest x place (r ∷ ps) (m ∷ ns) h =
+    let b = both (is_settled r.state m) (settled_all ps ns) h in
+    ap (λ y. unsettled_from (lower_if (not y) x (record { queue = r.queue; place = place })) (place + 1) ps ns) b.0 ∙ unsettled_rest x (place + 1) ps ns b.1
+
+pub unsettled_woken : (x : Option Stand) (place : ℕ) (ps : List Post) (ns : List Bool) (k : ℕ) (p q : Post) (n : Bool) → settled_all ps ns ≡ true → slice_get ps k ≡ Some p → slice_get ns k ≡ Some n
+    → unsettled_from x place (slice_set ps k q) ns ≡ lower_if (not (is_settled q.state n)) x (record { queue = q.queue; place = place + k })
+unsettled_woken x place [] ns k p q n h at need = cc
+unsettled_woken x place (r ∷ ps) [] k p q n h at need = cc
+unsettled_woken x place (r ∷ ps) (m ∷ ns) zero p q n h at need =
+    let b = both (is_settled r.state m) (settled_all ps ns) h in
+    unsettled_rest (lower_if (not (is_settled q.state m)) x (record { queue = q.queue; place = place })) (place + 1) ps ns b.1
+    ∙ (ap (λ o. lower_if (not (is_settled q.state o)) x (record { queue = q.queue; place = place })) (some_eq need)
+    ∙ ap (λ j. lower_if (not (is_settled q.state n)) x (record { queue = q.queue; place = j })) (sym (add-zero place)))
+unsettled_woken x place (r ∷ ps) (m ∷ ns) (suc k) p q n h at need =
+    let b = both (is_settled r.state m) (settled_all ps ns) h in
+    ap (λ y. unsettled_from (lower_if (not y) x (record { queue = r.queue; place = place })) (place + 1) (slice_set ps k q) ns) b.0
+    ∙ (unsettled_woken x (place + 1) ps ns k p q n b.1 at need
+    ∙ ap (λ j. lower_if (not (is_settled q.state n)) x (record { queue = q.queue; place = j })) (omega arith))

@@ -18,7 +18,7 @@ use crate::calls::{pull, push};
 use crate::i2c_kit::{Device, answer_to, is_bus_request, new_devices};
 use cargo_core::{Body, Bytes, Item, Memory, QueueKind};
 use std::alloc::Global;
-use turn_kit::{Intake, Outlet, Turn};
+use turn_kit::{Intake, Lowest, Outlet, Turn};
 use wire_core::{Event, QueueId, Wires};
 
 /// The bus. `devices` are as the requests that it took left them; `load` is the answer to the last
@@ -74,7 +74,8 @@ impl BusDevice {
         self.input.settled(self.is_serving()) && self.output.settled(self.load.is_some())
     }
 
-    // The end that is stepped now: the input is the first, the output the second.
+    // The end that is stepped now: the input is the first, the output the second. The rotation is
+    // asked only where both are settled.
     fn choose(&mut self) -> usize
         ensures place { result ≡ chosen_place (choice_of (bus_round self.old)) }
         ensures within { result < 2 }
@@ -83,13 +84,19 @@ impl BusDevice {
         } }
     {
         let serving = self.is_serving();
-        let input_settled = self.input.settled(serving);
-        let output_settled = self.output.settled(self.load.is_some());
+        let input = self.input.settled(serving);
+        let output = self.output.settled(self.load.is_some());
+        let lowest = Lowest::none()
+            .unless_settled(0, self.input.queue, input)
+            .unless_settled(1, self.output.queue, output);
+        if let Some(end) = lowest.stand() {
+            return end.place;
+        }
         let choice = self
             .turn
             .begin(2)
-            .offer(0, self.input.queue, input_settled)
-            .offer(1, self.output.queue, output_settled);
+            .offer(0, self.input.queue, input)
+            .offer(1, self.output.queue, output);
         self.turn.pass(choice)
     }
 

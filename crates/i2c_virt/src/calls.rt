@@ -124,6 +124,7 @@ pub fn pull<W: Wires>(
         ≡ (W.ends wires.old Consumer input.old.queue.0).kind) }
     ensures posted { Posted (intake_post input.old) need event.new (intake_post input.new) }
     ensures still { is_mark event.new.op event.new.answer ≡ false → got.new ≡ None }
+    ensures kept { event.new.item ≡ None → got.new ≡ None }
 {
     let op = input.state.next(Side::Forward, need);
     if op == Op::Take {
@@ -200,6 +201,7 @@ pub fn push<W: Wires>(
     ensures posted { Posted (outlet_post output.old) (is_some load.old) event.new
         (outlet_post output.new) }
     ensures still { is_mark event.new.op event.new.answer ≡ false → load.new ≡ load.old }
+    ensures kept { event.new.item ≡ None → load.new ≡ load.old }
 {
     let op = output.state.next(Side::Backward, load.is_some());
     if op == Op::Put {
@@ -244,6 +246,7 @@ pub fn pull_at<W: Wires>(
     ensures puts { (n : ℕ) → put_by (deed_of event.new got.new) n ≡ [] }
     ensures posted { PostedAt (intake_posts inputs.old) k need event.new (intake_posts inputs.new) }
     ensures still { is_mark event.new.op event.new.answer ≡ false → got.new ≡ None }
+    ensures kept { event.new.item ≡ None → got.new ≡ None }
 {
     let end = &mut inputs.ends[k];
     pull(end, wires, need, got, event);
@@ -277,6 +280,7 @@ pub fn push_at<W: Wires>(
     ensures posted { PostedAt (outlet_posts outputs.old) k (is_some load.old) event.new
         (outlet_posts outputs.new) }
     ensures still { is_mark event.new.op event.new.answer ≡ false → load.new ≡ load.old }
+    ensures kept { event.new.item ≡ None → load.new ≡ load.old }
 {
     let end = &mut outputs.ends[k];
     push(end, wires, load, event);

@@ -73,6 +73,7 @@ fn step_input<W: Wires>(
     ensures puts { (n : ℕ) → put_by (deed_of event.new got.new) n ≡ [] }
     ensures posted { PostedAt (virt_posts ends.old) 0 need event.new (virt_posts ends.new) }
     ensures still { is_mark event.new.op event.new.answer ≡ false → got.new ≡ None }
+    ensures kept { event.new.item ≡ None → got.new ≡ None }
     ensures turn { ends.new.turn ≡ ends.old.turn }
 {
     pull(&mut ends.input, wires, need, got, event);
@@ -99,6 +100,7 @@ fn step_output<W: Wires>(
     ensures posted { PostedAt (virt_posts ends.old) 1 (is_some load.old) event.new
         (virt_posts ends.new) }
     ensures still { is_mark event.new.op event.new.answer ≡ false → load.new ≡ load.old }
+    ensures kept { event.new.item ≡ None → load.new ≡ load.old }
     ensures turn { ends.new.turn ≡ ends.old.turn }
 {
     push(&mut ends.output, wires, load, event);
@@ -129,6 +131,7 @@ fn step_from<W: Wires>(
     ensures posted { PostedAt (virt_posts ends.old) (2 + place) need event.new
         (virt_posts ends.new) }
     ensures still { is_mark event.new.op event.new.answer ≡ false → got.new ≡ None }
+    ensures kept { event.new.item ≡ None → got.new ≡ None }
     ensures turn { ends.new.turn ≡ ends.old.turn }
 {
     pull_at(&mut ends.from_clients, wires, place, need, got, event);
@@ -158,6 +161,7 @@ fn step_to<W: Wires>(
     ensures posted { PostedAt (virt_posts ends.old) (2 + length (from_queues ends.old) + place)
         (is_some load.old) event.new (virt_posts ends.new) }
     ensures still { is_mark event.new.op event.new.answer ≡ false → load.new ≡ load.old }
+    ensures kept { event.new.item ≡ None → load.new ≡ load.old }
     ensures turn { ends.new.turn ≡ ends.old.turn }
 {
     push_at(&mut ends.to_clients, wires, place, load, event);
@@ -256,6 +260,7 @@ impl I2cVirt {
             (virt_posts self.new.ends) }
         ensures still { is_mark event.new.op event.new.answer ≡ false
             → WorkIsStill self.old.work self.new.work }
+        ensures kept { event.new.item ≡ None → WorkIsStill self.old.work self.new.work }
         ensures turn { self.new.ends.turn ≡ self.old.ends.turn }
         ensures lowest { self.new.lowest ≡ self.old.lowest }
     {
@@ -279,6 +284,7 @@ impl I2cVirt {
             (wants_at self.old.work place) event.new (virt_posts self.new.ends) }
         ensures still { is_mark event.new.op event.new.answer ≡ false
             → WorkIsStill self.old.work self.new.work }
+        ensures kept { event.new.item ≡ None → WorkIsStill self.old.work self.new.work }
         ensures turn { self.new.ends.turn ≡ self.old.ends.turn }
         ensures lowest { self.new.lowest ≡ self.old.lowest }
     {
@@ -301,6 +307,7 @@ impl I2cVirt {
             (virt_posts self.new.ends) }
         ensures still { is_mark event.new.op event.new.answer ≡ false
             → WorkIsStill self.old.work self.new.work }
+        ensures kept { event.new.item ≡ None → WorkIsStill self.old.work self.new.work }
         ensures turn { self.new.ends.turn ≡ self.old.ends.turn }
         ensures lowest { self.new.lowest ≡ self.old.lowest }
     {
@@ -330,6 +337,7 @@ impl I2cVirt {
             (virt_posts self.new.ends) }
         ensures still { is_mark event.new.op event.new.answer ≡ false
             → WorkIsStill self.old.work self.new.work }
+        ensures kept { event.new.item ≡ None → WorkIsStill self.old.work self.new.work }
         ensures turn { self.new.ends.turn ≡ self.old.ends.turn }
         ensures lowest { self.new.lowest ≡ self.old.lowest }
     {
@@ -465,6 +473,7 @@ impl I2cVirt {
             (gives_at self.old.work) at) event.new (virt_posts self.new.ends) }
         ensures still { is_mark event.new.op event.new.answer ≡ false
             → WorkIsStill self.old.work self.new.work }
+        ensures kept { event.new.item ≡ None → WorkIsStill self.old.work self.new.work }
         ensures turn { self.new.ends.turn ≡ self.old.ends.turn }
         ensures lowest { self.new.lowest ≡ self.old.lowest }
     {

@@ -6,7 +6,9 @@ ghost use Rattle.shelf_core.specs.Shelves.{ReadsFrom};
 ghost use Rattle.decision_core.specs.Decided.{decision_of, IsSound, AsksToRun};
 ghost use Rattle.sddf_top.specs.Friendly.{IsFriendly};
 ghost use Rattle.sddf_top.specs.Outcomes.{Follows, FollowsBy, EndsAfter};
-ghost use Rattle.decision_core.specs.Decisions.{Decides};
+ghost use Rattle.decision_core.specs.Decisions.{Decides, PlayBus, PlayPorts};
+ghost use Rattle.i2c_text.specs.Buses.{IsReadBus};
+ghost use Rattle.ports_text.specs.Given.{ArePorts};
 ghost use Rattle.shelf_core.specs.Reading.{WasRead};
 ghost use Rattle.decision_core.specs.Readings.{ReadLast, OpensInTurn};
 
@@ -14,12 +16,17 @@ use crate::Played;
 use crate::alone::{play_one_bus, play_one_switch};
 use crate::playing::{play, run};
 use cargo_core::Memory;
+use command_words::Schedule;
 use decision_core::{Asked, Decided, Status, decide_words};
+use i2c_text::Bus;
 use pd_runner::Gate;
+use ports_text::Ports;
+use sdf_plan::Plan;
 use shelf_core::{ReadStop, Shelf};
 use std::alloc::Global;
 use std::sync::Wait;
 use std::thread::Threads;
+use trace_text::Trace;
 
 /// An answer as a whole, before any of it is written.
 #[derive(Drop)]
@@ -44,6 +51,26 @@ impl Outcome {
     }
 }
 
+/// Lets a plan and a trace go. They have many parts, each of which is freed by itself: so this
+/// stands once.
+fn let_go(_plan: Plan, _trace: Trace) {}
+
+/// The answer of a play of a bus, which is let go.
+fn answer_bus(alloc: Global, bus: Bus, schedule: Schedule) -> Result<Outcome, Memory>
+    requires { IsReadBus bus }
+    ensures { IfOk result (Follows (PlayBus bus schedule)) }
+{
+    play_one_bus(alloc, &bus, schedule)
+}
+
+/// The answer of a play of a switch, whose ports are let go.
+fn answer_ports(alloc: Global, ports: Ports, schedule: Schedule) -> Result<Outcome, Memory>
+    requires { ArePorts ports }
+    ensures { IfOk result (Follows (PlayPorts ports schedule)) }
+{
+    play_one_switch(alloc, &ports, schedule)
+}
+
 /// The answer of what was decided, where no thread is asked for.
 fn answer_alone(alloc: Global, decided: Decided) -> Result<Outcome, Memory>
     requires sound { IsSound decided }
@@ -54,11 +81,15 @@ fn answer_alone(alloc: Global, decided: Decided) -> Result<Outcome, Memory>
     match decided {
         Decided::Say(status, text) => Ok(Outcome::of(status, text)),
         Decided::Go(plan, trace, asked) => match asked {
-            Asked::Play(showing) => play(alloc, &plan, &trace, showing),
+            Asked::Play(showing) => {
+                let answer = play(alloc, &plan, &trace, showing);
+                let_go(plan, trace);
+                answer
+            }
             Asked::Run(_) => unreachable!(),
         },
-        Decided::Bus(bus, schedule) => play_one_bus(alloc, &bus, schedule),
-        Decided::Ports(ports, schedule) => play_one_switch(alloc, &ports, schedule),
+        Decided::Bus(bus, schedule) => answer_bus(alloc, bus, schedule),
+        Decided::Ports(ports, schedule) => answer_ports(alloc, ports, schedule),
     }
 }
 
@@ -76,11 +107,19 @@ fn answer<R: Threads + Wait + Sync, G: Gate + Sync>(
     match decided {
         Decided::Say(status, text) => Ok(Outcome::of(status, text)),
         Decided::Go(plan, trace, asked) => match asked {
-            Asked::Play(showing) => play(alloc, &plan, &trace, showing),
-            Asked::Run(steps) => run(rt, alloc, &plan, &trace, steps, gate),
+            Asked::Play(showing) => {
+                let answer = play(alloc, &plan, &trace, showing);
+                let_go(plan, trace);
+                answer
+            }
+            Asked::Run(steps) => {
+                let answer = run(rt, alloc, &plan, &trace, steps, gate);
+                let_go(plan, trace);
+                answer
+            }
         },
-        Decided::Bus(bus, schedule) => play_one_bus(alloc, &bus, schedule),
-        Decided::Ports(ports, schedule) => play_one_switch(alloc, &ports, schedule),
+        Decided::Bus(bus, schedule) => answer_bus(alloc, bus, schedule),
+        Decided::Ports(ports, schedule) => answer_ports(alloc, ports, schedule),
     }
 }
 

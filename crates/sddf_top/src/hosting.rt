@@ -39,5 +39,6 @@ pub fn serve_host<R: Threads + Wait + Sync + Env + Files + Print + AllocGlobal>(
         &OpenGate,
         &mut played,
     );
+    played.forget();
     status.code()
 }

@@ -1,7 +1,10 @@
 //! What a call hands out beside its status: the system that it played or ran, or the report of a
 //! system of its own.
+ghost use Rattle.std.specs.Prelude.{◌≡◌};
+
 use i2c_text::BusReport;
 use ports_text::PortReport;
+use std::mem::replace;
 use system_core::System;
 
 /// The system that a call played or ran, if there was one.
@@ -21,5 +24,12 @@ impl Played {
     /// of every kind of actor.
     pub fn forget(self) {
         drop(self);
+    }
+
+    /// Puts what was played in the place of what was there before, which is given up.
+    pub(crate) fn put(&mut self, played: Played)
+        ensures { self.new ≡ played }
+    {
+        replace(self, played).forget();
     }
 }

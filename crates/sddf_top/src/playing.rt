@@ -1,7 +1,10 @@
 //! A trace is played or run on a plan, and what the system shows is made the answer.
 ghost use Rattle.std.specs.Prelude.{◌≡◌, IfOk, string_bytes};
 ghost use Rattle.trace_text.specs.Traces.{IsReadFor};
+ghost use Rattle.region_layout.specs.Layouts.{layout_of};
+ghost use Rattle.report_text.specs.Reports.{report_text};
 ghost use Rattle.cast_core.specs.Hostile.{HasNoRogue};
+ghost use Rattle.system_core.specs.Reports.{report_of};
 ghost use Rattle.decision_core.specs.Judged.{IsAcceptedPlan};
 ghost use Rattle.decision_core.specs.Decisions.{Play, Run};
 ghost use Rattle.sddf_top.specs.Shown.{seed_of, limit_of, limit_or_budget, ending_of, told_text};
@@ -106,6 +109,64 @@ fn shown_text(
     }
 }
 
+/// How a play ended, and the text of what is shown of it.
+fn show_play(
+    alloc: Global,
+    layout: &Layout,
+    showing: Showing,
+    system: &System,
+) -> Result<(Status, String), Memory>
+    ensures status { IfOk result (λ r. r.0
+        ≡ ending_of (report_of system.now).quiet (report_of system.now).steps) }
+    ensures text { IfOk result (λ r. string_bytes r.1
+        ≡ shown_text layout.now showing (report_of system.now) system.now.journal) }
+{
+    let report = system.report()?;
+    let text = shown_text(alloc, layout, showing, &report, system.journal())?;
+    Ok((ending_of(report.quiet, report.steps), text))
+}
+
+/// How a run ended, and the text of its report.
+fn show_run(alloc: Global, system: &System) -> Result<(Status, String), Memory>
+    ensures status { IfOk result (λ r. r.0
+        ≡ ending_of (report_of system.now).quiet (report_of system.now).steps) }
+    ensures text { IfOk result (λ r. string_bytes r.1 ≡ report_text (report_of system.now)) }
+{
+    let report = system.report()?;
+    let text = write_report(alloc, &report)?;
+    Ok((ending_of(report.quiet, report.steps), text))
+}
+
+/// Plays a trace on a plan without hostile clients that is laid out, and makes the answer of what
+/// the system shows.
+fn play_laid(
+    alloc: Global,
+    plan: &Plan,
+    layout: &Layout,
+    trace: &Trace,
+    showing: Showing,
+) -> Result<Outcome, Memory>
+    requires accepted { IsAcceptedPlan plan.now }
+    requires layout { layout.now ≡ layout_of plan.now }
+    requires read { IsReadFor plan.now trace.now }
+    requires friendly { HasNoRogue plan.now }
+    ensures { IfOk result (Follows (Play plan.now trace.now showing)) }
+{
+    let limit = limit_of(plan, trace, showing);
+    let (system, _) = System::played(alloc, plan, layout, trace, seed_of(showing), limit)?;
+    match show_play(alloc, layout, showing, &system) {
+        Ok((status, text)) => Ok(Outcome {
+            status,
+            text,
+            played: Played::Classes(system),
+        }),
+        Err(memory) => {
+            Played::Classes(system).forget();
+            Err(memory)
+        }
+    }
+}
+
 /// Plays a trace on a plan without hostile clients, and makes the answer of what the system shows.
 pub fn play(alloc: Global, plan: &Plan, trace: &Trace, showing: Showing) -> Result<Outcome, Memory>
     requires accepted { IsAcceptedPlan plan.now }
@@ -114,15 +175,38 @@ pub fn play(alloc: Global, plan: &Plan, trace: &Trace, showing: Showing) -> Resu
     ensures { IfOk result (Follows (Play plan.now trace.now showing)) }
 {
     let layout = lay_out(alloc, plan)?;
-    let limit = limit_of(plan, trace, showing);
-    let (system, _) = System::played(alloc, plan, &layout, trace, seed_of(showing), limit)?;
-    let report = system.report()?;
-    let text = shown_text(alloc, &layout, showing, &report, system.journal())?;
-    Ok(Outcome {
-        status: ending_of(report.quiet, report.steps),
-        text,
-        played: Played::Classes(system),
-    })
+    play_laid(alloc, plan, &layout, trace, showing)
+}
+
+/// Runs a trace on a plan without hostile clients that is laid out, as `run` does.
+fn run_laid<R: Threads + Wait + Sync, G: Gate + Sync>(
+    rt: &R,
+    alloc: Global,
+    plan: &Plan,
+    layout: &Layout,
+    trace: &Trace,
+    steps: Option<u64>,
+    gate: &G,
+) -> Result<Outcome, Memory>
+    requires accepted { IsAcceptedPlan plan.now }
+    requires layout { layout.now ≡ layout_of plan.now }
+    requires read { IsReadFor plan.now trace.now }
+    requires friendly { HasNoRogue plan.now }
+    ensures { IfOk result (Follows (Run plan.now trace.now steps)) }
+{
+    let limit = limit_or_budget(plan, trace, steps);
+    let (system, _) = ran(rt, alloc, plan, layout, trace, limit, gate)?;
+    match show_run(alloc, &system) {
+        Ok((status, text)) => Ok(Outcome {
+            status,
+            text,
+            played: Played::Classes(system),
+        }),
+        Err(memory) => {
+            Played::Classes(system).forget();
+            Err(memory)
+        }
+    }
 }
 
 /// Runs a trace on a plan without hostile clients with a thread for each actor, and makes the answer
@@ -141,13 +225,5 @@ pub fn run<R: Threads + Wait + Sync, G: Gate + Sync>(
     ensures { IfOk result (Follows (Run plan.now trace.now steps)) }
 {
     let layout = lay_out(alloc, plan)?;
-    let limit = limit_or_budget(plan, trace, steps);
-    let (system, _) = ran(rt, alloc, plan, &layout, trace, limit, gate)?;
-    let report = system.report()?;
-    let text = write_report(alloc, &report)?;
-    Ok(Outcome {
-        status: ending_of(report.quiet, report.steps),
-        text,
-        played: Played::Classes(system),
-    })
+    run_laid(rt, alloc, plan, &layout, trace, steps, gate)
 }

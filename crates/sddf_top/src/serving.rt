@@ -33,7 +33,7 @@ fn write_outcome<K: Sink>(sink: &mut K, outcome: Outcome, played: &mut Played) -
         text,
         played: was,
     } = outcome;
-    *played = was;
+    played.put(was);
     match write_text(sink, text.as_bytes()) {
         Ok(()) => status,
         Err(_) => Status::WriteFault,
@@ -44,7 +44,7 @@ fn write_outcome<K: Sink>(sink: &mut K, outcome: Outcome, played: &mut Played) -
 fn tell<K: Sink>(sink: &mut K, answer: Result<Outcome, ReadStop>, played: &mut Played) -> Status
     ensures { HasTold K.written K.faults K.failed answer sink.old sink.new result played.new }
 {
-    *played = Played::Nothing;
+    played.put(Played::Nothing);
     match answer {
         Ok(outcome) => write_outcome(sink, outcome, played),
         Err(ReadStop::Failed) => Status::ReadFault,

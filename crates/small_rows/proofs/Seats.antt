@@ -11,7 +11,7 @@ use Rattle.play_core.proofs.Lists.{map_get}
 use Rattle.actor_set.specs.Actors.{part_of, ActorEnd}
 use Rattle.actor_set.specs.declared.actor.Actor.{Actor}
 use Rattle.actor_set.proofs.LawsLemmas.Paces.{post_end}
-use Rattle.actor_set.specs.Laws.Kinds.{manner_of}
+use Rattle.actor_set.specs.Laws.Kinds.{AllCalm, manner_of}
 use Rattle.play_core.specs.Manners.{Calm}
 use Rattle.cast_law.specs.Seats as Seated
 use Rattle.system_core.proofs.Seating.{seated_start}
@@ -27,12 +27,12 @@ all_places : (P : QueueRow → Type 0) (rows : List QueueRow) → ((n : ℕ) (ro
 all_places P [] h = All-nil P
 all_places P (r ∷ rs) h = All-cons P r rs (h zero r refl) (all_places P rs (λ n row. h (suc n) row))
 
-module _ (rows : List QueueRow) (actors : List Actor) (wrapped : List Wrapped) (s : Seated.AreSeated rows actors) (are : AreWrapped actors wrapped) where
+module _ (rows : List QueueRow) (actors : List Actor) (wrapped : List Wrapped) (s : Seated.AreSeated rows actors) (nobody : AllCalm (map part_of actors)) (are : AreWrapped actors wrapped) where
   bare : (k : ℕ) (x : Wrapped) → slice_get wrapped k ≡ Some x → slice_get actors k ≡ Some x.actor
   bare k x at = ap (λ xs. slice_get xs k) (sym are) ∙ map_get (λ (y : Wrapped). y.actor) wrapped k x at
 
   calm : (k : ℕ) (x : Wrapped) → slice_get wrapped k ≡ Some x → manner_of (part_of x.actor) ≡ Calm
-  calm k x at = s.calm k (part_of x.actor) (map_get part_of actors k x.actor (bare k x at))
+  calm k x at = nobody k (part_of x.actor) (map_get part_of actors k x.actor (bare k x at))
 
   many : length actors ≡ length wrapped
   many = ap length (sym are) ∙ length-map wrapped (λ (y : Wrapped). y.actor)
@@ -55,6 +55,6 @@ module _ (rows : List QueueRow) (actors : List Actor) (wrapped : List Wrapped) (
         few = subst (λ m. m ≤ 65536) many s.few;
         seated = record { given = given; all = all };
         fits = λ k x at. (start.fits k x.actor (bare k x at), calm k x at);
-        rounds = λ k x at. start.rounds k x.actor (bare k x at);
+        rounds = λ k x at. start.rounds k x.actor (bare k x at) (calm k x at);
         stands = λ k x at. start.stands k x.actor (bare k x at);
       }

@@ -1,5 +1,5 @@
 -- A system that takes over what actors left goes on from it.
-use Rattle.std.proofs.Common.{◌≡◌, ◌<◌, ◌≤◌, ◌++◌, ℕ, zero, suc, false, Option, Some, None, List, [], ◌∷◌, All, length, map, slice_get, refl, sym, ap, ◌∙◌, subst, arith}
+use Rattle.std.proofs.Common.{◌≡◌, ◌<◌, ◌≤◌, ◌+◌, ◌*◌, ◌++◌, ℕ, zero, suc, false, Option, Some, None, List, [], ◌∷◌, All, length, map, slice_get, refl, sym, ap, ◌∙◌, subst, arith}
 use Rattle.std.specs.List.{AllZip}
 use Rattle.std.specs.Option.{option_map_or}
 use Rattle.std.proofs.lemmas.List.{length-map}
@@ -17,8 +17,8 @@ use Rattle.spsc_queue.specs.Known.Ends.{RingIs, EndedIs}
 use Rattle.turn_kit.specs.Pace.{pendings}
 use Rattle.turn_kit.proofs.Pacing.{paced_anew}
 use Rattle.play_core.specs.Moved.{moved}
-use Rattle.play_core.specs.Names.{Noted}
-use Rattle.play_core.specs.Sheets.{Scene, AreSeated, AreFilled}
+use Rattle.play_core.specs.Names.{AreNoted, Noted, names_at, told_by, wild_in}
+use Rattle.play_core.specs.Sheets.{Scene}
 use Rattle.play_core.specs.Still.{IsPeopled}
 use Rattle.play_core.specs.Wants.{all_settled}
 use Rattle.play_core.proofs.Lists.{some_is, map_get, map_from, there_is, there_below}
@@ -27,14 +27,19 @@ use Rattle.play_core.specs.Rests.Showing.{HaveItems, HaveBells}
 use Rattle.actor_set.specs.Parts.{Part}
 use Rattle.actor_set.specs.Actors.{FitsActor, ActorStandsFor, ActorEnd, Forgot, IsWhole, part_of, actor_round, actor_rests}
 use Rattle.actor_set.specs.declared.actor.Actor.{Actor}
-use Rattle.actor_set.specs.Laws.Kinds.{AllCalm, sheet, scene_of}
+use Rattle.actor_set.specs.declared.actor.Actor.TheVariants as Kinds
+use Rattle.client_programs.specs.declared.rogue.Rogue.{Rogue}
+use Rattle.actor_set.specs.Laws.Kinds.{AllCalm, hostiles, scene_of}
+use Rattle.actor_set.specs.Laws.Scenes.{ToldInTurn}
 use Rattle.actor_set.specs.Laws.Turning.{InTurn}
 use Rattle.actor_set.proofs.LawsLemmas.PartEnds.{to_part, end_seat}
 use Rattle.actor_set.proofs.LawsLemmas.Rounds.{anew_is}
 use Rattle.actor_set.proofs.LawsLemmas.Starts.{fits_whole}
+use Rattle.actor_set.proofs.LawsLemmas.Told.{none_wild}
 use Rattle.wired_law.specs.Wiring.{AreAtWork, AreOfKind, ClientsSend}
+use Rattle.wired_law.proofs.Wiring.{turns_calm}
 use Rattle.cast_law.specs.Pools.Places.{PoolPlace, IsInPlace, IsPlaced, HasPools, cast_naming}
-use Rattle.cast_law.proofs.TurnsLemmas.{calm_turns}
+use Rattle.cast_law.proofs.TurnsLemmas.{noted_tell, told_turns}
 use Rattle.cast_law.specs.Pools.Pooling.{AreAtPlay, HasOwners}
 use Rattle.cast_law.proofs.PoolsLemmas.Playing.{rows_at}
 use Rattle.plain_wires.specs.Adopted.{IsEndedOf, all_adopted}
@@ -59,6 +64,7 @@ use Rattle.layout_laws.proofs.SeatsLemmas.Counts.{few_numbers}
 use Rattle.system_core.specs.Builds.{IsCastOf}
 use Rattle.system_core.specs.Crews.{net_crew, serial_crew, blk_crew}
 use Rattle.system_core.proofs.Fitting.{are_sized, fitted_place}
+use Rattle.system_core.proofs.PoolsLemmas.Placing.{cast_calm}
 use Rattle.system_core.proofs.Telling.{wants_plain}
 use Rattle.wire_core.specs.Sizes.{AreSized}
 use Rattle.system_core.specs.Shows.{Setting, Shown, Crew}
@@ -111,7 +117,7 @@ map_twice : (ps : List Apart) → map part_of (actors_apart ps) ≡ map (λ (p :
 map_twice [] = refl
 map_twice (p ∷ ps) = ap (λ (l : List Part). part_of p.actor ∷ l) (map_twice ps)
 
-module _ (s : Setting) (rings : List RingIs) (parts : List Apart) (fitted : IsFitted s) (few : length s.cast ≤ 65536) (apart : AreApart s.rows rings parts) (actors nows : List Actor) (ended : List EndedIs) (done : AreFinished s.rows rings parts actors ended) (forgotten : AllZip IsForgotten actors nows) (cast : map part_of actors ≡ s.cast)
+module _ (s : Setting) (rings : List RingIs) (parts : List Apart) (fitted : IsFitted s) (calm_s : AllCalm s.cast) (few : length s.cast ≤ 65536) (apart : AreApart s.rows rings parts) (actors nows : List Actor) (ended : List EndedIs) (done : AreFinished s.rows rings parts actors ended) (forgotten : AllZip IsForgotten actors nows) (cast : map part_of actors ≡ s.cast)
     (olds : List Actor) (calls : List Event) (held : HaveHeld s.rows olds actors (passed_of ended calls)) (over : (n : ℕ) → (passed_of ended calls).sent n ≡ (passed_of ended calls).taken n ++ left_at ended n) where
   abbrev rows : List QueueRow
   rows = s.rows
@@ -127,7 +133,7 @@ module _ (s : Setting) (rings : List RingIs) (parts : List Apart) (fitted : IsFi
 
   -- nobody is hostile
   calm : AllCalm (map part_of actors)
-  calm = subst AllCalm (sym cast) fitted.calm
+  calm = subst AllCalm (sym cast) calm_s
 
   -- in the scene that the parts give
   in_place : IsInPlace rows s.pools s.cast
@@ -137,7 +143,7 @@ module _ (s : Setting) (rings : List RingIs) (parts : List Apart) (fitted : IsFi
   cast_now = parts_same actors nows calm forgotten ∙ cast
 
   calm_now : AllCalm (map part_of nows)
-  calm_now = subst AllCalm (sym cast_now) fitted.calm
+  calm_now = subst AllCalm (sym cast_now) calm_s
 
   parts_many : length parts ≡ length s.cast
   parts_many = sym (length-map parts (λ (p : Apart). p.actor)) ∙ (sym (ap length done.actors_are) ∙ (sym (length-map actors part_of) ∙ ap length cast))
@@ -227,12 +233,27 @@ module _ (s : Setting) (rings : List RingIs) (parts : List Apart) (fitted : IsFi
   work : AreAtWork (end_at world) rows nows passed
   work = record { fits = fits_now; stands = stands_now; hands_over = λ n. ((queue_at world n).entries, sym (stands_there n)); kinds = kinds }
 
-  turns_now : (k : ℕ) (x : Actor) → slice_get nows k ≡ Some x → InTurn (scene_of (map part_of nows)) x passed
-  turns_now = calm_turns (end_at world) rows s.pools nows passed (subst (IsInPlace rows s.pools) (sym cast_now) in_place) work sends_now
+  in_place_now : IsInPlace rows s.pools (map part_of nows)
+  in_place_now = subst (IsInPlace rows s.pools) (sym cast_now) in_place
 
-  pub holds : Holds history rows world nows []
+  -- no name is asked
+  none_kept : (n : ℕ) → wild_in (hostiles (map part_of nows)) rows n ≡ false
+  none_kept n = none_wild (map part_of nows) calm_now rows n
+
+  noted : AreNoted (wild_in (hostiles (map part_of nows)) rows) [] passed
+  noted n is_wild = let none = none_kept n in absurd cc
+
+  told_now : (k : ℕ) (x : Actor) → slice_get nows k ≡ Some x → ToldInTurn (scene_of (map part_of nows)) (wild_in (hostiles (map part_of nows)) rows) (told_by []) x passed
+  told_now = told_turns (end_at world) rows s.pools nows passed in_place_now work sends_now (told_by []) (noted_tell (wild_in (hostiles (map part_of nows)) rows) [] passed noted)
+
+  turns_now : (k : ℕ) (x : Actor) → slice_get nows k ≡ Some x → InTurn (scene_of (map part_of nows)) x passed
+  turns_now k x at = turns_calm (scene_of (map part_of nows)) (wild_in (hostiles (map part_of nows)) rows) (told_by []) x passed none_kept (told_now k x at)
+
+  no_rogue : (k : ℕ) (r : Rogue) → slice_get nows k ≡ Some (Kinds.Rogue r) → ⊥
+  no_rogue k r at = let calm_r = calm_now k (part_of (Kinds.Rogue r)) (map_get part_of nows k (Kinds.Rogue r) at) in cc
+
+  pub holds : Holds history rows [] world nows []
   holds = record {
-    calm = calm_now;
     passed = passed;
     stands_there = stands_there;
     shows_taken = taken_shown ended;
@@ -242,12 +263,16 @@ module _ (s : Setting) (rings : List RingIs) (parts : List Apart) (fitted : IsFi
     queues = λ n row at. (left.each n row at).shown;
     fits = fits_now;
     stands = stands_now;
-    carry = λ place placed. (
+    carry = λ calm_here place placed. (
         let same = parts_same actors nows calm forgotten in
-        subst (λ (c : List Part). CarryPages (cast_naming (scene_of c) place) (moved history []) passed) (sym same) (held.carry place (subst (IsPlaced rows place) same placed) (moved history []) items)
+        let none = none_wild (map part_of actors) calm rows in
+        let carried = held.carry place (subst (IsPlaced rows place) same placed) (λ blk is k q at is_wild. absurd (let no = none (blk.first + 4 + 2 * k) in cc)) (moved history []) items in
+        subst (λ (c : List Part). CarryPages (cast_naming (scene_of c) place) (moved history []) passed) (sym same) (record { sent = carried.sent; taken = carried.taken; bodies = λ n k c at b. carried.bodies n (none n) k c at b })
         );
     sends = sends_now;
-    in_turn = turns_now;
+    noted = noted;
+    in_turn = told_now;
+    acts = λ k r at. absurd (no_rogue k r at);
     owners = λ k x at r n own row there. (let o = own_now k x at r n own in ap (λ (w : QueueRow). owner_of w r) (some_is (sym there ∙ o.1)) ∙ o.2);
     unstored = λ n row at calm. none_stored rows ended n;
     paced = λ k x at calm. paced_anew (pendings history []) (actor_round x) (fits_round (end_at world) x (calm_now k (part_of x) (map_get part_of nows k x at)) (fits_now k x at) (no_loop k x at));
@@ -262,19 +287,21 @@ module _ (s : Setting) (rings : List RingIs) (parts : List Apart) (fitted : IsFi
   -- the cast is at play
   pub at_play : AreAtPlay history rows nows [] passed world
   at_play = record {
+    over = record {
+      peopled = in_place_now.peopled;
+      seated = in_place_now.seated;
+      filled = in_place_now.filled;
+      stands_there = stands_there;
+      size = left.size;
+      kinds = kinds;
+      fits = fits_now;
+      stands = stands_now;
+    };
     calm = calm_now;
-    peopled = subst (λ (c : List Part). IsPeopled rows (length c)) (sym cast_now) fitted.peopled;
-    seated = subst (λ (c : List Part). AreSeated (sheet (scene_of c)) rows c) (sym cast_now) in_place.seated;
-    filled = subst (λ (c : List Part). AreFilled (sheet (scene_of c)) rows c) (sym cast_now) in_place.filled;
     legal = tt;
     flows = (before.flows, tt);
     rows_hold = (rows_at rows nows passed (moved history []) items turns_now stands_now, tt);
     items = items;
-    stands_there = stands_there;
-    size = left.size;
-    kinds = kinds;
-    fits = fits_now;
-    stands = stands_now;
     in_turn = turns_now;
   }
 
@@ -283,7 +310,6 @@ module _ (s : Setting) (rings : List RingIs) (parts : List Apart) (fitted : IsFi
     refitted : IsFitted (record s { history = history })
     refitted = record {
       scene_is = fitted.scene_is;
-      calm = fitted.calm;
       names_are = fitted.names_are;
       peopled = fitted.peopled;
       seated = fitted.seated;
@@ -291,13 +317,13 @@ module _ (s : Setting) (rings : List RingIs) (parts : List Apart) (fitted : IsFi
       split = fitted.split;
       wired = fitted.wired;
       pooled = fitted.pooled;
-      owners = λ place placed has. subst (HasOwners history rows place) cast_now (owners place (subst (IsPlaced rows place) (sym cast_now) placed) has);
+      owners = λ calm_here place placed has. subst (HasOwners history rows place) cast_now (owners place (subst (IsPlaced rows place) (sym cast_now) placed) has);
       numbered = fitted.numbered;
       places = fitted.places;
     }
 
     setting_is : begun history rows s.pools nows s.net s.serial s.blk ≡ record s { history = history }
-    setting_is = ap (λ (c : List Part). record s { history = history; cast = c; scene = scene_of c; names = [] }) cast_now ∙ (ap (λ (z : Scene). record s { history = history; scene = z; names = [] }) (sym fitted.scene_is) ∙ ap (λ (ns : List Noted). record s { history = history; names = ns }) (sym fitted.names_are))
+    setting_is = ap (λ (c : List Part). record s { history = history; cast = c; scene = scene_of c; names = [] }) cast_now ∙ (ap (λ (z : Scene). record s { history = history; scene = z; names = [] }) (sym fitted.scene_is) ∙ ap (λ (ns : List Noted). record s { history = history; names = ns }) (sym (fitted.names_are calm_s)))
 
     pub goes_on : GoesOn (begun history rows s.pools nows s.net s.serial s.blk) world nows
     goes_on = record { fitted = subst IsFitted (sym setting_is) refitted; before = subst HoldsBefore (sym setting_is) before; holds = holds }
@@ -312,8 +338,8 @@ module _ (s : Setting) (rings : List RingIs) (parts : List Apart) (fitted : IsFi
         let o = own_of k (part_of p.actor) part p.actor refl (fits_whole (apart_end p) p.actor (fits_apart k p at)) r n own in
         (let lt = there_below rows n o.0 o.1 in let long = left.size in omega (arith, lt, long), same_end rows rings parts actors ended apart peopled done k p at r n o.0 o.1 o.2)
         ))
-        (fits_apart k p at) (apart.stand k p at).calm (subst (λ z. InTurn z p.actor passed) (sym fitted.scene_is) (subst (λ (c : List Part). InTurn (scene_of c) p.actor passed) cast (held.in_turn k p.actor here))) (held.stands k p.actor here) items
-        ∙ ap (all_settled history []) (sym (wants_plain (record s { history = history }) fitted.calm (part_of p.actor) (moved history [])))
+        (fits_apart k p at) (apart.stand k p at).calm (subst (λ z. InTurn z p.actor passed) (sym fitted.scene_is) (subst (λ (c : List Part). InTurn (scene_of c) p.actor passed) cast (turns_calm (scene_of (map part_of actors)) (wild_in (hostiles (map part_of actors)) rows) (names_at passed) p.actor passed (none_wild (map part_of actors) calm rows) (held.in_turn k p.actor here)))) (held.stands k p.actor here) items
+        ∙ ap (all_settled history []) (sym (wants_plain (record s { history = history }) calm_s (part_of p.actor) (moved history [])))
       where
         bells : HaveBells world history []
         bells n lt = let row = there_is rows n (let long = left.size in omega (arith, lt, long)) in (left.each n row.0 row.1).shown.bells
@@ -330,7 +356,7 @@ module _ (s : Setting) (rings : List RingIs) (parts : List Apart) (fitted : IsFi
         }
 
 -- actors that came from a system in its start state have gone apart
-module _ (s : Setting) (rings : List RingIs) (parts : List Apart) (come : HaveComeFrom s rings parts) where
+module _ (s : Setting) (calm : AllCalm s.cast) (rings : List RingIs) (parts : List Apart) (come : HaveComeFrom s rings parts) where
   old_cast : map part_of (actors_apart come.olds) ≡ s.cast
   old_cast = map_twice come.olds ∙ come.cast
 
@@ -362,25 +388,28 @@ module _ (s : Setting) (rings : List RingIs) (parts : List Apart) (come : HaveCo
     cast_is = held.1.parts ∙ old_cast
 
     owners : (place : PoolPlace) → IsPlaced s.rows place (map part_of nows) → HasPools s.pools place → HasOwners (history_left ended) s.rows place (map part_of nows)
-    owners place placed has = past_owned (history_left ended) s.rows s.pools place nows (passed_of ended held.0) (all_adopted s.rows ended) placed has (at_play s rings parts come.fitted few come.after actors nows ended done forgotten cast_is (actors_apart come.olds) held.0 held.1 over)
+    owners place placed has = past_owned (history_left ended) s.rows s.pools place nows (passed_of ended held.0) (all_adopted s.rows ended) placed has (at_play s rings parts come.fitted calm few come.after actors nows ended done forgotten cast_is (actors_apart come.olds) held.0 held.1 over)
 
     many : length ended ≡ length s.rows
     many = done.many ∙ all_long IsRingOf s.rows rings come.after.rings_are
 
     come_ended : AllZip IsEndedOf s.rows ended
-    come_ended = (left s rings parts come.fitted few come.after actors nows ended done forgotten cast_is (actors_apart come.olds) held.0 held.1 over).ended_of
+    come_ended = (left s rings parts come.fitted calm few come.after actors nows ended done forgotten cast_is (actors_apart come.olds) held.0 held.1 over).ended_of
 
     come_goes : GoesOn (begun (history_of s.rows ended) s.rows s.pools nows s.net s.serial s.blk) (all_adopted s.rows ended) nows
-    come_goes = subst (λ (h : History). GoesOn (begun h s.rows s.pools nows s.net s.serial s.blk) (all_adopted s.rows ended) nows) (sym (history_is s.rows ended many)) (goes_on s rings parts come.fitted few come.after actors nows ended done forgotten cast_is (actors_apart come.olds) held.0 held.1 over owners)
+    come_goes = subst (λ (h : History). GoesOn (begun h s.rows s.pools nows s.net s.serial s.blk) (all_adopted s.rows ended) nows) (sym (history_is s.rows ended many)) (goes_on s rings parts come.fitted calm few come.after actors nows ended done forgotten cast_is (actors_apart come.olds) held.0 held.1 over owners)
 
     come_adopted : (t : Shown) → t ≡ started (history_of s.rows ended) s.rows s.pools (all_adopted s.rows ended) nows s.net s.serial s.blk → IsAdopted s parts t
-    come_adopted t is = is_adopted s rings parts come.fitted few come.after actors nows ended done forgotten cast_is (actors_apart come.olds) held.0 held.1 over owners t (is ∙ ap (λ (h : History). started h s.rows s.pools (all_adopted s.rows ended) nows s.net s.serial s.blk) (history_is s.rows ended many))
+    come_adopted t is = is_adopted s rings parts come.fitted calm few come.after actors nows ended done forgotten cast_is (actors_apart come.olds) held.0 held.1 over owners t (is ∙ ap (λ (h : History). started h s.rows s.pools (all_adopted s.rows ended) nows s.net s.serial s.blk) (history_is s.rows ended many))
 
 -- the same at the rows, the pools and the crews of a plan
 abbrev Given : Type 0
 Given = List QueueRow × List PoolRow × Crew × Crew × Crew
 
 module _ (plan : Plan) (valid : Valid plan) (trace : Trace) (s : Setting) (cast : IsCastOf plan trace s) (rings : List RingIs) (parts : List Apart) (come : HaveComeFrom s rings parts) (rows : List QueueRow) (rows_are : rows ≡ queues_of plan) where
+  calm_plan : AllCalm s.cast
+  calm_plan = cast_calm plan trace valid s cast
+
   few_cast : length s.cast ≤ 65536
   few_cast = subst (λ (n : ℕ). n ≤ 65536) (sym cast.count) (few_numbers plan valid)
 
@@ -404,7 +433,7 @@ module _ (plan : Plan) (valid : Valid plan) (trace : Trace) (s : Setting) (cast 
     done_there = subst (λ (rs : List QueueRow). AreFinished rs rings parts actors ended) same_rows done
 
     pub parts_ended : AllZip IsEndedOf rows ended
-    parts_ended = subst (λ (rs : List QueueRow). AllZip IsEndedOf rs ended) (sym same_rows) (come_ended s rings parts come few_cast actors nows ended done_there forgotten)
+    parts_ended = subst (λ (rs : List QueueRow). AllZip IsEndedOf rs ended) (sym same_rows) (come_ended s calm_plan rings parts come few_cast actors nows ended done_there forgotten)
 
     module _ (pools : List PoolRow) (pools_are : pools ≡ pools_of plan) (net serial blk : Crew) (net_is : net ≡ net_crew plan) (serial_is : serial ≡ serial_crew plan) (blk_is : blk ≡ blk_crew plan) where
       abbrev given : Given
@@ -417,7 +446,7 @@ module _ (plan : Plan) (valid : Valid plan) (trace : Trace) (s : Setting) (cast 
       same_given = λ i. (sym same_rows i, (cast.pools ∙ sym pools_are) i, (cast.net ∙ sym net_is) i, (cast.serial ∙ sym serial_is) i, (cast.blk ∙ sym blk_is) i)
 
       pub parts_go : GoesOn (begun (history_of rows ended) rows pools nows net serial blk) (all_adopted rows ended) nows
-      parts_go = subst (λ (g : Given). GoesOn (begun (history_of g.0 ended) g.0 g.1 nows g.2 g.3 g.4) (all_adopted g.0 ended) nows) same_given (come_goes s rings parts come few_cast actors nows ended done_there forgotten)
+      parts_go = subst (λ (g : Given). GoesOn (begun (history_of g.0 ended) g.0 g.1 nows g.2 g.3 g.4) (all_adopted g.0 ended) nows) same_given (come_goes s calm_plan rings parts come few_cast actors nows ended done_there forgotten)
 
       pub parts_adopted : (t : Shown) → t ≡ started (history_of rows ended) rows pools (all_adopted rows ended) nows net serial blk → IsAdopted s parts t
-      parts_adopted t is = come_adopted s rings parts come few_cast actors nows ended done_there forgotten t (is ∙ ap (λ (g : Given). started (history_of g.0 ended) g.0 g.1 (all_adopted g.0 ended) nows g.2 g.3 g.4) (sym same_given))
+      parts_adopted t is = come_adopted s calm_plan rings parts come few_cast actors nows ended done_there forgotten t (is ∙ ap (λ (g : Given). started (history_of g.0 ended) g.0 g.1 (all_adopted g.0 ended) nows g.2 g.3 g.4) (sym same_given))

@@ -17,7 +17,7 @@ use Rattle.serial_law.specs.Parts.{SerialPart}
 use Rattle.serial_law.specs.Bytes.{bytes_in}
 use Rattle.serial_law.specs.Serial.{SerialClass, IsSerial, ArrivesInPart, ArrivesWhole}
 use Rattle.actor_set.specs.Parts.{Part, ClientPart}
-use Rattle.actor_set.specs.Laws.Kinds.{serial_part, sheet}
+use Rattle.actor_set.specs.Laws.Kinds.{AllCalm, serial_part, sheet}
 use Rattle.system_core.specs.Shows.{Setting, Shown, hostile_in, moved_in}
 use Rattle.actor_set.specs.Laws.Records.{record_by}
 use Rattle.system_core.specs.Lawful.{record_at, IsFitted, IsTold}
@@ -33,7 +33,7 @@ abbrev pub There : Setting → SerialPart → Type 0
 There s p = (k : ℕ) × (slice_get s.cast k ≡ Some (serial_part p))
 
 -- the actors of the serial class are its actors
-module _ (plan : Plan) (serial : Serial) (first : ℕ) (trace : Trace) (s : Setting) (fitted : IsFitted s) (h : HasSerial first plan serial trace s) (says : length trace.says ≡ length serial.client) where
+module _ (plan : Plan) (serial : Serial) (first : ℕ) (trace : Trace) (s : Setting) (fitted : IsFitted s) (calm : AllCalm s.cast) (h : HasSerial first plan serial trace s) (says : length trace.says ≡ length serial.client) where
   abbrev count : ℕ
   count = length serial.client
 
@@ -42,7 +42,7 @@ module _ (plan : Plan) (serial : Serial) (first : ℕ) (trace : Trace) (s : Sett
   holds k p at i x end =
       let seat = fitted.seated k p at i x end in
       let c = fitted.places x.queue seat.0 seat.1 in
-      record { row = seat.0; there = seat.1; calm = calm_row s.cast fitted.calm seat.0; enough = subst (λ m. 1 ≤ m) (sym c.2) (some_power c.0) }
+      record { row = seat.0; there = seat.1; calm = calm_row s.cast calm seat.0; enough = subst (λ m. 1 ≤ m) (sym c.2) (some_power c.0) }
     where
       some_power : (k : ℕ) → 1 ≤ 2 ^ k
       some_power k = let p : 0 < 2 ^ k = pow_pos k in omega (arith, p)

@@ -18,7 +18,7 @@ use Rattle.play_core.proofs.Moments.{last_moment}
 use Rattle.serial_law.specs.Parts.{SerialPart}
 use Rattle.serial_law.specs.Serial.{SerialClass, IsSerial}
 use Rattle.serial_law.proofs.Arrivals.{as_there, RowAt}
-use Rattle.actor_set.specs.Laws.Kinds.{serial_part, sheet}
+use Rattle.actor_set.specs.Laws.Kinds.{AllCalm, serial_part, sheet}
 use Rattle.actor_set.proofs.LawsLemmas.Calm.{calm_actor, sheet_is}
 use Rattle.wired_law.specs.Wiring.{HasWholeIn, HasBlkIn}
 use Rattle.cast_core.specs.Sources.{first_serial}
@@ -33,6 +33,7 @@ use Rattle.system_core.proofs.Telling.{PlainRows, rows_plain}
 use Rattle.system_core.specs.Lawful.{StandsLawful}
 use Rattle.system_core.specs.Builds.{IsCastOf, serial_class}
 use Rattle.system_core.proofs.Begun.{There}
+use Rattle.system_core.proofs.PoolsLemmas.Placing.{cast_calm}
 
 -- what is said of a part of the serial class, as one of all
 pub row_as : (s : Setting) (m : Moved) (p : SerialPart) → (sheet s.scene (serial_part p)).row m → RowAt m p
@@ -56,11 +57,14 @@ class_stands first count trace = record {
 
 module _ (plan : Plan) (trace : Trace) (valid : Valid plan) (s : Shown) (cast : IsCastOf plan trace s.setting) (stands : StandsLawful s)
     (there : (serial : Serial) → plan.serial ≡ Some serial → IsSerial (There s.setting) (hostile_in s.setting) s.setting.rows (serial_class (first_serial plan) (length serial.client) trace)) where
+  calm : AllCalm s.setting.cast
+  calm = cast_calm plan trace valid s.setting cast
+
   abbrev went : Moved
   went = moved_in s.setting s.journal
 
   rows_now : PlainRows s.setting s.journal
-  rows_now = rows_plain s.setting stands.fitted.calm s.journal (last_moment (RowsStand s.setting) s.journal stands.lawful.rows_hold)
+  rows_now = rows_plain s.setting calm s.journal (last_moment (RowsStand s.setting) s.journal stands.lawful.rows_hold)
 
   flows_at : (j : List Entry) → QueuesFlow s.setting.history s.setting.rows j → QueuesFlow s.setting.history (queues_of plan) j
   flows_at j = subst (λ rs. QueuesFlow s.setting.history rs j) cast.rows
@@ -74,7 +78,7 @@ module _ (plan : Plan) (trace : Trace) (valid : Valid plan) (s : Shown) (cast : 
 
     rows_of_class : IsSerial (RowAt went) (hostile_in s.setting) (queues_of plan) class
     rows_of_class = subst (λ rs. IsSerial (RowAt went) (hostile_in s.setting) rs class) cast.rows
-        (as_there (There s.setting) (RowAt went) (λ p at. row_as s.setting went p (rows_now at.0 (serial_part p) (calm_actor s.setting.cast stands.fitted.calm at.0) at.1)) (hostile_in s.setting) s.setting.rows class (there serial has))
+        (as_there (There s.setting) (RowAt went) (λ p at. row_as s.setting went p (rows_now at.0 (serial_part p) (calm_actor s.setting.cast calm at.0) at.1)) (hostile_in s.setting) s.setting.rows class (there serial has))
 
     class_at : StandsFrom (serial_first plan.net) (length serial.client) class
     class_at = subst (λ f. StandsFrom f (length serial.client) class) (first_is plan.net) (class_stands (first_serial plan) (length serial.client) trace)
@@ -83,12 +87,12 @@ module _ (plan : Plan) (trace : Trace) (valid : Valid plan) (s : Shown) (cast : 
     carries = record { input = refl; scripts = refl }
 
   pub bounded : length s.journal < budget_of plan trace
-  bounded = short plan trace s.setting.cast s.setting.history s.journal valid stands.fitted.calm cast.count
+  bounded = short plan trace s.setting.cast s.setting.history s.journal valid calm cast.count
       (subst (λ rs. IsPeopled rs (length s.setting.cast)) cast.rows stands.fitted.peopled)
       (subst (λ rs. BellsHold (hostile_in s.setting) s.setting.history rs []) cast.rows stands.lawful.bells_hold.0)
       (flows_at [] stands.lawful.flows.0)
       (subst (λ rs. LegalJournal (hostile_in s.setting) s.setting.history rs s.journal) cast.rows stands.lawful.legal)
       (subst (λ rs. Brisk (hostile_in s.setting) rs no_drops s.journal) cast.rows stands.lawful.brisk)
-      (net_within plan trace s.setting.scene s.setting.cast s.setting.history s.journal valid stands.fitted.calm (λ net has. subst (λ rs. HasWholeIn s.setting.scene rs (net_place plan trace) s.setting.cast) cast.rows (cast.whole net has)) cast.scene flows_now rows_now)
+      (net_within plan trace s.setting.scene s.setting.cast s.setting.history s.journal valid calm (λ net has. subst (λ rs. HasWholeIn s.setting.scene rs (net_place plan trace) s.setting.cast) cast.rows (cast.whole net has)) cast.scene flows_now rows_now)
       (serial_within plan trace s.setting.cast s.setting.history s.journal flows_now (λ serial has. (class serial has, class_at serial has, carries serial has, rows_of_class serial has)))
-      (blk_within plan trace s.setting.scene s.setting.cast s.setting.history s.journal valid stands.fitted.calm (λ blk has. subst (λ rs. HasBlkIn s.setting.scene rs (blk_place plan trace) s.setting.cast) cast.rows (cast.whole_block blk has)) flows_now rows_now)
+      (blk_within plan trace s.setting.scene s.setting.cast s.setting.history s.journal valid calm (λ blk has. subst (λ rs. HasBlkIn s.setting.scene rs (blk_place plan trace) s.setting.cast) cast.rows (cast.whole_block blk has)) flows_now rows_now)

@@ -7,6 +7,7 @@ use Rattle.wire_core.specs.declared.names.Entry.{Entry}
 use Rattle.wire_core.specs.Journal.{History}
 use Rattle.wire_core.proofs.BellTheorem.{bells_hold, queues_flow}
 use Rattle.play_core.specs.Moved.{moved}
+use Rattle.play_core.specs.Names.{Noted}
 use Rattle.play_core.proofs.Lists.{map_alike}
 use Rattle.actor_set.specs.Actors.{part_of}
 use Rattle.actor_set.specs.declared.actor.Actor.{Actor}
@@ -19,23 +20,22 @@ use Rattle.system_core.specs.Inside.{shown_of, setting_of, IsSystem}
 use Rattle.system_core.specs.declared.system.System.TheInside.{Inside}
 use Rattle.std.proofs.lemmas.List.{length-map}
 use Rattle.system_core.proofs.Stepping.{runs_below}
-use Rattle.system_core.proofs.Telling.{runs_plain}
 use Rattle.actor_set.proofs.LawsLemmas.Rows.{heard_here}
 use Rattle.system_core.proofs.RunsNow.{items_here}
 use Rattle.system_core.proofs.Recording.{records_at, wire_here, replies_at}
 use Rattle.system_core.proofs.Lining.{kinds_hold, pool_lines, pool_lines_anew, without_pools, buffers_told, nothing_bad}
 
-module _ (history : History) (rows : List QueueRow) (w : List Queue) (actors : List Actor) (journal : List Entry) (h : Holds history rows w actors journal) where
+module _ (history : History) (rows : List QueueRow) (names : List Noted) (w : List Queue) (actors : List Actor) (journal : List Entry) (h : Holds history rows names w actors journal) where
   pub same_heard : (k : ℕ) → record_from actors k ≡ option_map_or (record_by (moved history journal)) (slice_get (map part_of actors) k) []
   same_heard k = go (slice_get actors k) refl ∙ ap (λ o. option_map_or (record_by (moved history journal)) o []) (sym (slice_get-map part_of actors k))
     where
       go : (o : Option Actor) → slice_get actors k ≡ o → option_map_or record_of o [] ≡ option_map_or (record_by (moved history journal)) (option_map part_of o) []
       go None at = refl
-      go (Some x) at = heard_here h.passed (moved history journal) (items_here history rows w actors journal h) x (h.stands k x at)
+      go (Some x) at = heard_here h.passed (moved history journal) (items_here history rows names w actors journal h) x (h.stands k x at)
 
 module _ (a : Inside) (i : IsSystem a) where
   heard : (k : ℕ) → record_from a.actors.items k ≡ record_at (shown_of a) k
-  heard k = same_heard (setting_of a).history a.rows.items a.world a.actors.items a.journal.items i.holds k
+  heard k = same_heard (setting_of a).history a.rows.items a.names.items a.wires.world a.actors.items a.journal.items i.holds k
 
   told : IsTold (shown_of a)
   told = record {
@@ -44,11 +44,11 @@ module _ (a : Inside) (i : IsSystem a) where
     wire = wire a.net.device;
     net = length-map a.net.clients (frames_from a.actors.items);
     frames = λ net whole. record {
-      records = records_at (setting_of a).history a.rows.items a.world a.actors.items a.journal.items i.holds net whole a.net.clients;
-      wire = wire_here (setting_of a).history a.rows.items a.world a.actors.items a.journal.items i.holds net whole a.net.device;
+      records = records_at (setting_of a).history a.rows.items a.names.items a.wires.world a.actors.items a.journal.items i.holds net whole a.net.clients;
+      wire = λ calm. wire_here (setting_of a).history a.rows.items a.names.items a.wires.world a.actors.items a.journal.items i.holds calm net whole a.net.device;
     };
     blk = length-map a.blk.clients (replies_from a.actors.items);
-    replies = λ blk whole. replies_at (setting_of a).history a.rows.items a.world a.actors.items a.journal.items i.holds blk whole a.blk.clients;
+    replies = λ blk whole. replies_at (setting_of a).history a.rows.items a.names.items a.wires.world a.actors.items a.journal.items i.holds blk whole a.blk.clients;
     pools = pool_lines a i;
     pools_anew = pool_lines_anew a i;
     no_pools = without_pools a i;
@@ -67,7 +67,7 @@ module _ (a : Inside) (i : IsSystem a) where
   -- a runnable actor is one of its actors
   pub runner_there : (place k : ℕ) → slice_get a.running.list place ≡ Some k → k < length a.actors.items
   runner_there place k at =
-      let below = runs_below (setting_of a).history a.rows.items (map part_of a.actors.items) a.journal.items place k (rw (i.running ∙ runs_plain (setting_of a) i.fitted.calm a.journal.items) at at) in
+      let below = runs_below (setting_of a).history a.rows.items a.names.items (map part_of a.actors.items) a.journal.items place k (rw i.running at at) in
       let size = length-map a.actors.items part_of in
       omega (arith, below, size)
 
@@ -80,6 +80,7 @@ module _ (a : Inside) (i : IsSystem a) where
       bells_hold = bells_hold (hostile_in (setting_of a)) (setting_of a).history a.rows.items a.journal.items i.before.bells_hold i.holds.legal;
       flows = queues_flow (hostile_in (setting_of a)) (setting_of a).history a.rows.items a.journal.items i.before.flows i.holds.legal;
       rows_hold = i.rows_hold;
+      names_tell = i.names_tell;
       kinds = kinds_hold a i;
       brisk = i.brisk;
     };

@@ -1,5 +1,7 @@
 -- The proofs on a system at play.
 pub mod Telling
+pub mod Growing
+pub mod Hosts
 pub mod SystemStep
 pub mod Playing
 pub mod RunsNow
@@ -7,9 +9,12 @@ pub mod Starting
 pub mod Seating
 pub mod Fitting
 pub mod Stepping
+pub mod Noting
+pub mod Keeping
 pub mod Recording
 pub mod Lining
 pub mod Counting
+pub mod Fewness
 pub mod Hearing
 pub mod Scripts
 pub mod Casting

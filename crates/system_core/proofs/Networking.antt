@@ -23,6 +23,7 @@ use Rattle.play_core.proofs.Merges.{prefix_merge_whole}
 use Rattle.play_core.proofs.OneQueue.{whole_prefix}
 use Rattle.net_quiet.specs.Still.{ArrivesAll, SendsAll}
 use Rattle.actor_set.specs.Parts.{NetworkPart}
+use Rattle.actor_set.specs.Laws.Kinds.{AllCalm}
 use Rattle.wired_law.specs.Wiring.{HasWholeIn}
 use Rattle.cast_core.specs.Casts.{net_place, client_pools}
 use Rattle.cast_core.specs.Sources.{client_mac, client_program}
@@ -38,7 +39,7 @@ use Rattle.system_core.specs.PlanPlays.{ShowsFrames, ShowsAllFrames}
 use Rattle.system_core.proofs.Scripts.{nets}
 
 -- what is seen of the network class is what its frames bring
-module _ (plan : Plan) (net : Net) (trace : Trace) (s : Shown) (cast : IsCastOf plan trace s.setting) (has : plan.net ≡ Some net) (told : IsTold s) where
+module _ (plan : Plan) (net : Net) (trace : Trace) (s : Shown) (cast : IsCastOf plan trace s.setting) (has : plan.net ≡ Some net) (told : IsTold s) (calm : AllCalm s.setting.cast) where
   abbrev place : NetPlace
   place = net_place plan trace
 
@@ -80,7 +81,7 @@ module _ (plan : Plan) (net : Net) (trace : Trace) (s : Shown) (cast : IsCastOf 
   wire_is : (s.state.wire ≡ Some sent) × PrefixMerge (sends_at place.programs place.macs trace.frames) sent
   wire_is =
       let part = cast.parts jobs.EthDevice (eth_number plan).0 named.device in
-      let w = tells.wire (eth_number plan).0 (ap (λ (c : Crew). c.device) who) (part ∙ ap (λ fs. Some (NetworkPart (device_at 0 fs))) (sym frames)) in
+      let w = tells.wire calm (eth_number plan).0 (ap (λ (c : Crew). c.device) who) (part ∙ ap (λ fs. Some (NetworkPart (device_at 0 fs))) (sym frames)) in
       (w.0 ∙ ap (λ fs. Some (wire_at place fs ((moved_in s.setting s.journal).taken 2))) frames, subst (λ fs. PrefixMerge (sends_at place.programs place.macs fs) (wire_at place fs ((moved_in s.setting s.journal).taken 2))) frames w.1)
 
   pub shows_frames : ShowsFrames place trace.frames (moved_in s.setting s.journal) s.state

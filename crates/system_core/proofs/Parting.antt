@@ -10,6 +10,7 @@ use Rattle.wire_core.specs.Queues.{Queue, queue_at, end_at, end_of, items_of, st
 use Rattle.wire_core.specs.Journal.{History, Track, IsShown, start_track, start_history}
 use Rattle.wire_core.specs.Sizes.{AreSized}
 use Rattle.wire_core.proofs.BellTheorem.{start_is}
+use Rattle.play_core.specs.Names.{Noted}
 use Rattle.play_core.proofs.Lists.{map_get}
 use Rattle.actor_set.specs.Parts.{Part}
 use Rattle.actor_set.specs.Actors.{FitsActor, IsWhole, part_anew, part_of}
@@ -39,7 +40,7 @@ same_kept (row ∷ rows) (q ∷ world) size each zero = let is = each 0 row refl
 same_kept (row ∷ rows) (q ∷ world) size each (suc n) = same_kept rows world (omega (arith, size)) (λ m r at. each (suc m) r at) n
 
 -- nothing passed before the first step
-module _ (rows : List QueueRow) (world : List Queue) (actors : List Actor) (h : Holds (start_history rows) rows world actors []) where
+module _ (rows : List QueueRow) (world : List Queue) (actors : List Actor) (names : List Noted) (h : Holds (start_history rows) rows names world actors []) where
   none_taken : (n : ℕ) → h.passed.taken n ≡ []
   none_taken n = no_entry (h.passed.taken n) (h.shows_taken n ∙ ap (λ (t : Track). t.taken) (start_is rows n))
 
@@ -53,18 +54,18 @@ module _ (rows : List QueueRow) (world : List Queue) (actors : List Actor) (h : 
       λ i. λ r n. end_of (nat_lt n (long i)) ((kept n).0 i) ((kept n).1 i) r
 
 module _ (a : Inside) (i : IsSystem a) (anew : (setting_of a).history ≡ start_history a.rows.items) (none : a.journal.items ≡ []) where
-  holds : Holds (start_history a.rows.items) a.rows.items a.world a.actors.items []
-  holds = subst (Holds (start_history a.rows.items) a.rows.items a.world a.actors.items) none (subst (λ (h : History). Holds h a.rows.items a.world a.actors.items a.journal.items) anew i.holds)
+  holds : Holds (start_history a.rows.items) a.rows.items a.names.items a.wires.world a.actors.items []
+  holds = subst (Holds (start_history a.rows.items) a.rows.items a.names.items a.wires.world a.actors.items) none (subst (λ (h : History). Holds h a.rows.items a.names.items a.wires.world a.actors.items a.journal.items) anew i.holds)
 
   whole : (k : ℕ) (x : Actor) → slice_get a.actors.items k ≡ Some x → IsWhole x
-  whole k x at = fits_whole (end_at a.world) x (i.holds.fits k x at)
+  whole k x at = fits_whole (end_at a.wires.world) x (i.holds.fits k x at)
 
   -- its actors fit the queues in their start state, and own the ends that they have there
-  pub are_ready : AreReady a.rows.items a.actors.items
-  are_ready = record {
-    calm = λ k x at. i.fitted.calm k (part_of x) (map_get part_of a.actors.items k x at);
-    fits = λ k x at. subst (λ (e : Role → ℕ → End). FitsActor e x) (start_ends a.rows.items a.world a.actors.items holds) (holds.fits k x at);
-    stands = λ k x at. stands_beside holds.passed nothing_passed x (whole k x at) (λ n e. sym (none_taken a.rows.items a.world a.actors.items holds n)) (λ n e. sym (none_sent a.rows.items a.world a.actors.items holds n)) (holds.stands k x at);
+  pub are_ready : AllCalm (map part_of a.actors.items) → AreReady a.rows.items a.actors.items
+  are_ready calm = record {
+    calm = λ k x at. calm k (part_of x) (map_get part_of a.actors.items k x at);
+    fits = λ k x at. subst (λ (e : Role → ℕ → End). FitsActor e x) (start_ends a.rows.items a.wires.world a.actors.items a.names.items holds) (holds.fits k x at);
+    stands = λ k x at. stands_beside holds.passed nothing_passed x (whole k x at) (λ n e. sym (none_taken a.rows.items a.wires.world a.actors.items a.names.items holds n)) (λ n e. sym (none_sent a.rows.items a.wires.world a.actors.items a.names.items holds n)) (holds.stands k x at);
     owners = λ k x at r n own.
         let e = end_seat (scene_of (map part_of a.actors.items)) (part_of x) r n (to_part x r n (whole k x at) own) in
         i.fitted.seated k (part_of x) (map_get part_of a.actors.items k x at) e.0 (record { queue = n; role = r }) e.1;

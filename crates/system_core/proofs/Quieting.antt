@@ -26,7 +26,7 @@ use Rattle.cast_law.proofs.QuietLemmas.Rooms.{pools_are, rooms_are}
 use Rattle.cast_law.proofs.QuietLemmas.Blocks.{blk_pools_are, blk_rooms_are}
 use Rattle.system_core.specs.Shows.{Shown, manner_in, hostile_in, moved_in, RowsStand}
 use Rattle.system_core.proofs.Telling.{rows_plain, runs_plain}
-use Rattle.actor_set.specs.Laws.Kinds.{sheet}
+use Rattle.actor_set.specs.Laws.Kinds.{AllCalm, sheet}
 use Rattle.system_core.specs.Plays.{runnable_now}
 use Rattle.system_core.specs.Lawful.{StandsLawful}
 use Rattle.system_core.specs.Builds.{IsCastOf}
@@ -34,7 +34,7 @@ use Rattle.system_core.specs.PlanPlays.{ShowsAllFrames, ShowsAllReplies}
 use Rattle.system_core.proofs.Networking.{shows_all_frames}
 use Rattle.system_core.proofs.Replying.{shows_all_replies}
 
-module _ (s : Shown) (stands : StandsLawful s) (quiet : runnable_now s ≡ []) where
+module _ (s : Shown) (stands : StandsLawful s) (calm : AllCalm s.setting.cast) (quiet : runnable_now s ≡ []) where
   abbrev actors : Needful
   actors = needful (sheet s.setting.scene) s.setting.cast (moved_in s.setting s.journal)
 
@@ -43,7 +43,7 @@ module _ (s : Shown) (stands : StandsLawful s) (quiet : runnable_now s ≡ []) w
     bells_hold = last_moment (BellsHold (hostile_in s.setting) s.setting.history s.setting.rows) s.journal stands.lawful.bells_hold;
     flows = last_moment (QueuesFlow s.setting.history s.setting.rows) s.journal stands.lawful.flows;
     peopled = λ n row at r. let lt = stands.fitted.peopled n row at r in let size = length-map s.setting.cast (λ p. (sheet s.setting.scene p).wants (moved_in s.setting s.journal)) in omega (arith, lt, size);
-    quiet = sym (runs_plain s.setting stands.fitted.calm s.journal) ∙ quiet;
+    quiet = sym (runs_plain s.setting calm s.journal) ∙ quiet;
   })
 
   -- the network of a plan
@@ -55,14 +55,14 @@ module _ (s : Shown) (stands : StandsLawful s) (quiet : runnable_now s ≡ []) w
     whole = cast.whole net has
 
     rooms : HasRooms (hostile_in s.setting) s.setting.rows place
-    rooms = subst (λ rows. HasRooms (hostile_in s.setting) rows place) (sym cast.rows) (rooms_are plan trace net has valid s.setting.cast stands.fitted.calm (subst (λ rows. HasWhole rows place s.setting.cast) cast.rows (subst (λ z. HasWholeIn z s.setting.rows place s.setting.cast) stands.fitted.scene_is whole)))
+    rooms = subst (λ rows. HasRooms (hostile_in s.setting) rows place) (sym cast.rows) (rooms_are plan trace net has valid s.setting.cast calm (subst (λ rows. HasWhole rows place s.setting.cast) cast.rows (subst (λ z. HasWholeIn z s.setting.rows place s.setting.cast) stands.fitted.scene_is whole)))
 
     network : IsNetwork (hostile_in s.setting) s.setting.scene s.setting.rows actors place (moved_in s.setting s.journal)
-    network = network_there s.setting.rows s.setting.cast (moved_in s.setting s.journal) place stands.fitted.calm whole (pools_are plan trace net has valid) rooms (rows_plain s.setting stands.fitted.calm s.journal (last_moment (RowsStand s.setting) s.journal stands.lawful.rows_hold))
+    network = network_there s.setting.rows s.setting.cast (moved_in s.setting s.journal) place calm whole (pools_are plan trace net has valid) rooms (rows_plain s.setting calm s.journal (last_moment (RowsStand s.setting) s.journal stands.lawful.rows_hold))
 
     pub shows_whole_net : ShowsAllFrames place trace.frames s.state
     shows_whole_net =
-        shows_all_frames plan net trace s cast has stands.told
+        shows_all_frames plan net trace s cast has stands.told calm
         (arrives_all (hostile_in s.setting) s.setting.history s.setting.rows actors s.journal s.setting.scene place still_now network)
         (sends_all (hostile_in s.setting) s.setting.history s.setting.rows actors s.journal s.setting.scene place still_now network)
 
@@ -75,10 +75,10 @@ module _ (s : Shown) (stands : StandsLawful s) (quiet : runnable_now s ≡ []) w
     blk_whole = cast.whole_block blk has
 
     blk_rooms : HasBlkRooms (hostile_in s.setting) s.setting.rows disk_place
-    blk_rooms = subst (λ rows. HasBlkRooms (hostile_in s.setting) rows disk_place) (sym cast.rows) (blk_rooms_are plan trace valid blk has s.setting.cast stands.fitted.calm)
+    blk_rooms = subst (λ rows. HasBlkRooms (hostile_in s.setting) rows disk_place) (sym cast.rows) (blk_rooms_are plan trace valid blk has s.setting.cast calm)
 
     block : IsBlock (hostile_in s.setting) s.setting.scene s.setting.rows actors disk_place (moved_in s.setting s.journal)
-    block = block_there s.setting.rows s.setting.cast (moved_in s.setting s.journal) disk_place stands.fitted.calm blk_whole (blk_pools_are plan trace valid blk has) blk_rooms (rows_plain s.setting stands.fitted.calm s.journal (last_moment (RowsStand s.setting) s.journal stands.lawful.rows_hold))
+    block = block_there s.setting.rows s.setting.cast (moved_in s.setting s.journal) disk_place calm blk_whole (blk_pools_are plan trace valid blk has) blk_rooms (rows_plain s.setting calm s.journal (last_moment (RowsStand s.setting) s.journal stands.lawful.rows_hold))
 
     answers : AnswersAll s.setting.scene disk_place (moved_in s.setting s.journal)
     answers = answers_all (hostile_in s.setting) s.setting.history s.setting.rows actors s.journal s.setting.scene disk_place still_now block

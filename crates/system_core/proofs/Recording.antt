@@ -10,7 +10,8 @@ use Rattle.frame_core.specs.declared.mac.Mac.{Mac}
 use Rattle.wire_core.specs.declared.names.QueueRow.{QueueRow}
 use Rattle.wire_core.specs.declared.names.Entry.{Entry}
 use Rattle.wire_core.specs.Deeds.{Cargo}
-use Rattle.wire_core.specs.Queues.{Queue, queue_at, end_at}
+use Rattle.wire_core.specs.Lists.{Passed}
+use Rattle.wire_core.specs.Queues.{Queue, end_at}
 use Rattle.wire_core.specs.Journal.{History}
 use Rattle.net_expect.specs.Expecting.{Program, frames_for}
 use Rattle.buffer_kit.specs.Entries.{frame_of}
@@ -22,7 +23,10 @@ use Rattle.net_quiet.specs.TxCast.Casting.{sends_at, wire_at}
 use Rattle.actor_set.specs.Parts.{Part, NetworkPart, BlockPart}
 use Rattle.actor_set.specs.Actors.{part_of}
 use Rattle.actor_set.specs.declared.actor.Actor.{Actor}
-use Rattle.actor_set.specs.Laws.Kinds.{scene_of}
+use Rattle.actor_set.specs.declared.actor.Actor.TheVariants as Kinds
+use Rattle.actor_set.specs.Laws.Kinds.{AllCalm, hostiles, scene_of}
+use Rattle.actor_set.specs.Laws.Scenes.{ToldInTurn}
+use Rattle.actor_set.specs.Laws.Turning.{InTurn}
 use Rattle.actor_set.specs.Laws.Records.{frames_got, frames_by, replies_got, replies_by}
 use Rattle.actor_set.proofs.LawsLemmas.Rows.{frames_here, replies_here}
 use Rattle.client_programs.proofs.BlkLemmas.Asks.{replies_long}
@@ -30,9 +34,12 @@ use Rattle.wired_law.specs.Wiring.{HasWhole, HasBlk, AreAtWork, IsOfNetwork}
 use Rattle.wired_law.proofs.Wiring.{recorded, sent_on, sent_told}
 use Rattle.wired_law.proofs.BlkReplies.Casts.{replied}
 use Rattle.play_core.specs.Moved.{taken}
+use Rattle.play_core.specs.Names.{Names, Noted, Wild, told_by, wild_in}
+use Rattle.play_core.specs.Sheets.{Scene}
 use Rattle.play_core.proofs.Lists.{some_is, map_from}
 use Rattle.system_core.specs.States.{frames_from, replies_from}
 use Rattle.system_core.specs.Systems.{Holds}
+use Rattle.system_core.proofs.RunsNow.{at_work}
 
 -- a client of the network receives in buffers that take the longest frame
 client_fits : (rows : List QueueRow) (net : NetPlace) (cast : List Part) (frames : List (List ℕ)) → HasWhole rows net cast → (j : ℕ) (program : Program) (mac : Mac) (pools : ClientPools) → IsOfNetwork net frames (NetworkPart (client_at net.first j program mac pools)) → net.most ≤ pools.rx.size
@@ -46,9 +53,28 @@ client_fits rows net cast frames whole j program mac pools (inr (inr (inr (inr (
     let rx : pools.rx ≡ own_pool x.3.rx = cc in
     subst (λ (p : PoolAt). net.most ≤ p.size) (sym rx) (whole.fits_client x.0 x.3 x.4.pools).0
 
-module _ (history : History) (rows : List QueueRow) (w : List Queue) (actors : List Actor) (journal : List Entry) (h : Holds history rows w actors journal) where
-  at_work : AreAtWork (end_at w) rows actors h.passed
-  at_work = record { fits = h.fits; stands = h.stands; hands_over = λ n. ((queue_at w n).entries, sym (h.stands_there n)); kinds = h.kinds }
+-- nothing came out of turn at a block client
+client_turn : (scene : Scene) (wild : Wild) (names : Names) (passed : Passed) (x : Actor) (first j : ℕ) (asks : List Ask) (pool : PoolAt) → part_of x ≡ BlockPart (blk_client_at first j asks pool) → ToldInTurn scene wild names x passed → InTurn scene x passed
+client_turn scene wild names passed (Kinds.UartDevice x) first j asks pool is turn = turn
+client_turn scene wild names passed (Kinds.UartDriver x) first j asks pool is turn = turn
+client_turn scene wild names passed (Kinds.SerialVirtRx x) first j asks pool is turn = turn
+client_turn scene wild names passed (Kinds.SerialVirtTx x) first j asks pool is turn = turn
+client_turn scene wild names passed (Kinds.SerialClient x) first j asks pool is turn = turn
+client_turn scene wild names passed (Kinds.EthDevice x) first j asks pool is turn = turn
+client_turn scene wild names passed (Kinds.EthDriver x) first j asks pool is turn = turn
+client_turn scene wild names passed (Kinds.NetVirtRx x) first j asks pool is turn = turn
+client_turn scene wild names passed (Kinds.NetCopier x) first j asks pool is turn = turn
+client_turn scene wild names passed (Kinds.NetClient x) first j asks pool is turn = turn
+client_turn scene wild names passed (Kinds.NetVirtTx x) first j asks pool is turn = absurd cc
+client_turn scene wild names passed (Kinds.DiskDevice x) first j asks pool is turn = turn
+client_turn scene wild names passed (Kinds.BlkDriver x) first j asks pool is turn = turn
+client_turn scene wild names passed (Kinds.BlkVirt x) first j asks pool is turn = absurd cc
+client_turn scene wild names passed (Kinds.BlkClient x) first j asks pool is turn = turn
+client_turn scene wild names passed (Kinds.Rogue x) first j asks pool is turn = turn
+
+module _ (history : History) (rows : List QueueRow) (names : List Noted) (w : List Queue) (actors : List Actor) (journal : List Entry) (h : Holds history rows names w actors journal) where
+  work : AreAtWork (end_at w) rows actors h.passed
+  work = at_work history rows names w actors journal h
 
   -- a frame was recorded for each entry that was taken
   shown_long : (x : Actor) (n : ℕ) → frames_got x ≡ map frame_of (h.passed.taken n) → length (frames_got x) ≡ length (taken history n journal)
@@ -67,18 +93,18 @@ module _ (history : History) (rows : List QueueRow) (w : List Queue) (actors : L
       let m = map_from (frames_from actors) numbers c got at in
       let same : m.0 ≡ k = some_is (sym m.1 ∙ number) in
       let is : frames_got x.0 ≡ got = sym (ap (λ o. option_map_or frames_got o []) x.1) ∙ (ap (frames_from actors) (sym same) ∙ m.2) in
-      let begun = recorded (end_at w) rows actors h.passed net whole at_work k j x.0 program mac pools x.1 x.2 some (client_fits rows net (map part_of actors) (scene_of (map part_of actors)).frames whole j program mac pools (whole.only k (client_at net.first j program mac pools) part)) address in
+      let begun = recorded (end_at w) rows actors h.passed net whole work k j x.0 program mac pools x.1 x.2 some (client_fits rows net (map part_of actors) (scene_of (map part_of actors)).frames whole j program mac pools (whole.only k (client_at net.first j program mac pools) part)) address in
       let long = shown_long x.0 (client_first net.first j + 2) (frames_here h.passed x.0 (h.stands k x.0 x.1) ∙ ap (frames_by h.passed) x.2) in
       subst (λ g. IsPrefix g (frames_for mac (scene_of (map part_of actors)).frames) × (length g ≡ length (taken history (client_first net.first j + 2) journal))) is (begun, long)
 
   -- what the device sent
-  pub wire_here : (net : NetPlace) → HasWhole rows net (map part_of actors) → (device : Option ℕ) (k : ℕ) → device ≡ Some k → slice_get (map part_of actors) k ≡ Some (NetworkPart (device_at net.first (scene_of (map part_of actors)).frames))
+  pub wire_here : AllCalm (map part_of actors) → (net : NetPlace) → HasWhole rows net (map part_of actors) → (device : Option ℕ) (k : ℕ) → device ≡ Some k → slice_get (map part_of actors) k ≡ Some (NetworkPart (device_at net.first (scene_of (map part_of actors)).frames))
       → (option_map (frames_from actors) device ≡ Some (wire_at net (scene_of (map part_of actors)).frames (taken history (net.first + 2) journal))) × PrefixMerge (sends_at net.programs net.macs (scene_of (map part_of actors)).frames) (wire_at net (scene_of (map part_of actors)).frames (taken history (net.first + 2) journal))
-  wire_here net whole device k is part =
+  wire_here calm net whole device k is part =
       let x = map_from part_of actors k (NetworkPart (device_at net.first (scene_of (map part_of actors)).frames)) part in
-      let told : frames_got x.0 ≡ wire_at net (scene_of (map part_of actors)).frames (taken history (net.first + 2) journal) = sent_told (end_at w) rows actors h.passed net h.calm whole at_work h.sends k x.0 x.1 x.2 ∙ ap (wire_at net (scene_of (map part_of actors)).frames) (h.shows_taken (net.first + 2)) in (
+      let told : frames_got x.0 ≡ wire_at net (scene_of (map part_of actors)).frames (taken history (net.first + 2) journal) = sent_told (end_at w) rows actors h.passed net calm whole work h.sends k x.0 x.1 x.2 ∙ ap (wire_at net (scene_of (map part_of actors)).frames) (h.shows_taken (net.first + 2)) in (
         ap (option_map (frames_from actors)) is ∙ ap Some (ap (λ o. option_map_or frames_got o []) x.1 ∙ told),
-        subst (PrefixMerge (sends_at net.programs net.macs (scene_of (map part_of actors)).frames)) told (sent_on (end_at w) rows actors h.passed net h.calm whole at_work h.sends k x.0 x.1 x.2),
+        subst (PrefixMerge (sends_at net.programs net.macs (scene_of (map part_of actors)).frames)) told (sent_on (end_at w) rows actors h.passed net calm whole work h.sends k x.0 x.1 x.2),
       )
 
   -- a reply was recorded for each response that was taken
@@ -86,7 +112,7 @@ module _ (history : History) (rows : List QueueRow) (w : List Queue) (actors : L
   replies_long_here x k first j asks pool at is few =
       let all = length-map (h.passed.taken (first + 5 + 2 * j)) (λ (e : Cargo). e.0) in
       let shown = ap length (h.shows_taken (first + 5 + 2 * j)) in
-      let same = ap length (replies_here (scene_of (map part_of actors)) h.passed x (h.in_turn k x at) (h.stands k x at) ∙ ap (replies_by h.passed) is) in
+      let same = ap length (replies_here (scene_of (map part_of actors)) h.passed x (client_turn (scene_of (map part_of actors)) (wild_in (hostiles (map part_of actors)) rows) (told_by names) h.passed x first j asks pool is (h.in_turn k x at)) (h.stands k x at) ∙ ap (replies_by h.passed) is) in
       let long = replies_long asks (h.passed.taken (first + 5 + 2 * j)) (omega (arith, all, shown, few)) in
       omega (arith, all, shown, same, long)
 
@@ -98,6 +124,6 @@ module _ (history : History) (rows : List QueueRow) (w : List Queue) (actors : L
       let m = map_from (replies_from actors) numbers c got at in
       let same : m.0 ≡ k = some_is (sym m.1 ∙ number) in
       let is : replies_got x.0 ≡ got = sym (ap (λ o. option_map_or replies_got o []) x.1) ∙ (ap (replies_from actors) (sym same) ∙ m.2) in (
-        subst (λ g. IsPrefix g (replies_of blk.image entry asks)) is (replied (end_at w) rows actors h.passed blk whole at_work h.sends k j x.0 asks pool entry x.1 x.2 of its),
+        subst (λ g. IsPrefix g (replies_of blk.image entry asks)) is (replied (end_at w) rows actors h.passed blk whole work h.sends k j x.0 asks pool entry x.1 x.2 of its),
         λ few. let long = replies_long_here x.0 k blk.first j asks pool x.1 x.2 few in let e = ap length is in omega (arith, long, e),
       )

@@ -11,57 +11,77 @@ use Rattle.turn_kit.specs.Pace.{pendings}
 use Rattle.turn_kit.proofs.Pacing.{paced_anew}
 use Rattle.actor_set.specs.Actors.{actor_round, actor_rests, part_of}
 use Rattle.actor_set.specs.declared.actor.Actor.{Actor}
+use Rattle.play_core.specs.Names.{Wild, told_by, wild_in}
 use Rattle.play_core.specs.Runs.{is_runnable, flags_from}
 use Rattle.play_core.specs.Moved.{moved}
-use Rattle.play_core.specs.Wants.{Needful}
-use Rattle.play_core.specs.Sheets.{Scene, needful}
+use Rattle.play_core.specs.Wants.{Needful, Want}
+use Rattle.play_core.specs.Sheets.{needful}
+use Rattle.play_core.proofs.Noting.{nothing_noted}
 use Rattle.actor_set.specs.Parts.{Part}
 use Rattle.play_core.specs.Manners.{Manner}
-use Rattle.actor_set.specs.Laws.Kinds.{sheet, scene_of, manner_of, manners, idles}
+use Rattle.actor_set.specs.Laws.Kinds.{hostiles, scene_of, manner_of, manners, idles}
+use Rattle.actor_set.specs.Laws.Scenes.{told_sheet}
 use Rattle.actor_set.proofs.LawsLemmas.Calm.{manner_at}
+use Rattle.actor_set.proofs.RogueLemmas.Playing.{begins}
+use Rattle.wired_law.specs.Wiring.{AreAtWork, TellsKept}
 use Rattle.wired_law.proofs.Wiring.{nothing_sent}
 use Rattle.owner_law.proofs.PoolsLemmas.Handing.{carry_start}
 use Rattle.cast_law.specs.Pools.Places.{IsInPlace, cast_naming}
-use Rattle.cast_law.proofs.TurnsLemmas.{calm_turns}
+use Rattle.cast_law.proofs.TurnsLemmas.{noted_tell, told_turns}
 use Rattle.system_core.specs.Starts.{AreStarting}
 use Rattle.system_core.specs.Systems.{Holds}
 use Rattle.play_core.proofs.Lists.{map_get}
 use Rattle.play_core.proofs.Flags.{flag_at, flags_length}
+use Rattle.system_core.proofs.Hosts.{calm_there}
 use Rattle.system_core.proofs.RunsNow.{idle_here}
 use Rattle.player_kit.proofs.Listing.{not_not}
 use Rattle.player_kit.proofs.Showing.{starts_shown, nothing_there, none_stored}
 
 -- a start state holds
-pub start_holds : (rows : List QueueRow) (pools : List PoolRow) (actors : List Actor) → IsInPlace rows pools (map part_of actors) → AreStarting rows actors → Holds (start_history rows) rows (starts rows) actors []
-start_holds rows pools actors in_place s = record {
-  calm = in_place.calm;
-  passed = nothing_passed;
-  stands_there = λ n. sym (nothing_there rows n);
-  shows_taken = λ n. ap (λ t. t.taken) (sym (start_is rows n));
-  shows_sent = λ n. ap (λ t. t.sent) (sym (start_is rows n));
-  kinds = λ n row at k c there. cc;
-  size = simp length-map;
-  queues = λ n row at. subst (IsShown row (queue_at (starts rows) n)) (sym (start_is rows n)) (starts_shown rows n row at);
-  fits = s.fits;
-  stands = s.stands;
-  carry = λ place placed. carry_start (cast_naming (scene_of (map part_of actors)) place) rows;
-  sends = nothing_sent rows (map part_of actors);
-  in_turn = calm_turns (end_at (starts rows)) rows pools actors nothing_passed in_place (record { fits = s.fits; stands = s.stands; hands_over = λ n. ([], refl); kinds = λ n row at k c there. cc }) (nothing_sent rows (map part_of actors));
-  owners = s.owners;
-  unstored = λ n row at calm. none_stored rows n;
-  paced = λ k x at calm. paced_anew (pendings (start_history rows) []) (actor_round x) (s.rounds k x at);
-  peers = s.peers;
-  few = s.few;
-  legal = tt;
-}
+module _ (rows : List QueueRow) (pools : List PoolRow) (actors : List Actor) (in_place : IsInPlace rows pools (map part_of actors)) (s : AreStarting rows actors) where
+  abbrev wild : Wild
+  wild = wild_in (hostiles (map part_of actors)) rows
+
+  work : AreAtWork (end_at (starts rows)) rows actors nothing_passed
+  work = record { fits = s.fits; stands = s.stands; hands_over = λ n. ([], refl); kinds = λ n row at k c there. cc }
+
+  kept : TellsKept wild (told_by []) nothing_passed
+  kept = noted_tell wild [] nothing_passed (nothing_noted wild)
+
+  pub start_holds : Holds (start_history rows) rows [] (starts rows) actors []
+  start_holds = record {
+    passed = nothing_passed;
+    stands_there = λ n. sym (nothing_there rows n);
+    shows_taken = λ n. ap (λ t. t.taken) (sym (start_is rows n));
+    shows_sent = λ n. ap (λ t. t.sent) (sym (start_is rows n));
+    kinds = λ n row at k c there. cc;
+    size = simp length-map;
+    queues = λ n row at. subst (IsShown row (queue_at (starts rows) n)) (sym (start_is rows n)) (starts_shown rows n row at);
+    fits = s.fits;
+    stands = s.stands;
+    carry = λ calm place placed. carry_start (cast_naming (scene_of (map part_of actors)) place) rows;
+    sends = nothing_sent rows (map part_of actors);
+    noted = nothing_noted wild;
+    in_turn = told_turns (end_at (starts rows)) rows pools actors nothing_passed in_place work (nothing_sent rows (map part_of actors)) (told_by []) kept;
+    acts = λ k r at. begins k r (s.acts k r at);
+    owners = s.owners;
+    unstored = λ n row at calm. none_stored rows n;
+    paced = λ k x at calm. paced_anew (pendings (start_history rows) []) (actor_round x) (s.rounds k x at (calm_there (map part_of actors) k x (map_get part_of actors k x at) calm.calm));
+    peers = s.peers;
+    few = s.few;
+    legal = tt;
+  }
 
 -- with what the actors want before the first call
-module _ (history : History) (rows : List QueueRow) (actors : List Actor) (scene : Scene) where
+module _ (history : History) (rows : List QueueRow) (actors : List Actor) where
   abbrev pub cast : List Part
   cast = map part_of actors
 
+  abbrev wants : Part → List Want
+  wants p = (told_sheet (scene_of cast) (wild_in (hostiles cast) rows) (told_by []) p).wants (moved history [])
+
   abbrev pub wanted : Needful
-  wanted = needful (sheet scene) cast (moved history [])
+  wanted = needful (told_sheet (scene_of cast) (wild_in (hostiles cast) rows) (told_by [])) cast (moved history [])
 
   abbrev pub flags : List Bool
   flags = flags_from (manners cast) 0 history rows wanted []
@@ -70,9 +90,9 @@ module _ (history : History) (rows : List QueueRow) (actors : List Actor) (scene
   flags_many = flags_length (manners cast) 0 history rows wanted [] ∙ simp length-map
 
   -- whether an actor is runnable then
-  pub flag_start : (world : List Queue) (k : ℕ) (x : Actor) (idle : Bool) → scene_of cast ≡ scene → Holds history rows world actors [] → k < length actors → x ≡ slice_index_or actors k x → idle ≡ idles (manner_of (part_of x)) (actor_rests x) (is_pending k world) → slice_get flags k ≡ Some (not idle)
-  flag_start world k x idle same holds lt at is =
+  pub flag_start : (world : List Queue) (k : ℕ) (x : Actor) (idle : Bool) → Holds history rows [] world actors [] → k < length actors → x ≡ slice_index_or actors k x → idle ≡ idles (manner_of (part_of x)) (actor_rests x) (is_pending k world) → slice_get flags k ≡ Some (not idle)
+  flag_start world k x idle holds lt at is =
       let here : slice_get actors k ≡ Some x = slice_get_read actors _ k x refl lt at in
-      let runs : Manner → Bool = λ m. is_runnable m k ((sheet scene (part_of x)).wants (moved history [])) history rows [] in
-      let said : idle ≡ not (runs (manner_of (part_of x))) = is ∙ idle_here scene history rows world actors [] holds same k x here in
-      flag_at (manners cast) 0 history rows wanted [] k k ((sheet scene (part_of x)).wants (moved history [])) (omega arith) (map_get (λ p. (sheet scene p).wants (moved history [])) cast k (part_of x) (map_get part_of actors k x here)) ∙ ap Some (ap runs (manner_at cast k (part_of x) (map_get part_of actors k x here)) ∙ (not_not (runs (manner_of (part_of x))) ∙ ap not (sym said)))
+      let runs : Manner → Bool = λ m. is_runnable m k (wants (part_of x)) history rows [] in
+      let said : idle ≡ not (runs (manner_of (part_of x))) = is ∙ idle_here cast history rows [] world actors [] holds refl k x here in
+      flag_at (manners cast) 0 history rows wanted [] k k (wants (part_of x)) (omega arith) (map_get wants cast k (part_of x) (map_get part_of actors k x here)) ∙ ap Some (ap runs (manner_at cast k (part_of x) (map_get part_of actors k x here)) ∙ (not_not (runs (manner_of (part_of x))) ∙ ap not (sym said)))

@@ -10,9 +10,9 @@ use Rattle.wire_core.specs.declared.names.Event.{Event}
 use Rattle.wire_core.specs.declared.names.Entry.{Entry}
 use Rattle.wire_core.specs.Deeds.{Deed, Cargo, cargo_of}
 use Rattle.wire_core.specs.Ends.{Role, Consumer, Producer, Moves, role_of}
-use Rattle.wire_core.specs.Lists.{Passed, Stepped, with_deed, if_there, if_put}
+use Rattle.wire_core.specs.Lists.{Passed, Stepped, with_deed, if_there, if_put, put_by, taken_by}
 use Rattle.wire_core.specs.Queues.{Queue, Happens, queue_at, no_queue, end_at, items_of, after, is_store}
-use Rattle.wire_core.specs.Journal.{track, track_after, History, Hostiles, history_at, if_on, IsShown, LegalEntry, LegalJournal, owner_of, is_calm}
+use Rattle.wire_core.specs.Journal.{track, track_after, History, Hostiles, history_at, if_on, IsShown, LegalEntry, LegalJournal, MayCall, owner_of, is_calm}
 use Rattle.wire_core.proofs.Moving.{moves}
 use Rattle.wire_core.proofs.Places.{slice_get_written, slice_get_beside}
 use Rattle.wire_core.proofs.Beside.{take_beside, put_beside}
@@ -20,30 +20,41 @@ use Rattle.wire_core.proofs.Tracks.{EachFrom-append, track_from-append, shown_te
 use Rattle.wire_core.specs.Ends.{waiting_role}
 use Rattle.wire_core.specs.Marks.{HasCalmQueues, no_drops, since}
 use Rattle.wire_core.proofs.Answering.{finds, tells, stays}
+use Rattle.client_programs.specs.declared.rogue.Rogue.{Rogue}
 use Rattle.turn_kit.specs.Turns.{Turned, is_at_rest}
 use Rattle.turn_kit.specs.Pace.{Paced, pendings, IsCalled}
 use Rattle.turn_kit.proofs.Playing.{pace_own, pace_beside}
 use Rattle.turn_kit.proofs.Plainness.{plain_next}
 use Rattle.actor_set.proofs.LawsLemmas.Paces.{post_end, post_waits}
-use Rattle.actor_set.specs.Actors.{FitsActor, ActorStandsFor, ActorEnd, ActorTurned, IsWhole, part_of, actor_round}
-use Rattle.actor_set.proofs.LawsLemmas.Rounds.{turned_is}
+use Rattle.actor_set.specs.Actors.{FitsActor, ActorStandsFor, ActorEnd, ActorTurned, IsActorCall, IsWhole, part_of, actor_round}
+use Rattle.actor_set.specs.Rogues.{KeepsActs}
+use Rattle.actor_set.proofs.LawsLemmas.Rounds.{acted_is, own_is, turned_is}
+use Rattle.actor_set.proofs.LawsLemmas.Told.{none_wild}
+use Rattle.actor_set.proofs.RogueLemmas.Playing.{beside as acts_beside, own as acts_next}
+use Rattle.play_core.specs.Manners.{Calm}
+use Rattle.play_core.specs.Names.{AreNoted, Noted, Wild, notes_of, told_by, wild_in}
+use Rattle.play_core.proofs.Noting.{notes_keep}
 use Rattle.actor_set.specs.Parts.{Part}
 use Rattle.play_core.specs.Moved.{moved}
 use Rattle.play_core.specs.Sheets.{RowsHold}
 use Rattle.owner_law.specs.Pages.{CarryPages}
-use Rattle.actor_set.specs.Laws.Kinds.{AllCalm, sheet, scene_of, hostiles}
+use Rattle.actor_set.specs.Laws.Kinds.{AllCalm, sheet, scene_of, hostiles, manner_of}
+use Rattle.actor_set.specs.Laws.Scenes.{ToldInTurn}
 use Rattle.actor_set.specs.Laws.Turning.{InTurn}
 use Rattle.system_core.specs.Systems.{Holds}
 use Rattle.actor_set.specs.declared.actor.Actor.{Actor}
+use Rattle.actor_set.specs.declared.actor.Actor.TheVariants as Kinds
 use Rattle.actor_set.proofs.LawsLemmas.Beside.{fits_beside, stands_beside}
 use Rattle.actor_set.proofs.LawsLemmas.PartEnds.{same_part}
 use Rattle.actor_set.proofs.LawsLemmas.Starts.{fits_whole}
 use Rattle.play_core.specs.Rests.Showing.{HaveItems}
 use Rattle.wired_law.specs.Wiring.{IsWired, AreAtWork, ClientsSend}
 use Rattle.cast_law.specs.Pools.Places.{PoolPlace, IsInPlace, IsPlaced, cast_naming}
-use Rattle.cast_law.proofs.TurnsLemmas.{calm_turns, wired_place}
+use Rattle.cast_law.proofs.TurnsLemmas.{noted_tell, told_turns, wired_place}
 use Rattle.cast_law.proofs.PoolsLemmas.Playing.{carry_call, rows_at}
-use Rattle.wired_law.proofs.Wiring.{sends_on}
+use Rattle.wired_law.proofs.Wiring.{sends_on, turns_calm}
+use Rattle.system_core.proofs.Hosts.{CallsAt, calls_at_end, calm_there, hostile_end, rogue_hostile, rogue_is, rogue_was, store_moves, store_puts, store_takes}
+use Rattle.system_core.proofs.RunsNow.{calm_turn}
 use Rattle.play_core.proofs.Lists.{some_is, map_get}
 use Rattle.player_kit.proofs.Showing.{no_row, taken_shown, sent_shown, still_there, moved_there, none_put, put_kind}
 
@@ -57,15 +68,32 @@ map_same f (a ∷ xs) zero x x' at same = let e : a ≡ x = some_is at in ap (λ
 map_same f (a ∷ xs) (suc k) x x' at same = ap (λ bs. f a ∷ bs) (map_same f xs k x x' at same)
 
 -- actor k, which is x, makes the call of event e, and is then x'
-module _ (history : History) (rows : List QueueRow) (w v : List Queue) (actors : List Actor) (journal : List Entry) (k : ℕ) (x x' : Actor) (e : Event) (here : slice_get actors k ≡ Some x) (old : Holds history rows w actors journal) (own : ActorEnd x (role_of e.op) e.queue.0) (st : Stepped ActorStandsFor Happens w v x x' e) (turned : ActorTurned x e x') (runs : is_at_rest (actor_round x) ≡ true → IsCalled (pendings history journal) (actor_round x).posts) where
+module _ (history : History) (rows : List QueueRow) (names : List Noted) (w v : List Queue) (actors : List Actor) (journal : List Entry) (k : ℕ) (x x' : Actor) (e : Event) (here : slice_get actors k ≡ Some x) (old : Holds history rows names w actors journal) (call : IsActorCall x e) (st : Stepped ActorStandsFor Happens w v x x' e) (turned : ActorTurned x e x')
+    (runs : manner_of (part_of x) ≡ Calm → is_at_rest (actor_round x) ≡ true → IsCalled (pendings history journal) (actor_round x).posts) where
   deed : Deed
   deed = record { event = e; body = st.body }
 
+  -- where it calls
+  calls : CallsAt x e
+  calls = calls_at_end x e call
+
+  cast_here : slice_get (map part_of actors) k ≡ Some (part_of x)
+  cast_here = map_get part_of actors k x here
+
+  -- the row of its queue
+  abbrev queue_row : QueueRow
+  queue_row = get_or rows e.queue.0 no_row
+
+  row_there : slice_get rows e.queue.0 ≡ Some queue_row
+  row_there = slice_get-get_or rows e.queue.0 no_row (subst (λ n. e.queue.0 < n) old.size st.happened.there)
+
+  -- it has an end of it
+  has_end : owner_of queue_row calls.role ≡ k
+  has_end = old.owners k x here calls.role e.queue.0 calls.own queue_row row_there
+
   -- an actor's ends are its own: no other actor has them
-  apart : (j : ℕ) (y : Actor) → slice_get actors j ≡ Some y → (j ≡ k → ⊥) → ActorEnd y (role_of e.op) e.queue.0 → ⊥
-  apart j y at away theirs =
-      let row = slice_get-get_or rows e.queue.0 no_row (subst (λ n. e.queue.0 < n) old.size st.happened.there) in
-      away (sym (old.owners j y at (role_of e.op) e.queue.0 theirs _ row) ∙ old.owners k x here (role_of e.op) e.queue.0 own _ row)
+  apart : (j : ℕ) (y : Actor) → slice_get actors j ≡ Some y → (j ≡ k → ⊥) → ActorEnd y calls.role e.queue.0 → ⊥
+  apart j y at away theirs = away (sym (old.owners j y at calls.role e.queue.0 theirs queue_row row_there) ∙ has_end)
 
   passed' : Passed
   passed' = with_deed old.passed deed
@@ -121,11 +149,32 @@ module _ (history : History) (rows : List QueueRow) (w v : List Queue) (actors :
   unfolding deed
   changes = moves w deed v st.happened
 
+  -- at an end of another actor nothing changes, nothing is taken and nothing put
+  end_still : (j : ℕ) (y : Actor) → slice_get actors j ≡ Some y → (j ≡ k → ⊥) → (r : Role) (n : ℕ) → ActorEnd y r n → end_at v r n ≡ end_at w r n
+  end_still j y at away r n theirs = elim calls.sort.1 [
+    | inl same ↦ changes.others r n (λ a b. apart j y at away (subst (λ q. ActorEnd y q e.queue.0) (a ∙ sym same) (subst (ActorEnd y r) b theirs)))
+    | inr store ↦ store_moves (end_at w) e (end_at v) changes store r n
+  ]
+
+  take_still : (j : ℕ) (y : Actor) → slice_get actors j ≡ Some y → (j ≡ k → ⊥) → (n : ℕ) → ActorEnd y Consumer n → taken_by deed n ≡ []
+  unfolding deed
+  take_still j y at away n theirs = elim calls.sort.1 [
+    | inl same ↦ take_beside deed n (λ a b. apart j y at away (subst (λ q. ActorEnd y q e.queue.0) (sym (same ∙ a)) (subst (ActorEnd y Consumer) (sym b) theirs)))
+    | inr store ↦ store_takes deed n store
+  ]
+
+  put_still : (j : ℕ) (y : Actor) → slice_get actors j ≡ Some y → (j ≡ k → ⊥) → (n : ℕ) → ActorEnd y Producer n → put_by deed n ≡ []
+  unfolding deed
+  put_still j y at away n theirs = elim calls.sort.1 [
+    | inl same ↦ put_beside deed n (λ a b. apart j y at away (subst (λ q. ActorEnd y q e.queue.0) (sym (same ∙ a)) (subst (ActorEnd y Producer) (sym b) theirs)))
+    | inr store ↦ store_puts deed n store
+  ]
+
   fits' : FitsActor (end_at v) x' → (j : ℕ) (y : Actor) → slice_get (slice_set actors k x') j ≡ Some y → ((eqb j k ≡ true) × (j ≡ k)) ⊎ ((eqb j k ≡ false) × (j ≢ k)) → FitsActor (end_at v) y
   fits' new j y at (inl same) = let e : x' ≡ y = some_is (sym (slice_get_written actors k x x' here) ∙ (ap (slice_get (slice_set actors k x')) (sym same.1) ∙ at)) in subst (FitsActor (end_at v)) e new
   fits' new j y at (inr away) =
       let was : slice_get actors j ≡ Some y = sym (slice_get_beside actors k j x' away.1) ∙ at in
-      fits_beside (end_at w) (end_at v) y (λ r n theirs. changes.others r n (λ a b. apart j y was away.1 (subst (λ r'. ActorEnd y r' e.queue.0) a (subst (ActorEnd y r) b theirs)))) (old.fits j y was)
+      fits_beside (end_at w) (end_at v) y (end_still j y was away.1) (old.fits j y was)
 
   stands' : (j : ℕ) (y : Actor) → slice_get (slice_set actors k x') j ≡ Some y → ((eqb j k ≡ true) × (j ≡ k)) ⊎ ((eqb j k ≡ false) × (j ≢ k)) → ActorStandsFor y passed'
   unfolding passed' deed
@@ -133,8 +182,8 @@ module _ (history : History) (rows : List QueueRow) (w v : List Queue) (actors :
   stands' j y at (inr away) =
       let was : slice_get actors j ≡ Some y = sym (slice_get_beside actors k j x' away.1) ∙ at in
       stands_beside old.passed passed' y (fits_whole (end_at w) y (old.fits j y was))
-      (λ n theirs. ap (λ c. old.passed.taken n ++ c) (take_beside deed n (λ a b. apart j y was away.1 (subst (λ r. ActorEnd y r e.queue.0) (sym a) (subst (ActorEnd y Consumer) (sym b) theirs)))) ∙ append-nil (old.passed.taken n))
-      (λ n theirs. ap (λ c. old.passed.sent n ++ c) (put_beside deed n (λ a b. apart j y was away.1 (subst (λ r. ActorEnd y r e.queue.0) (sym a) (subst (ActorEnd y Producer) (sym b) theirs)))) ∙ append-nil (old.passed.sent n))
+      (λ n theirs. ap (λ c. old.passed.taken n ++ c) (take_still j y was away.1 n theirs) ∙ append-nil (old.passed.taken n))
+      (λ n theirs. ap (λ c. old.passed.sent n ++ c) (put_still j y was away.1 n theirs) ∙ append-nil (old.passed.sent n))
       (old.stands j y was)
 
   owners' : part_of x' ≡ part_of x → IsWhole x' → (j : ℕ) (y : Actor) → slice_get (slice_set actors k x') j ≡ Some y → ((eqb j k ≡ true) × (j ≡ k)) ⊎ ((eqb j k ≡ false) × (j ≢ k)) → (r : Role) (n : ℕ) → ActorEnd y r n → (row : QueueRow) → slice_get rows n ≡ Some row → owner_of row r ≡ j
@@ -144,49 +193,95 @@ module _ (history : History) (rows : List QueueRow) (w v : List Queue) (actors :
   abbrev hostile : Hostiles
   hostile = hostiles (map part_of actors)
 
-  turn : Turned (actor_round x) e (actor_round x')
-  turn = turned_is x x' e (old.calm k (part_of x) (map_get part_of actors k x here)) turned
+  abbrev wild : Wild
+  wild = wild_in hostile rows
 
-  -- it made no store
-  plain : is_store e.op ≡ false
-  plain = ap is_store turn.posted.posted.op ∙ plain_next turn.posted.post.state turn.posted.post.side turn.need
+  -- a calm actor makes no store
+  plain : manner_of (part_of x) ≡ Calm → is_store e.op ≡ false
+  plain calm =
+      let turn : Turned (actor_round x) e (actor_round x') = turned_is x x' e calm turned in
+      ap is_store turn.posted.posted.op ∙ plain_next turn.posted.post.state turn.posted.post.side turn.need
+
+  -- and the queues of a hostile one aren't calm
+  plain_there : is_calm hostile queue_row ≡ true → is_store e.op ≡ false
+  plain_there calm = elim calls.sort.0 [
+    | inl is ↦ plain is
+    | inr r ↦ absurd (hostile_end hostile queue_row calls.role k has_end (rogue_hostile (map part_of actors) k x r.0 cast_here r.1) calm)
+  ]
 
   unstored' : (n : ℕ) (row : QueueRow) → slice_get rows n ≡ Some row → is_calm hostile row ≡ true → ((eqb e.queue.0 n ≡ true) × (e.queue.0 ≡ n)) ⊎ ((eqb e.queue.0 n ≡ false) × (e.queue.0 ≢ n)) → (queue_at v n).indices.stored ≡ false
   unfolding deed
   unstored' n row at calm (inl same) =
+      let row_is : row ≡ queue_row = some_is (sym at ∙ (ap (slice_get rows) (sym same.1) ∙ row_there)) in
       rw (st.happened.after_is, ← same.1, get_or-set_same w e.queue.0 (after (queue_at w e.queue.0) deed) no_queue st.happened.there)
-      (stays (queue_at w e.queue.0) deed plain ∙ old.unstored e.queue.0 row (rw same.1 at) calm)
+      (stays (queue_at w e.queue.0) deed (plain_there (subst (λ r. is_calm hostile r ≡ true) row_is calm)) ∙ old.unstored e.queue.0 row (rw same.1 at) calm)
   unstored' n row at calm (inr away) =
       rw (st.happened.after_is, get_or-set_other w e.queue.0 n (after (queue_at w e.queue.0) deed) no_queue (λ h. away.1 (sym h)))
       (old.unstored n row at calm)
 
+  -- it may make the call, and a store where it is hostile
+  may' : MayCall hostile queue_row (role_of e.op) k
+  may' = record {
+    some = (calls.role, has_end);
+    own = λ calm. elim calls.sort.1 [
+      | inl same ↦ subst (λ r. owner_of queue_row r ≡ k) same has_end
+      | inr store ↦ let no : true ≡ false = sym store ∙ plain (calm_there (map part_of actors) k x cast_here calm) in absurd cc
+    ];
+  }
+
+  pub may_there : (row : QueueRow) → slice_get rows e.queue.0 ≡ Some row → MayCall hostile row (role_of e.op) k
+  may_there row there = subst (λ r. MayCall hostile r (role_of e.op) k) (some_is (sym row_there ∙ there)) may'
+
+  stores' : is_store e.op ≡ true → hostile k ≡ true
+  stores' store = elim calls.sort.0 [
+    | inl is ↦ let no : true ≡ false = sym store ∙ plain is in absurd cc
+    | inr r ↦ rogue_hostile (map part_of actors) k x r.0 cast_here r.1
+  ]
+
   legal' : LegalEntry hostile history rows journal (entry_of k e)
   unfolding deed
   legal' =
-      let row : slice_get rows e.queue.0 ≡ Some (get_or rows e.queue.0 no_row) = slice_get-get_or rows e.queue.0 no_row (subst (λ n. e.queue.0 < n) old.size st.happened.there) in
-      let shown = old.queues e.queue.0 (get_or rows e.queue.0 no_row) row in
+      let shown = old.queues e.queue.0 queue_row row_there in
       record {
-        row = get_or rows e.queue.0 no_row;
-        there = row;
+        row = queue_row;
+        there = row_there;
         legal = record {
-          condition = shown_condition (get_or rows e.queue.0 no_row) (queue_at w e.queue.0) (track history e.queue.0 journal) shown e.op st.happened.may.condition;
-          stores = λ h. let no : true ≡ false = sym h ∙ plain in absurd cc;
-          finds = shown_finds (get_or rows e.queue.0 no_row) (queue_at w e.queue.0) (track history e.queue.0 journal) shown e.op e.answer (finds (queue_at w e.queue.0) deed st.happened.may);
-          tells = λ calm. shown_tells (get_or rows e.queue.0 no_row) (queue_at w e.queue.0) (track history e.queue.0 journal) shown e.op e.answer (tells (queue_at w e.queue.0) deed st.happened.may (old.unstored e.queue.0 (get_or rows e.queue.0 no_row) row calm) plain);
-          carries = shown_carries (get_or rows e.queue.0 no_row) (queue_at w e.queue.0) (track history e.queue.0 journal) shown e.op (cargo_of deed) e.item st.happened.may.carries st.happened.may.item;
-          caller = let is = old.owners k x here (role_of e.op) e.queue.0 own (get_or rows e.queue.0 no_row) row in record { some = (role_of e.op, is); own = λ calm. is };
+          condition = shown_condition queue_row (queue_at w e.queue.0) (track history e.queue.0 journal) shown e.op st.happened.may.condition;
+          stores = stores';
+          finds = shown_finds queue_row (queue_at w e.queue.0) (track history e.queue.0 journal) shown e.op e.answer (finds (queue_at w e.queue.0) deed st.happened.may);
+          tells = λ calm. shown_tells queue_row (queue_at w e.queue.0) (track history e.queue.0 journal) shown e.op e.answer (tells (queue_at w e.queue.0) deed st.happened.may (old.unstored e.queue.0 queue_row row_there calm) (plain_there calm));
+          carries = shown_carries queue_row (queue_at w e.queue.0) (track history e.queue.0 journal) shown e.op (cargo_of deed) e.item st.happened.may.carries st.happened.may.item;
+          caller = may';
         };
       }
 
   paced' : (j : ℕ) (y : Actor) → slice_get (slice_set actors k x') j ≡ Some y → HasCalmQueues hostile rows j → ((eqb j k ≡ true) × (j ≡ k)) ⊎ ((eqb j k ≡ false) × (j ≢ k)) → Paced (pendings history (journal ++ entry_of k e ∷ [])) (since no_drops j (journal ++ entry_of k e ∷ [])) (actor_round y)
   paced' j y at calm (inl same) =
       let is : x' ≡ y = some_is (sym (slice_get_written actors k x x' here) ∙ (ap (slice_get (slice_set actors k x')) (sym same.1) ∙ at)) in
-      let was = old.paced k x here (subst (HasCalmQueues hostile rows) same.1 calm) in
-      let now = pace_own hostile no_drops history rows journal (entry_of k e) legal' (subst (HasCalmQueues hostile rows) same.1 calm) (actor_round x) (actor_round x') was turn (post_waits x e turn.place turn.posted.post turn.posted.there) runs in
+      let has : HasCalmQueues hostile rows k = subst (HasCalmQueues hostile rows) same.1 calm in
+      let manner : manner_of (part_of x) ≡ Calm = calm_there (map part_of actors) k x cast_here has.calm in
+      let turn : Turned (actor_round x) e (actor_round x') = turned_is x x' e manner turned in
+      let was = old.paced k x here has in
+      let now = pace_own hostile no_drops history rows journal (entry_of k e) legal' has (actor_round x) (actor_round x') was turn (post_waits x e turn.place turn.posted.post turn.posted.there) (runs manner) in
       subst (λ i. Paced (pendings history (journal ++ entry_of k e ∷ [])) (since no_drops i (journal ++ entry_of k e ∷ [])) (actor_round y)) (sym same.1) (subst (λ a. Paced (pendings history (journal ++ entry_of k e ∷ [])) (since no_drops k (journal ++ entry_of k e ∷ [])) (actor_round a)) is now)
   paced' j y at calm (inr away) =
       let was : slice_get actors j ≡ Some y = sym (slice_get_beside actors k j x' away.1) ∙ at in
       pace_beside hostile no_drops history rows journal (entry_of k e) legal' j calm (actor_round y) (λ h. away.1 (sym h)) (λ i p pat row rat. old.owners j y was (waiting_role p.side) p.queue (post_end y i p pat) row rat) (old.paced j y was calm)
+
+  -- a hostile client goes on to have made the calls of its acts
+  acts_own : (after : Rogue) → x' ≡ Kinds.Rogue after → (r : Rogue) → x ≡ Kinds.Rogue r → KeepsActs k after (journal ++ entry_of k e ∷ [])
+  acts_own after is r was =
+      let turn : ActorTurned (Kinds.Rogue r) e x' = subst (λ a. ActorTurned a e x') was turned in
+      let acted = acted_is r e x' turn in
+      let same : acted.0 ≡ after = rogue_is acted.0 after (sym acted.1 ∙ is) in
+      subst (λ a. KeepsActs k a (journal ++ entry_of k e ∷ [])) same (acts_next k r acted.0 journal e acted.3 acted.2 (old.acts k r (here ∙ ap Some was)))
+
+  acts' : part_of x' ≡ part_of x → (j : ℕ) (r : Rogue) → slice_get (slice_set actors k x') j ≡ Some (Kinds.Rogue r) → ((eqb j k ≡ true) × (j ≡ k)) ⊎ ((eqb j k ≡ false) × (j ≢ k)) → KeepsActs j r (journal ++ entry_of k e ∷ [])
+  acts' part j r at (inl same) =
+      let is : x' ≡ Kinds.Rogue r = some_is (sym (slice_get_written actors k x x' here) ∙ (ap (slice_get (slice_set actors k x')) (sym same.1) ∙ at)) in
+      let was : (q : Rogue) × (x ≡ Kinds.Rogue q) = rogue_was x r (sym part ∙ ap part_of is) in
+      subst (λ i. KeepsActs i r (journal ++ entry_of k e ∷ [])) (sym same.1) (acts_own r is was.0 was.1)
+  acts' part j r at (inr away) = acts_beside j r journal (entry_of k e) (λ h. away.1 (sym h)) (old.acts j r (sym (slice_get_beside actors k j x' away.1) ∙ at))
 
   all_parts : part_of x' ≡ part_of x → map part_of (slice_set actors k x') ≡ map part_of actors
   all_parts part = map_same part_of actors k x x' here part
@@ -206,61 +301,88 @@ module _ (history : History) (rows : List QueueRow) (w v : List Queue) (actors :
   unfolding passed'
   sends' wired new part = sends_on (end_at w) (end_at v) rows actors (slice_set actors k x') old.passed deed wired (all_parts part) works old.sends (works' new)
 
-  -- nothing comes out of turn after it
-  turns' : (pools : List PoolRow) → IsInPlace rows pools (map part_of actors) → FitsActor (end_at v) x' → part_of x' ≡ part_of x → (j : ℕ) (y : Actor) → slice_get (slice_set actors k x') j ≡ Some y → InTurn (scene_of (map part_of (slice_set actors k x'))) y passed'
-  turns' pools in_place new part = calm_turns (end_at v) rows pools (slice_set actors k x') passed' (subst (IsInPlace rows pools) (sym (all_parts part)) in_place) (works' new) (sends' (wired_place rows pools (map part_of actors) in_place) new part)
+  -- with the name of what it put, where names are kept
+  abbrev pub names' : List Noted
+  names' = names ++ notes_of wild (record { event = e; body = st.body })
 
-  -- rows hold before the call, and after it
-  rows_before : RowsHold (sheet (scene_of (map part_of actors))) (hostiles (map part_of actors)) (map part_of actors) (moved history journal)
-  rows_before = rows_at rows actors old.passed (moved history journal) (record { taken = old.shows_taken; sent = old.shows_sent }) old.in_turn old.stands
-
-  carry' : (pools : List PoolRow) → IsInPlace rows pools (map part_of actors) → ((n : ℕ) (row : QueueRow) → slice_get rows n ≡ Some row → row.producer.0 ≡ row.consumer.0 → ⊥) → FitsActor (end_at v) x' → part_of x' ≡ part_of x → (place : PoolPlace) → IsPlaced rows place (map part_of (slice_set actors k x')) → CarryPages (cast_naming (scene_of (map part_of (slice_set actors k x'))) place) (moved history (journal ++ entry_of k e ∷ [])) passed'
+  noted' : AreNoted wild names' passed'
   unfolding passed' deed
-  carry' pools in_place split new part place placed =
-      let placed_old : IsPlaced rows place (map part_of actors) = subst (IsPlaced rows place) (all_parts part) placed in
-      let turns = turns' pools in_place new part in
-      let items : HaveItems passed' (moved history (journal ++ entry_of k e ∷ [])) = record { taken = shows_taken'; sent = shows_sent' } in
-      let rows_new = rows_at rows (slice_set actors k x') passed' (moved history (journal ++ entry_of k e ∷ [])) items turns (λ j y at. stands' j y at (eqb_tells j k)) in
-      subst (λ c. CarryPages (cast_naming (scene_of c) place) (moved history (journal ++ entry_of k e ∷ [])) passed') (sym (all_parts part))
-      (carry_call rows place (map part_of actors) (moved history journal) (moved history (journal ++ entry_of k e ∷ [])) old.passed deed k x' (record {
-        calm = old.calm;
-        placed = placed_old;
-        seated = in_place.seated;
-        split = split;
-        carried = old.carry place placed_old;
-        rows_before = rows_before;
-        rows_after = subst (λ c. RowsHold (sheet (scene_of c)) (hostiles c) c (moved history (journal ++ entry_of k e ∷ []))) (all_parts part) rows_new;
-        began = λ n. ((queue_at w n).entries, sym (old.stands_there n));
-        items = items;
-        begins = λ n. ((queue_at v n).entries, sym (there_after n (eqb_tells e.queue.0 n)));
-        kinds = λ n row at j c there. kinds' n row at j c there (eqb_tells e.queue.0 n);
-        here = map_get part_of actors k x here ∙ ap Some (sym part);
-        in_turn = subst (λ c. InTurn (scene_of c) x' passed') (all_parts part) (turns k x' (slice_get_written actors k x x' here));
-        stands = st.kept old.passed (old.stands k x here);
-        fits = fits_whole (end_at v) x' new;
-        own = same_part x' x (role_of e.op) e.queue.0 (sym part) (fits_whole (end_at w) x (old.fits k x here)) own;
-      }))
+  noted' = notes_keep wild names old.passed deed old.noted
 
-  -- all goes on to hold
-  pub step_holds : (pools : List PoolRow) → IsInPlace rows pools (map part_of actors) → ((n : ℕ) (row : QueueRow) → slice_get rows n ≡ Some row → row.producer.0 ≡ row.consumer.0 → ⊥) → FitsActor (end_at v) x' → part_of x' ≡ part_of x → Holds history rows v (slice_set actors k x') (journal ++ entry_of k e ∷ [])
-  step_holds pools in_place split new part = record {
-    calm = subst AllCalm (sym (all_parts part)) old.calm;
-    passed = passed';
-    stands_there = λ n. there_after n (eqb_tells e.queue.0 n);
-    shows_taken = shows_taken';
-    shows_sent = shows_sent';
-    kinds = λ n row at j c there. kinds' n row at j c there (eqb_tells e.queue.0 n);
-    size = size';
-    queues = queues';
-    fits = λ j y at. fits' new j y at (eqb_tells j k);
-    stands = λ j y at. stands' j y at (eqb_tells j k);
-    carry = carry' pools in_place split new part;
-    sends = sends' (wired_place rows pools (map part_of actors) in_place) new part;
-    in_turn = turns' pools in_place new part;
-    owners = λ j y at. owners' part (fits_whole (end_at v) x' new) j y at (eqb_tells j k);
-    unstored = λ n row at calm. unstored' n row at (subst (λ cast. is_calm (hostiles cast) row ≡ true) (map_same part_of actors k x x' here part) calm) (eqb_tells e.queue.0 n);
-    paced = λ j y at calm. paced' j y at (subst (λ cast. HasCalmQueues (hostiles cast) rows j) (map_same part_of actors k x x' here part) calm) (eqb_tells j k);
-    peers = λ n row at r. rw length-set (old.peers n row at r);
-    few = rw length-set old.few;
-    legal = subst (λ cast. LegalJournal (hostiles cast) history rows (journal ++ entry_of k e ∷ [])) (sym (map_same part_of actors k x x' here part)) (EachFrom-append (LegalEntry hostile history rows) [] journal (entry_of k e) old.legal legal');
-  }
+  -- nothing comes out of turn after it
+  module _ (pools : List PoolRow) (in_place : IsInPlace rows pools (map part_of actors)) (split : (n : ℕ) (row : QueueRow) → slice_get rows n ≡ Some row → row.producer.0 ≡ row.consumer.0 → ⊥) (new : FitsActor (end_at v) x') (part : part_of x' ≡ part_of x) where
+    abbrev actors' : List Actor
+    actors' = slice_set actors k x'
+
+    parts : map part_of actors' ≡ map part_of actors
+    parts = all_parts part
+
+    sent_good : ClientsSend rows (map part_of actors') passed'
+    sent_good = sends' (wired_place rows pools (map part_of actors) in_place) new part
+
+    noted_there : AreNoted (wild_in (hostiles (map part_of actors')) rows) names' passed'
+    noted_there = subst (λ c. AreNoted (wild_in (hostiles c) rows) names' passed') (sym parts) noted'
+
+    turns' : (j : ℕ) (y : Actor) → slice_get actors' j ≡ Some y → ToldInTurn (scene_of (map part_of actors')) (wild_in (hostiles (map part_of actors')) rows) (told_by names') y passed'
+    turns' = told_turns (end_at v) rows pools actors' passed' (subst (IsInPlace rows pools) (sym parts) in_place) (works' new) sent_good (told_by names') (noted_tell (wild_in (hostiles (map part_of actors')) rows) names' passed' noted_there)
+
+    abbrev after_ : List Entry
+    after_ = journal ++ entry_of k e ∷ []
+
+    -- where nobody is hostile, entries go on to carry what their items name
+    module _ (calm : AllCalm (map part_of actors)) where
+      calm_turns' : (j : ℕ) (y : Actor) → slice_get actors' j ≡ Some y → InTurn (scene_of (map part_of actors')) y passed'
+      calm_turns' j y at = turns_calm (scene_of (map part_of actors')) (wild_in (hostiles (map part_of actors')) rows) (told_by names') y passed' (none_wild (map part_of actors') (subst AllCalm (sym parts) calm) rows) (turns' j y at)
+
+      -- rows hold before the call, and after it
+      rows_before : RowsHold (sheet (scene_of (map part_of actors))) (hostiles (map part_of actors)) (map part_of actors) (moved history journal)
+      rows_before = rows_at rows actors old.passed (moved history journal) (record { taken = old.shows_taken; sent = old.shows_sent }) (calm_turn history rows names w actors journal old calm) old.stands
+
+      carry' : (place : PoolPlace) → IsPlaced rows place (map part_of actors) → CarryPages (cast_naming (scene_of (map part_of actors)) place) (moved history after_) passed'
+      unfolding passed' deed
+      carry' place placed =
+          let items : HaveItems passed' (moved history after_) = record { taken = shows_taken'; sent = shows_sent' } in
+          let rows_new = rows_at rows actors' passed' (moved history after_) items calm_turns' (λ j y at. stands' j y at (eqb_tells j k)) in
+          carry_call rows place (map part_of actors) (moved history journal) (moved history after_) old.passed deed k x' (record {
+            calm = calm;
+            placed = placed;
+            seated = in_place.seated;
+            split = split;
+            carried = old.carry calm place placed;
+            rows_before = rows_before;
+            rows_after = subst (λ c. RowsHold (sheet (scene_of c)) (hostiles c) c (moved history after_)) parts rows_new;
+            began = λ n. ((queue_at w n).entries, sym (old.stands_there n));
+            items = items;
+            begins = λ n. ((queue_at v n).entries, sym (there_after n (eqb_tells e.queue.0 n)));
+            kinds = λ n row at j c there. kinds' n row at j c there (eqb_tells e.queue.0 n);
+            here = map_get part_of actors k x here ∙ ap Some (sym part);
+            in_turn = subst (λ c. InTurn (scene_of c) x' passed') parts (calm_turns' k x' (slice_get_written actors k x x' here));
+            stands = st.kept old.passed (old.stands k x here);
+            fits = fits_whole (end_at v) x' new;
+            own = same_part x' x (role_of e.op) e.queue.0 (sym part) (fits_whole (end_at w) x (old.fits k x here)) (own_is x e (calm k (part_of x) cast_here) call);
+          })
+
+    -- all goes on to hold
+    pub step_holds : Holds history rows names' v actors' after_
+    step_holds = record {
+      passed = passed';
+      stands_there = λ n. there_after n (eqb_tells e.queue.0 n);
+      shows_taken = shows_taken';
+      shows_sent = shows_sent';
+      kinds = λ n row at j c there. kinds' n row at j c there (eqb_tells e.queue.0 n);
+      size = size';
+      queues = queues';
+      fits = λ j y at. fits' new j y at (eqb_tells j k);
+      stands = λ j y at. stands' j y at (eqb_tells j k);
+      carry = λ calm place placed. subst (λ c. CarryPages (cast_naming (scene_of c) place) (moved history after_) passed') (sym parts) (carry' (subst AllCalm parts calm) place (subst (IsPlaced rows place) parts placed));
+      sends = sent_good;
+      noted = noted_there;
+      in_turn = turns';
+      acts = λ j r at. acts' part j r at (eqb_tells j k);
+      owners = λ j y at. owners' part (fits_whole (end_at v) x' new) j y at (eqb_tells j k);
+      unstored = λ n row at calm. unstored' n row at (subst (λ c. is_calm (hostiles c) row ≡ true) parts calm) (eqb_tells e.queue.0 n);
+      paced = λ j y at calm. paced' j y at (subst (λ c. HasCalmQueues (hostiles c) rows j) parts calm) (eqb_tells j k);
+      peers = λ n row at r. rw length-set (old.peers n row at r);
+      few = rw length-set old.few;
+      legal = subst (λ c. LegalJournal (hostiles c) history rows after_) (sym parts) (EachFrom-append (LegalEntry hostile history rows) [] journal (entry_of k e) old.legal legal');
+    }

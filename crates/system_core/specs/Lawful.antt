@@ -35,16 +35,14 @@ use Rattle.cast_law.specs.Pages.Paging.{part_pools, pools_weigh}
 use Rattle.cast_law.specs.Pools.Places.{PoolPlace, IsPlaced, HasPools, ArePooled, cast_naming}
 use Rattle.cast_law.specs.Pools.Places.{place_sizes}
 use Rattle.cast_law.specs.Pools.Pooling.{keepers_at, BeginsWith, HasOwners, AreKindly}
-use Rattle.system_core.specs.Shows.{Setting, Shown, hostile_in, moved_in, RowsStand}
+use Rattle.system_core.specs.Shows.{Setting, Shown, hostile_in, moved_in, NamesTell, RowsStand}
 
 -- the rows and the actors fit one another
 pub record IsFitted (s : Setting) : Type 0 where
   -- the scene is what these actors' parts give
   pub scene_is : s.scene ≡ scene_of s.cast
-  -- nobody is hostile
-  pub calm : AllCalm s.cast
-  -- so no names are kept
-  pub names_are : s.names ≡ []
+  -- where nobody is hostile no names are kept
+  pub names_are : AllCalm s.cast → s.names ≡ []
   -- each queue's owners are among the actors
   pub peopled : IsPeopled s.rows (length s.cast)
   -- each end of an actor is one that the rows give it
@@ -58,25 +56,27 @@ pub record IsFitted (s : Setting) : Type 0 where
   -- the actors of the network, if there are any, are the whole class at the layout's queues, and so
   -- are those of the block class
   pub wired : IsWiredIn s.scene s.rows s.cast
-  -- its pools are those of these classes, where it has them, and none else; and what was put and
-  -- taken before the journal begins shows a table of owners, in which each of their buffers has its
-  -- place
+  -- its pools are those of these classes, where it has them, and none else; and where nobody is
+  -- hostile, what was put and taken before the journal begins shows a table of owners, in which
+  -- each of their buffers has its place
   pub pooled : ArePooled s.rows s.pools s.cast
-  pub owners : (place : PoolPlace) → IsPlaced s.rows place s.cast → HasPools s.pools place
-      → HasOwners s.history s.rows place s.cast
+  pub owners : AllCalm s.cast → (place : PoolPlace) → IsPlaced s.rows place s.cast
+      → HasPools s.pools place → HasOwners s.history s.rows place s.cast
   -- each queue has a number of 16 bits
   pub numbered : length s.rows ≤ 65536
   -- and can hold an entry
   pub places : (n : ℕ) (row : QueueRow) → slice_get s.rows n ≡ Some row → IsCapacity row.capacity
 
 -- each queue hands over what was put, once and in order, each call is in discipline, at each moment
--- bells, queues and rows hold and queues have what is of their kind, and between two marks no actor
--- makes more than 8 calls on an end, but a hostile one or one that has a queue with a hostile end
+-- bells, queues and rows hold, names tell what rows and needs ask, and queues have what is of their
+-- kind; and between two marks no actor makes more than 8 calls on an end, but a hostile one or one
+-- that has a queue with a hostile end
 pub record IsLawful (s : Setting) (journal : List Entry) : Type 0 where
   pub legal : LegalJournal (hostile_in s) s.history s.rows journal
   pub bells_hold : EachMoment (BellsHold (hostile_in s) s.history s.rows) journal
   pub flows : EachMoment (QueuesFlow s.history s.rows) journal
   pub rows_hold : EachMoment (RowsStand s) journal
+  pub names_tell : EachMoment (NamesTell s) journal
   pub kinds : EachMoment (AreKindly s.history s.rows) journal
   pub brisk : Brisk (hostile_in s) s.rows no_drops journal
 
@@ -91,8 +91,8 @@ wire_of s net = wire_at net s.setting.scene.frames
     ((moved_in s.setting s.journal).taken (net.first + 2))
 
 -- at a place of the network the record of a client that has buffers is a beginning of the frames
--- for its address, a frame for each entry that it took; and what was sent on the device's wire is
--- what the journal tells, a merge of beginnings of what the clients send
+-- for its address, a frame for each entry that it took; and where nobody is hostile, what was sent
+-- on the device's wire is what the journal tells, a merge of beginnings of what the clients send
 pub record TellsFrames (s : Shown) (net : NetPlace) : Type 0 where
   pub records : (c k j : ℕ) (program : Program) (mac : Mac) (pools : ClientPools)
       (got : List (List ℕ)) → slice_get s.setting.net.clients c ≡ Some k
@@ -102,7 +102,7 @@ pub record TellsFrames (s : Shown) (net : NetPlace) : Type 0 where
       → IsPrefix got (frames_for mac s.setting.scene.frames)
       × (length got
       ≡ length ((moved_in s.setting s.journal).taken (client_first net.first j + 2)))
-  pub wire : (k : ℕ) → s.setting.net.device ≡ Some k
+  pub wire : AllCalm s.setting.cast → (k : ℕ) → s.setting.net.device ≡ Some k
       → slice_get s.setting.cast k
       ≡ Some (NetworkPart (device_at net.first s.setting.scene.frames))
       → (s.state.wire ≡ Some (wire_of s net))
@@ -145,27 +145,30 @@ pub record IsTold (s : Shown) : Type 0 where
   pub blk : length s.state.blk ≡ length s.setting.blk.clients
   pub replies : (blk : BlkPlace)
       → HasBlkIn s.setting.scene s.setting.rows blk s.setting.cast → TellsReplies s blk
-  -- the lines of the pools are those of the table of owners after the journal, from any table on
-  -- with which it begins
-  pub pools : (place : PoolPlace) → IsPlaced s.setting.rows place s.setting.cast
-      → HasPools s.setting.pools place → (start : Table)
+  -- where nobody is hostile, the lines of the pools are those of the table of owners after the
+  -- journal, from any table on with which it begins
+  pub pools : AllCalm s.setting.cast → (place : PoolPlace)
+      → IsPlaced s.setting.rows place s.setting.cast → HasPools s.setting.pools place
+      → (start : Table)
       → BeginsWith s.setting.history s.setting.rows place s.setting.cast start → s.state.pools
       ≡ table_lines (replay (cast_naming s.setting.scene place) s.setting.history start
       s.journal) 0 s.setting.pools
   -- so they are from the start state on, from the table on in which each pool's buffers are in the
   -- hand of the actor that owns it
-  pub pools_anew : s.setting.history ≡ start_history s.setting.rows → (place : PoolPlace)
+  pub pools_anew : AllCalm s.setting.cast
+      → s.setting.history ≡ start_history s.setting.rows → (place : PoolPlace)
       → IsPlaced s.setting.rows place s.setting.cast → HasPools s.setting.pools place
       → s.state.pools ≡ table_lines (replay (cast_naming s.setting.scene place)
       (start_history s.setting.rows) (start_table (keepers_at s.setting.cast)) s.journal) 0
       s.setting.pools
   -- without a network and a block class there are none
   pub no_pools : HasNoNetwork s.setting.cast → HasNoBlock s.setting.cast → s.state.pools ≡ []
-  -- the buffers are those of these pools, one by one
-  pub buffers : (place : PoolPlace) → IsPlaced s.setting.rows place s.setting.cast
-      → HasPools s.setting.pools place → TellsBuffers place s
-  -- nothing was counted as bad
-  pub bad : s.state.bad ≡ 0
+  -- where nobody is hostile, the buffers are those of these pools, one by one
+  pub buffers : AllCalm s.setting.cast → (place : PoolPlace)
+      → IsPlaced s.setting.rows place s.setting.cast → HasPools s.setting.pools place
+      → TellsBuffers place s
+  -- and nothing was counted as bad
+  pub bad : AllCalm s.setting.cast → s.state.bad ≡ 0
 
 -- all that holds of every system
 pub record StandsLawful (s : Shown) : Type 0 where

@@ -24,6 +24,7 @@ use Rattle.sdf_plan.specs.declared.plan.Serial.{Serial}
 use Rattle.trace_text.specs.declared.trace.Trace.{Trace}
 use Rattle.trace_text.specs.Traces.{IsReadFor}
 use Rattle.sdf_check.specs.Valid.{Valid}
+use Rattle.actor_set.specs.Laws.Kinds.{AllCalm}
 use Rattle.cast_law.specs.Places.{pool_place}
 use Rattle.expect_core.specs.Budgets.{budget_of}
 use Rattle.system_core.specs.Shows.{State, Shown, runs, moved_in}
@@ -85,6 +86,8 @@ pub record ShowsAllReplies (blk : BlkPlace) (s : State) : Type 0 where
 -- many plays it came to that journal, and whatever seeds picked its steps
 pub record IsSystemOf (plan : Plan) (trace : Trace) (s : Shown) : Type 0 where
   pub cast : IsCastOf plan trace s.setting
+  -- nobody is hostile
+  pub calm : AllCalm s.setting.cast
   -- whoever counts, the whole journal is shorter than the budget
   pub bounded : length s.journal < budget_of plan trace
   pub stands : StandsLawful s

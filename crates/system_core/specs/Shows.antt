@@ -10,6 +10,7 @@ use Rattle.wire_core.specs.declared.names.Event.{Event}
 use Rattle.wire_core.specs.declared.names.Entry.{Entry}
 use Rattle.wire_core.specs.Journal.{History, Hostiles}
 use Rattle.cargo_core.specs.declared.census.Census.{Census}
+use Rattle.play_core.specs.Growing.{AllWithin}
 use Rattle.play_core.specs.Moved.{Moved, moved}
 use Rattle.play_core.specs.Sheets.{Scene, Sheet, needful, RowsHold}
 use Rattle.play_core.specs.Manners.{Manners}
@@ -17,17 +18,17 @@ use Rattle.play_core.specs.Names.{Noted, told_by, wild_in}
 use Rattle.play_core.specs.Runs.{runnable}
 use Rattle.actor_set.specs.Parts.{Part}
 use Rattle.actor_set.specs.Laws.Kinds.{manners, hostiles}
-use Rattle.actor_set.specs.Laws.Scenes.{told_sheet}
+use Rattle.actor_set.specs.Laws.Scenes.{LiesWithin, told_sheet}
 
 -- which of the actors are the device and the clients of a class, these in their order
 pub record Crew : Type 0 where
   pub device : Option ℕ
   pub clients : List ℕ
 
--- what stays the same while a system is played, but for the names that are kept of entries of
--- queues with a hostile end, which may grow (there are none yet, as nobody is hostile): what its
--- queues had before its journal begins, its queues, its pools by their numbers, its actors' parts,
--- the scene in which needs and rows are said, and who is who in the classes
+-- what stays the same while a system is played, but for the names that are kept of what was put to
+-- queues with a hostile end, which grow: what its queues had before its journal begins, its queues,
+-- its pools by their numbers, its actors' parts, the scene in which needs and rows are said, and
+-- who is who in the classes
 pub record Setting : Type 0 where
   pub history : History
   pub rows : List QueueRow
@@ -80,9 +81,14 @@ runs s journal =
     runnable (manner_in s) s.history s.rows
     (needful (sheet_in s) s.cast (moved_in s journal)) journal
 
--- each actor's row holds after a journal
+-- the row of each actor that isn't hostile holds after a journal
 abbrev pub RowsStand : Setting → List Entry → Type 0
 RowsStand s journal = RowsHold (sheet_in s) (hostile_in s) s.cast (moved_in s journal)
+
+-- the names that are kept tell all that needs and rows ask of what passed by a journal
+abbrev pub NamesTell : Setting → List Entry → Type 0
+NamesTell s journal = AllWithin (LiesWithin (wild_in (hostile_in s) s.rows)) (told_by s.names)
+    s.history s.cast journal
 
 -- the setting stays but for the names that are kept, and these grew at their end
 pub record KeepsSetting (old new : Setting) : Type 0 where

@@ -10,22 +10,24 @@ use Rattle.wire_core.specs.Journal.{History, track, IsShown, LegalJournal, Bells
 use Rattle.wire_core.specs.Journal.{owner_of, is_calm}
 use Rattle.wire_core.specs.Marks.{HasCalmQueues, no_drops, since}
 use Rattle.play_core.specs.Moved.{moved}
+use Rattle.play_core.specs.Names.{AreNoted, Noted, told_by, wild_in}
 use Rattle.owner_law.specs.Pages.{CarryPages}
 use Rattle.turn_kit.specs.Pace.{Paced, pendings}
 use Rattle.actor_set.specs.Actors.{FitsActor, ActorStandsFor, ActorEnd, part_of, actor_round}
 use Rattle.actor_set.specs.Laws.Kinds.{AllCalm, hostiles, scene_of}
-use Rattle.actor_set.specs.Laws.Turning.{InTurn}
+use Rattle.actor_set.specs.Laws.Scenes.{ToldInTurn}
+use Rattle.actor_set.specs.Rogues.{KeepsActs}
+use Rattle.client_programs.specs.declared.rogue.Rogue.{Rogue}
 use Rattle.wired_law.specs.Wiring.{AreOfKind, ClientsSend}
 use Rattle.cast_law.specs.Pools.Places.{PoolPlace, IsPlaced, cast_naming}
 use Rattle.system_core.specs.Shows.{Setting, hostile_in}
 use Rattle.system_core.specs.Lawful.{IsFitted}
 use Rattle.actor_set.specs.declared.actor.Actor.{Actor}
+use Rattle.actor_set.specs.declared.actor.Actor.TheVariants as Kinds
 
--- the history, the queues, the actors and the journal belong together
-pub record Holds (history : History) (rows : List QueueRow) (world : List Queue)
-    (actors : List Actor) (journal : List Entry) : Type 0 where
-  -- no actor is hostile
-  pub calm : AllCalm (map part_of actors)
+-- the history, the names that are kept, the queues, the actors and the journal belong together
+pub record Holds (history : History) (rows : List QueueRow) (names : List Noted)
+    (world : List Queue) (actors : List Actor) (journal : List Entry) : Type 0 where
   -- the entries that the actors stand for, with their bodies; history and journal show their items
   pub passed : Passed
   -- in each queue stands what was put there and wasn't taken
@@ -39,15 +41,24 @@ pub record Holds (history : History) (rows : List QueueRow) (world : List Queue)
       → IsShown row (queue_at world n) (track history n journal)
   pub fits : (k : ℕ) (x : Actor) → slice_get actors k ≡ Some x → FitsActor (end_at world) x
   pub stands : (k : ℕ) (x : Actor) → slice_get actors k ≡ Some x → ActorStandsFor x passed
-  -- entries carry the pages that their items name, where the classes with pools stand
-  pub carry : (place : PoolPlace) → IsPlaced rows place (map part_of actors)
+  -- where nobody is hostile entries carry the pages that their items name, where the classes with
+  -- pools stand
+  pub carry : AllCalm (map part_of actors) → (place : PoolPlace)
+      → IsPlaced rows place (map part_of actors)
       → CarryPages (cast_naming (scene_of (map part_of actors)) place) (moved history journal)
       passed
-  -- the network's clients put good descriptors alone, those of the block class good requests
+  -- the network's clients that aren't hostile put good descriptors alone, those of the block class
+  -- good requests
   pub sends : ClientsSend rows (map part_of actors) passed
-  -- nothing came out of turn at any actor
+  -- the names that are kept are those of all that was put where they are kept
+  pub noted : AreNoted (wild_in (hostiles (map part_of actors)) rows) names passed
+  -- by these names nothing came out of turn at any actor
   pub in_turn : (k : ℕ) (x : Actor) → slice_get actors k ≡ Some x
-      → InTurn (scene_of (map part_of actors)) x passed
+      → ToldInTurn (scene_of (map part_of actors)) (wild_in (hostiles (map part_of actors)) rows)
+      (told_by names) x passed
+  -- a hostile client made the calls of its acts
+  pub acts : (k : ℕ) (r : Rogue) → slice_get actors k ≡ Some (Kinds.Rogue r)
+      → KeepsActs k r journal
   pub owners : (k : ℕ) (x : Actor) → slice_get actors k ≡ Some x → (r : Role) (n : ℕ)
       → ActorEnd x r n → (row : QueueRow) → slice_get rows n ≡ Some row → owner_of row r ≡ k
   -- at a queue with no hostile end no word was stored
@@ -73,4 +84,4 @@ pub record HoldsBefore (s : Setting) : Type 0 where
 pub record GoesOn (s : Setting) (world : List Queue) (actors : List Actor) : Type 0 where
   pub fitted : IsFitted s
   pub before : HoldsBefore s
-  pub holds : Holds s.history s.rows world actors []
+  pub holds : Holds s.history s.rows s.names world actors []

@@ -8,6 +8,7 @@ mod crew;
 mod crews;
 mod isolation;
 mod lines;
+mod names;
 mod records;
 mod system;
 

@@ -2,9 +2,8 @@
 ghost use Rattle.std.specs.Prelude.{◌≡◌, ◌+◌, ◌<◌, ◌≤◌, ◌^◌, length, IfOk};
 ghost use Rattle.cast_law.specs.PoolLines.PoolLines.{line_of, counted, counted_lines};
 ghost use Rattle.cast_law.specs.Pools.Holders.{holders_of};
-ghost use Rattle.cast_law.specs.Pools.Pooling.{AddUp};
 ghost use Rattle.system_core.specs.States.{held_by, lent_by, bad_in};
-ghost use Rattle.system_core.specs.Asking.{AreWhole};
+ghost use Rattle.system_core.specs.Asking.{AreWhole, HoldNoMore};
 
 use actor_set::Actor;
 use cargo_core::{Memory, PoolId, Series, Text};
@@ -74,7 +73,7 @@ fn line(
     requires queues { length world.now ≤ 65536 }
     requires all { (counted world.now (holders_of actors.now) pool).queues
         + (counted world.now (holders_of actors.now) pool).hands
-        + (counted world.now (holders_of actors.now) pool).lent ≡ row.now.buffers }
+        + (counted world.now (holders_of actors.now) pool).lent ≤ row.now.buffers }
     ensures { IfOk result
         (λ l. l ≡ line_of row.now (counted world.now (holders_of actors.now) pool)) }
 {
@@ -98,7 +97,7 @@ pub fn lines(
     requires whole { AreWhole actors.now }
     requires queues { length world.now ≤ 65536 }
     requires few { length pools.now ≤ 65536 }
-    requires all { AddUp world.now (holders_of actors.now) pools.now }
+    requires all { HoldNoMore world.now (holders_of actors.now) pools.now }
     ensures { IfOk result
         (λ ls. ls ≡ counted_lines world.now (holders_of actors.now) 0 pools.now) }
 {

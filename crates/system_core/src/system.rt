@@ -1,19 +1,19 @@
 //! The system at play: the queues of a layout with the actors at them, its steps, and what is seen
 //! of it. It stands here, above actors and descriptions, since a plan and a trace say who acts.
 ghost use Rattle.std.specs.Prelude.{◌≡◌, ◌<◌, ◌≤◌, ℕ, List, length, map, OnOk, OnErr, IfOk};
-ghost use Rattle.std.specs.Prelude.{slice_get, Some, None, []};
-ghost use Rattle.wire_core.specs.Queues.{is_pending, starts};
-ghost use Rattle.wire_core.specs.Ends.{role_of};
-ghost use Rattle.wire_core.specs.Journal.{start_history, owner_of};
+ghost use Rattle.std.specs.Prelude.{◌==◌, false, not, slice_get, Some, None, []};
+ghost use Rattle.wire_core.specs.Queues.{is_pending, is_store, starts};
+ghost use Rattle.wire_core.specs.Ends.{role_of, word_role};
+ghost use Rattle.wire_core.specs.Journal.{EachMoment, start_history, owner_of};
 ghost use Rattle.play_core.specs.Runs.{other_owner, reaches, reach_of};
 ghost use Rattle.actor_set.specs.Actors.{actor_rests, part_of};
 ghost use Rattle.trace_text.specs.Traces.{IsReadFor};
 ghost use Rattle.region_layout.specs.Layouts.{layout_of};
 ghost use Rattle.sdf_check.specs.Valid.{Valid};
 ghost use Rattle.cast_core.specs.Hostile.{HasNoRogue};
-ghost use Rattle.actor_set.specs.Laws.Kinds.{AllCalm, manner_of, idles};
+ghost use Rattle.actor_set.specs.Laws.Kinds.{manner_of, idles};
 ghost use Rattle.cast_law.specs.Pools.Places.{ArePooled};
-ghost use Rattle.system_core.specs.Shows.{runs};
+ghost use Rattle.system_core.specs.Shows.{NamesTell, runs};
 ghost use Rattle.system_core.specs.States.{history_of, begun, nobody, started};
 ghost use Rattle.system_core.specs.Systems.{Holds, GoesOn};
 ghost use Rattle.cast_law.specs.Seats.{AreSeated};
@@ -21,7 +21,7 @@ ghost use Rattle.system_core.specs.Lawful.{StandsLawful};
 ghost use Rattle.system_core.specs.Reports.{report_of};
 ghost use Rattle.player_kit.specs.Runnings.{removed_if, with_option};
 ghost use Rattle.system_core.specs.Plays.{Played, IsSpent, StepsAt, runnable_now};
-ghost use Rattle.system_core.specs.Asking.{IsAsked};
+ghost use Rattle.system_core.specs.Asking.{IsAsked, store_word};
 ghost use Rattle.system_core.specs.Builds.{IsBuilt};
 ghost use Rattle.system_core.specs.PlanPlays.{IsSystemOf, IsOfItsPlan, StaysOfItsPlan};
 ghost use Rattle.system_core.specs.PlanPlays.{IsPlayed, HasEnded};
@@ -31,11 +31,13 @@ mod apart;
 use crate::crew::Crew;
 use crate::crews::{blk_crew, net_crew, serial_crew};
 use crate::lines::{bad, lines, pool_copies};
+use crate::names::{keep_name, kept_queues, make_room};
 use crate::records::{frame_records, line, records, replies, wire};
 use actor_set::Actor;
-use cargo_core::{Memory, Series};
+use cargo_core::{Memory, Series, Word};
 use cast_core::{cast, copies};
 use expect_core::Report;
+use noted_wires::{Noted, NotedWires};
 use plain_wires::World;
 use player_kit::Running;
 use region_layout::Layout;
@@ -63,7 +65,9 @@ pub struct System {
     alloc: Global,
     rows: Vec<QueueRow>,
     pools: Vec<PoolRow>,
-    world: World,
+    wires: NotedWires,
+    // The names that are kept of what was put to queues with a hostile end.
+    names: Vec<Noted>,
     actors: Vec<Actor>,
     net: Crew,
     serial: Crew,
@@ -115,15 +119,45 @@ fn reaches(op: Op) -> bool
     matches!(op, Op::Ring(_))
 }
 
-// The other owner of a queue, where a call of this actor at an end of its own may change whether
-// that one is runnable.
+// The word in which a call stores, if it does.
+fn store_word(op: Op) -> Option<Word>
+    ensures { result ≡ store_word op }
+{
+    match op {
+        Op::Store(word, _) => Some(word),
+        _ => None,
+    }
+}
+
+// The owner of the end whose word it is.
+fn word_owner(row: &QueueRow, word: Word) -> u16
+    ensures { result ≡ owner_of row.now (word_role word) }
+{
+    match word {
+        Word::Head | Word::Flag | Word::Pending => row.consumer.0,
+        Word::Tail | Word::FlagBack | Word::PendingBack => row.producer.0,
+    }
+}
+
+// Whether a call is made at the end of the other owner: a hostile actor's store may be.
 #[inline(always)]
-#[tactic(auto, using(crate::proofs::Stepping::own_reach))]
+fn is_beside(op: Op, row: &QueueRow, caller: u16) -> bool
+    requires { is_store op ≡ false → owner_of row.now (role_of op) ≡ caller }
+    ensures { result ≡ not (owner_of row.now (role_of op) == caller) }
+{
+    match store_word(op) {
+        Some(word) => word_owner(row, word) != caller,
+        None => false,
+    }
+}
+
+// The other owner of a queue, where a call may change whether that one is runnable.
+#[inline(always)]
 fn reach(op: Op, row: &QueueRow, caller: u16) -> Option<u16>
-    requires { owner_of row.now (role_of op) ≡ caller }
+    requires { is_store op ≡ false → owner_of row.now (role_of op) ≡ caller }
     ensures { result ≡ reach_of op row.now caller }
 {
-    if reaches(op) {
+    if reaches(op) || is_beside(op, row, caller) {
         Some(other_owner(row, caller))
     } else {
         None
@@ -149,7 +183,8 @@ fn first_running(
     actors: &[Actor],
     past: &Snapshot<Vec<Ended>>,
 ) -> Result<Running, Memory>
-    requires { Holds (history_of rows.now past.now.value.items) rows.now world.now actors.now [] }
+    requires { Holds (history_of rows.now past.now.value.items) rows.now [] world.now actors.now
+        [] }
     ensures list { IfOk result (λ r. r.list
         ≡ runs (begun (history_of rows.now past.now.value.items) rows.now [] actors.now
         nobody nobody nobody) []) }
@@ -223,11 +258,17 @@ impl System {
         ensures of_plan { IfOk result IsOfItsPlan }
     {
         let running = first_running(alloc, &rows, &world, &actors, &past)?;
+        let kept = kept_queues(alloc, &rows, &actors)?;
         let system = System {
             alloc,
             rows,
             pools,
-            world,
+            wires: NotedWires {
+                world,
+                kept,
+                last: None,
+            },
+            names: Vec::new(alloc),
             actors,
             net,
             serial,
@@ -249,8 +290,8 @@ impl System {
         let _made = self.journal.len();
     }
 
-    /// The system of a plan without hostile clients in its start state: the actors and queues of its
-    /// layout, with what a trace gives them.
+    /// The system of a plan without hostile clients in its start state: the actors and queues of
+    /// its layout, with what a trace gives them.
     pub fn build(
         alloc: Global,
         plan: &Plan,
@@ -286,7 +327,7 @@ impl System {
             line: line(self.alloc, &self.actors, self.serial.device())?,
             serial: records(self.alloc, &self.actors, self.serial.clients())?,
             blk: replies(self.alloc, &self.actors, self.blk.clients())?,
-            pools: lines(self.alloc, &self.pools, &self.world, &self.actors)?,
+            pools: lines(self.alloc, &self.pools, &self.wires.world, &self.actors)?,
             bad: bad(&self.actors),
         })
     }
@@ -309,7 +350,7 @@ impl System {
 
     fn runnable_count(&self) -> usize
         ensures count { result ≡ length (runnable_now self.now) }
-        ensures calm { AllCalm self.now.setting.cast }
+        ensures told { EachMoment (NamesTell self.now.setting) self.now.journal }
     {
         self.running.len()
     }
@@ -320,19 +361,20 @@ impl System {
         ensures ok { OnOk result (StepsAt place self.old self.new) }
         ensures err { OnErr result (self.new ≡ self.old) }
     {
-        self.journal.reserve(1)?;
+        make_room(&mut self.journal, &mut self.names, &self.wires.kept)?;
         let number = self.running.at(place);
         let actor = &mut self.actors[number as usize];
-        let event = actor.step(&mut self.world)?;
+        let event = actor.step(&mut self.wires)?;
+        keep_name(&mut self.names, &mut self.wires.last, event.queue);
         self.journal.push_reserved(Entry {
             actor: ActorId(number),
             event,
         });
         let actor = &self.actors[number as usize];
-        let idle = is_idle(actor, &self.world, ActorId(number));
+        let idle = is_idle(actor, &self.wires.world, ActorId(number));
         let row = &self.rows[event.queue.0 as usize];
         let other = reach(event.op, row, number);
-        let runs = is_runnable(&self.actors, &self.world, other);
+        let runs = is_runnable(&self.actors, &self.wires.world, other);
         self.running.note(place, idle, other, runs);
         Ok(())
     }
@@ -357,6 +399,7 @@ impl System {
     // Makes steps of actors that the seed picks, until none is runnable or so many were made.
     fn play_on(&mut self, seed: u64, limit: u64) -> Result<Ending, Memory>
         ensures played { Played self.old self.new seed limit }
+        ensures rests { runnable_now self.old ≡ [] → self.new ≡ self.old }
         ensures quiet { IfOk result (λ e. e ≡ Ending.Quiet → runnable_now self.new ≡ []) }
         ensures spent { IfOk result (λ e. e ≡ Ending.Spent → IsSpent self.old self.new limit) }
     {

@@ -1,5 +1,5 @@
 -- Each buffer of a cast's pools is there once, and none has another length than its pool's.
-use Rattle.std.proofs.Common.{◌≡◌, ◌≢◌, ◌⊎◌, ◌==◌, ◌&&◌, ◌+◌, ◌<◌, ◌≤◌, ℕ, zero, suc, Bool, true, false, not, cond, if◌then◌else◌, Some, List, [], ◌∷◌, length, map, flat_map, slice_get, count_by, refl, sym, ap, ◌∙◌, arith, eq-eqb, inl, inr}
+use Rattle.std.proofs.Common.{◌≡◌, ◌≢◌, ◌⊎◌, ◌==◌, ◌&&◌, ◌+◌, ◌++◌, ◌<◌, ◌≤◌, ℕ, zero, suc, Bool, true, false, not, cond, if◌then◌else◌, Some, List, [], ◌∷◌, length, map, flat_map, slice_get, count_by, refl, sym, ap, ◌∙◌, subst, arith, eq-eqb, inl, inr}
 use Rattle.std.specs.List.{sum_by}
 use Rattle.std.proofs.Math.Dec.{eqb}
 use Rattle.std.proofs.lemmas.Bool.{cases_lt}
@@ -70,7 +70,7 @@ module _ (pool number : ℕ) where
       by true rest = omega (arith, rest, sum_by-cons (λ x. cond {A = ℕ} (x == number) 1 0) p.number (pages_in ps pool))
       by false rest = omega (arith, rest)
 
-  part_count : (scene : Scene) (p : Part) → part_weighs the p ≡ at_start (sheet scene p).hand buffer
+  pub part_count : (scene : Scene) (p : Part) → part_weighs the p ≡ at_start (sheet scene p).hand buffer
   part_count scene (UartPart rx tx input) = refl
   part_count scene (DriverPart device_rx device_tx rx tx) = refl
   part_count scene (RxPart rx clients) = refl
@@ -90,7 +90,7 @@ module _ (pool number : ℕ) where
   part_count scene (BlockPart (BlkClient req resp asks p)) = omega (arith, one_count p)
   part_count scene (HostilePart p) = omega (arith, told_count p.pages)
 
-  parts_count : (scene : Scene) (cast : List Part) → pools_weigh the cast ≡ sum_by (λ (k : Keeper). at_start k.hand buffer) (map (λ p. keeper_of (sheet scene p)) cast)
+  pub parts_count : (scene : Scene) (cast : List Part) → pools_weigh the cast ≡ sum_by (λ (k : Keeper). at_start k.hand buffer) (map (λ p. keeper_of (sheet scene p)) cast)
   parts_count scene [] = refl
   parts_count scene (p ∷ cast) =
       omega (
@@ -135,6 +135,21 @@ two_least g (z ∷ xs) zero zero x y at at' ne = absurd (ne refl)
 two_least g (z ∷ xs) zero (suc j) x y at at' ne = omega (arith, sum_by-cons g z xs, ap g (some_is at), at_least g xs j y at')
 two_least g (z ∷ xs) (suc i) zero x y at at' ne = omega (arith, sum_by-cons g z xs, ap g (some_is at'), at_least g xs i x at)
 two_least g (z ∷ xs) (suc i) (suc j) x y at at' ne = omega (arith, sum_by-cons g z xs, two_least g xs i j x y at at' (λ e. ne (ap (λ n. suc n) e)))
+
+-- an element of one of the lists is one of all together
+get_left : {Y : Type 0} (xs ys : List Y) (j : ℕ) (y : Y) → slice_get xs j ≡ Some y → slice_get (xs ++ ys) j ≡ Some y
+get_left [] ys j y at = cc
+get_left (x ∷ xs) ys zero y at = at
+get_left (x ∷ xs) ys (suc j) y at = get_left xs ys j y at
+
+get_right : {Y : Type 0} (xs ys : List Y) (n : ℕ) (y : Y) → slice_get ys n ≡ Some y → (m : ℕ) × (slice_get (xs ++ ys) m ≡ Some y)
+get_right [] ys n y at = (n, at)
+get_right (x ∷ xs) ys n y at = let r = get_right xs ys n y at in (suc r.0, r.1)
+
+pub in_flat : {X Y : Type 0} (g : X → List Y) (xs : List X) (i : ℕ) (x : X) → slice_get xs i ≡ Some x → (j : ℕ) (y : Y) → slice_get (g x) j ≡ Some y → (n : ℕ) × (slice_get (flat_map g xs) n ≡ Some y)
+in_flat g [] i x at j y at' = cc
+in_flat g (z ∷ xs) zero x at j y at' = (j, get_left (g z) (flat_map g xs) j y (subst (λ w. slice_get (g w) j ≡ Some y) (sym (some_is at)) at'))
+in_flat g (z ∷ xs) (suc i) x at j y at' = let r = in_flat g xs i x at j y at' in get_right (g z) (flat_map g xs) r.0 y r.1
 
 module _ (rows : List QueueRow) (pools : List PoolRow) (place : PoolPlace) (cast : List Part) (calm : AllCalm cast) (seated : AreSeated (sheet (scene_of cast)) rows cast) (placed : IsPlaced rows place cast) (has : HasPools pools place) where
   abbrev owns : ℕ → ℕ

@@ -34,13 +34,13 @@ use Rattle.actor_set.specs.declared.actor.Actor.{Actor}
 use Rattle.actor_set.specs.Laws.Kinds.{sheet, scene_of}
 use Rattle.actor_set.proofs.LawsLemmas.Starts.{fits_whole}
 use Rattle.wired_law.specs.Wiring.{AreAtWork}
-use Rattle.cast_law.specs.Pools.Places.{PoolPlace, IsPlaced, HasPools, cast_naming, place_sizes}
-use Rattle.cast_law.specs.Pools.Pooling.{AreAtPlay}
+use Rattle.cast_law.specs.Pools.Places.{PoolPlace, IsPlaced, HasPools, cast_naming, place_pools, place_sizes}
+use Rattle.cast_law.specs.Pools.Pooling.{AreAtPlay, AreOverQueues}
 use Rattle.cast_law.specs.Pages.Paging.{AllStand, actor_lends, shown_bodies, page_holder, page_holders, actor_weighs, cast_weighs, part_pools, part_weighs, pools_weigh}
 use Rattle.cast_law.proofs.PoolsLemmas.Apart.{ends_apart}
 use Rattle.cast_law.proofs.PoolsLemmas.Naming.{names_at}
 use Rattle.cast_law.proofs.PagesLemmas.Lending.{kept_lends}
-use Rattle.cast_law.proofs.PagesLemmas.Counting.{pages_once, lengths_one}
+use Rattle.cast_law.proofs.PagesLemmas.Beside.{lengths_part, lengths_place, once_all}
 use Rattle.cast_law.proofs.PagesLemmas.Acting.{actor_conserves, start_weighs}
 
 -- a part's sheet without what it has
@@ -83,28 +83,13 @@ queues_weigh f [] = refl
 queues_weigh f (q ∷ world) =
     omega (arith, first_sum (λ n. weighed f (queue_at (q ∷ world) n).entries) (length world), queues_weigh f world, sum_by-cons (λ (r : Queue). weighed f r.entries) q world)
 
-counted-flat : {X : Type 0} (f : Count) (g : X → List Body) (xs : List X) → counted f (flat_map g xs) ≡ sum_by (λ x. counted f (g x)) xs
+pub counted-flat : {X : Type 0} (f : Count) (g : X → List Body) (xs : List X) → counted f (flat_map g xs) ≡ sum_by (λ x. counted f (g x)) xs
 counted-flat f g [] = refl
 counted-flat f g (x ∷ xs) = omega (arith, counted-append f (g x) (flat_map g xs), sum_by-cons (λ y. counted f (g y)) x xs, counted-flat f g xs)
 
-sums_alike : (xs : List Actor) (g h : Actor → ℕ) → ((k : ℕ) (x : Actor) → slice_get xs k ≡ Some x → g x ≡ h x) → sum_by g xs ≡ sum_by h xs
+pub sums_alike : (xs : List Actor) (g h : Actor → ℕ) → ((k : ℕ) (x : Actor) → slice_get xs k ≡ Some x → g x ≡ h x) → sum_by g xs ≡ sum_by h xs
 sums_alike [] g h same = refl
 sums_alike (x ∷ xs) g h same = omega (arith, sum_by-cons g x xs, sum_by-cons h x xs, same 0 x refl, sums_alike xs g h (λ k y at. same (suc k) y at))
-
--- an element of one of the lists is one of all together
-get_left : {Y : Type 0} (xs ys : List Y) (j : ℕ) (y : Y) → slice_get xs j ≡ Some y → slice_get (xs ++ ys) j ≡ Some y
-get_left [] ys j y at = cc
-get_left (x ∷ xs) ys zero y at = at
-get_left (x ∷ xs) ys (suc j) y at = get_left xs ys j y at
-
-get_right : {Y : Type 0} (xs ys : List Y) (n : ℕ) (y : Y) → slice_get ys n ≡ Some y → (m : ℕ) × (slice_get (xs ++ ys) m ≡ Some y)
-get_right [] ys n y at = (n, at)
-get_right (x ∷ xs) ys n y at = let r = get_right xs ys n y at in (suc r.0, r.1)
-
-pub in_flat : {X Y : Type 0} (g : X → List Y) (xs : List X) (i : ℕ) (x : X) → slice_get xs i ≡ Some x → (j : ℕ) (y : Y) → slice_get (g x) j ≡ Some y → (n : ℕ) × (slice_get (flat_map g xs) n ≡ Some y)
-in_flat g [] i x at j y at' = cc
-in_flat g (z ∷ xs) zero x at j y at' = (j, get_left (g z) (flat_map g xs) j y (subst (λ w. slice_get (g w) j ≡ Some y) (sym (some_is at)) at'))
-in_flat g (z ∷ xs) (suc i) x at j y at' = let r = in_flat g xs i x at j y at' in get_right (g z) (flat_map g xs) r.0 y r.1
 
 -- at work, each with just the ends that the rows give it
 module _ (ends : Role → ℕ → End) (rows : List QueueRow) (actors : List Actor) (passed : Passed) (peopled : IsPeopled rows (length (map part_of actors))) (seated : AreSeated (sheet (scene_of (map part_of actors))) rows (map part_of actors)) (filled : AreFilled (sheet (scene_of (map part_of actors))) rows (map part_of actors)) (work : AreAtWork ends rows actors passed) where
@@ -135,7 +120,7 @@ module _ (ends : Role → ℕ → End) (rows : List QueueRow) (actors : List Act
       let hands = has_weighs f (scene_of parts) actors passed work.stands in
       omega (arith, all, start, hands)
 
-module _ (history : History) (rows : List QueueRow) (actors : List Actor) (journal : List Entry) (passed : Passed) (world : List Queue) (play : AreAtPlay history rows actors journal passed world) where
+module _ (rows : List QueueRow) (actors : List Actor) (passed : Passed) (world : List Queue) (over : AreOverQueues rows actors passed world) where
   abbrev cast : List Part
   cast = map part_of actors
 
@@ -143,41 +128,45 @@ module _ (history : History) (rows : List QueueRow) (actors : List Actor) (journ
   scene = scene_of cast
 
   abbrev held : List PageHolder
-  held = page_holders scene actors passed play.stands
+  held = page_holders scene actors passed over.stands
 
   abbrev work : AreAtWork (end_at world) rows actors passed
-  work = record { fits = play.fits; stands = play.stands; hands_over = λ n. ((queue_at world n).entries, sym (play.stands_there n)); kinds = play.kinds }
+  work = record { fits = over.fits; stands = over.stands; hands_over = λ n. ((queue_at world n).entries, sym (over.stands_there n)); kinds = over.kinds }
 
   pub cast_held : AreHeld rows held passed
-  cast_held = work_held (end_at world) rows actors passed play.peopled play.seated play.filled work
+  cast_held = work_held (end_at world) rows actors passed over.peopled over.seated over.filled work
 
   pub cast_whole : (f : Count) → cast_weighs f passed world actors ≡ pools_weigh f cast
   cast_whole f =
-      let all = work_weighs (end_at world) rows actors passed play.peopled play.seated play.filled work f in
-      let each = same_sum (queue_has f passed) (λ n. weighed f (queue_at world n).entries) (length rows) (λ n lt. ap (weighed f) (ap (drop (length (passed.taken n))) (play.stands_there n) ∙ rest_is (passed.taken n) (queue_at world n).entries)) in
-      let many = ap (sum_below (λ n. weighed f (queue_at world n).entries)) (sym play.size) in
+      let all = work_weighs (end_at world) rows actors passed over.peopled over.seated over.filled work f in
+      let each = same_sum (queue_has f passed) (λ n. weighed f (queue_at world n).entries) (length rows) (λ n lt. ap (weighed f) (ap (drop (length (passed.taken n))) (over.stands_there n) ∙ rest_is (passed.taken n) (queue_at world n).entries)) in
+      let many = ap (sum_below (λ n. weighed f (queue_at world n).entries)) (sym over.size) in
       let queues = queues_weigh f world in
       omega (arith, all, each, many, queues)
 
   -- so each buffer is there once, and none of a pool has another length
   module _ (pools : List PoolRow) (place : PoolPlace) (placed : IsPlaced rows place cast) (has : HasPools pools place) where
     pub cast_once : (pool number : ℕ) → number < place_sizes place pool → cast_weighs (the_page (record { 0 = pool }) number) passed world actors ≡ 1
-    cast_once pool number lt = cast_whole (the_page (record { 0 = pool }) number) ∙ pages_once rows pools place cast play.calm play.seated placed has pool number lt
+    cast_once pool number lt = cast_whole (the_page (record { 0 = pool }) number) ∙ once_all rows pools place cast over.seated placed has pool number lt
 
     pub cast_lengths : (i : ℕ) (p : Part) → slice_get cast i ≡ Some p → (j : ℕ) (q : PoolAt) → slice_get (part_pools p) j ≡ Some q → 1 ≤ q.buffers → cast_weighs (of_other_length (record { 0 = q.number }) q.size) passed world actors ≡ 0
-    cast_lengths i p at j q at' some =
-        let n = in_flat part_pools cast i p at j q at' in
-        cast_whole (of_other_length (record { 0 = q.number }) q.size) ∙ lengths_one rows pools place cast play.calm play.seated placed has n.0 q n.1 some
+    cast_lengths i p at j q there some = cast_whole (of_other_length (record { 0 = q.number }) q.size) ∙ lengths_part rows pools place cast over.seated placed has i p at j q there some
 
-    -- where entries carry what their items name, actors keep what they have lent alone
-    pub cast_shown : CarryPages (cast_naming scene place) (moved history journal) passed → (f : Count) → counted f (shown_bodies world actors) ≡ pools_weigh f cast
-    cast_shown carry f =
-        let same = sums_alike actors (actor_weighs f passed) (λ x. counted f (actor_hand x ++ actor_lends x)) (λ k x at.
-        let names = names_at rows cast play.calm play.seated place.net place.blk placed.net placed.blk k (part_of x) (map_get part_of actors k x at) in
-        let takes = carry_takes (cast_naming scene place) (moved history journal) passed (sheet scene (part_of x)).ends carry (λ n. ((queue_at world n).entries, sym (play.stands_there n))) in
-        let lent = kept_lends (cast_naming scene place) scene (moved history journal) passed f x names takes in
-        omega (arith, lent, counted-append f (actor_hand x) (actor_lends x))) in
-        let parts = counted-append f (flat_map (λ (q : Queue). bodies_of q.entries) world) (flat_map (λ x. actor_hand x ++ actor_lends x) actors) in
-        let queues = counted-flat f (λ (q : Queue). bodies_of q.entries) world in
-        let hands = counted-flat f (λ x. actor_hand x ++ actor_lends x) actors in
-        omega (arith, cast_whole f, same, parts, queues, hands)
+    pub place_lengths : (i : ℕ) (q : PoolAt) → slice_get (place_pools place) i ≡ Some q → 1 ≤ q.buffers → cast_weighs (of_other_length (record { 0 = q.number }) q.size) passed world actors ≡ 0
+    place_lengths i q at some = cast_whole (of_other_length (record { 0 = q.number }) q.size) ∙ lengths_place rows pools place cast over.seated placed has i q at some
+
+-- where nobody is hostile and entries carry what their items name, actors keep what they have lent alone
+module _ (history : History) (rows : List QueueRow) (actors : List Actor) (journal : List Entry) (passed : Passed) (world : List Queue) (play : AreAtPlay history rows actors journal passed world) (pools : List PoolRow) (place : PoolPlace) (placed : IsPlaced rows place (map part_of actors)) (has : HasPools pools place) where
+  pub cast_shown : CarryPages (cast_naming (scene_of (map part_of actors)) place) (moved history journal) passed → (f : Count) → counted f (shown_bodies world actors) ≡ pools_weigh f (map part_of actors)
+  cast_shown carry f =
+      let parts : List Part = map part_of actors in
+      let scene : Scene = scene_of parts in
+      let same = sums_alike actors (actor_weighs f passed) (λ x. counted f (actor_hand x ++ actor_lends x)) (λ k x at.
+      let names = names_at rows parts play.calm play.over.seated place.net place.blk placed.net placed.blk k (part_of x) (map_get part_of actors k x at) in
+      let takes = carry_takes (cast_naming scene place) (moved history journal) passed (sheet scene (part_of x)).ends carry (λ n. ((queue_at world n).entries, sym (play.over.stands_there n))) in
+      let lent = kept_lends (cast_naming scene place) scene (moved history journal) passed f x names takes in
+      omega (arith, lent, counted-append f (actor_hand x) (actor_lends x))) in
+      let all = counted-append f (flat_map (λ (q : Queue). bodies_of q.entries) world) (flat_map (λ x. actor_hand x ++ actor_lends x) actors) in
+      let queues = counted-flat f (λ (q : Queue). bodies_of q.entries) world in
+      let hands = counted-flat f (λ x. actor_hand x ++ actor_lends x) actors in
+      omega (arith, cast_whole rows actors passed world play.over f, same, all, queues, hands)

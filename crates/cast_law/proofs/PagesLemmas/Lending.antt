@@ -31,7 +31,7 @@ none_weighs f (Carried.Page page) none =
     let one : bit ((page.pool.0 == page.pool.0) && (page.no == page.no)) ≡ 1 = rw (eq-eqb page.pool.0 page.pool.0 refl, eq-eqb page.no page.no refl) refl in
     absurd (omega (arith, one, none (record { pool = page.pool.0; no = page.no })))
 
-all_none : (f : Count) (cs : List Cargo) → ((k : ℕ) (c : Cargo) → slice_get cs k ≡ Some c → HasNone c) → weighed f cs ≡ 0
+pub all_none : (f : Count) (cs : List Cargo) → ((k : ℕ) (c : Cargo) → slice_get cs k ≡ Some c → HasNone c) → weighed f cs ≡ 0
 all_none f [] none = refl
 all_none f (c ∷ cs) none = omega (arith, none_weighs f c.1 (none 0 c refl), all_none f cs (λ k d at. none (suc k) d at))
 

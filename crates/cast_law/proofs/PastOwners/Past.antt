@@ -61,21 +61,21 @@ module _ (history : History) (rows : List QueueRow) (pools : List PoolRow) (plac
   m = moved history []
 
   abbrev lender : ℕ
-  lender = lender_at rows cast play.calm play.seated place.net placed.net
+  lender = lender_at rows cast play.calm play.over.seated place.net placed.net
 
   named : IsNaming naming lender hostile rows
-  named = naming_is rows cast play.calm play.seated place.net place.blk placed.net placed.blk
+  named = naming_is rows cast play.calm play.over.seated place.net place.blk placed.net placed.blk
 
   actor_at : (k : ℕ) (p : Part) → slice_get cast k ≡ Some p → (x : Actor) × (slice_get actors k ≡ Some x) × (part_of x ≡ p)
   actor_at k p at = map_from part_of actors k p at
 
   apart : (k : ℕ) (p : Part) → slice_get cast k ≡ Some p → AreApart (sheet scene p).ends
-  apart k p at = let x = actor_at k p at in subst (λ q. AreApart (sheet scene q).ends) x.2 (ends_apart (end_at world) scene x.0 (play.fits k x.0 x.1))
+  apart k p at = let x = actor_at k p at in subst (λ q. AreApart (sheet scene q).ends) x.2 (ends_apart (end_at world) scene x.0 (play.over.fits k x.0 x.1))
 
   own : (k : ℕ) (p : Part) → slice_get cast k ≡ Some p → PutsItsOwnInOrder naming (sheet scene p)
   own k p at =
       let x = actor_at k p at in
-      subst (λ q. PutsItsOwnInOrder naming (sheet scene q)) x.2 (own_at rows cast play.calm play.seated place.net place.blk placed.net placed.blk passed x.0 (names_at rows cast play.calm play.seated place.net place.blk placed.net placed.blk k (part_of x.0) (map_get part_of actors k x.0 x.1)) (play.stands k x.0 x.1))
+      subst (λ q. PutsItsOwnInOrder naming (sheet scene q)) x.2 (own_at rows cast play.calm play.over.seated place.net place.blk placed.net placed.blk passed x.0 (names_at rows cast play.calm play.over.seated place.net place.blk placed.net placed.blk k (part_of x.0) (map_get part_of actors k x.0 x.1)) (play.over.stands k x.0 x.1))
 
   kindly : AreKindly history rows []
   kindly = (play_kinds history rows actors [] passed world play).0
@@ -99,19 +99,19 @@ module _ (history : History) (rows : List QueueRow) (pools : List PoolRow) (plac
   theirs : KeepTheirs naming lender hostile history rows keepers []
   theirs = record {
     naming_is = named;
-    keepers_are = cast_keepers (sheet scene) cast apart rows play.seated play.filled play.peopled;
+    keepers_are = cast_keepers (sheet scene) cast apart rows play.over.seated play.over.filled play.over.peopled;
     flows = play.flows.0;
     keeps = keeps;
   }
 
   dealt : AreDealt keepers
-  dealt = spread_dealt (place_sizes place) (owner rows cast play.calm play.seated place.net place.blk placed.net placed.blk has.numbered) keepers (are_spread rows cast play.calm play.seated place.net place.blk placed.net placed.blk has.numbered)
+  dealt = spread_dealt (place_sizes place) (owner rows cast play.calm play.over.seated place.net place.blk placed.net placed.blk has.numbered) keepers (are_spread rows cast play.calm play.over.seated place.net place.blk placed.net placed.blk has.numbered)
 
   same : length keepers ≡ length cast
   same = length-map cast (λ p. keeper_of (sheet scene p))
 
   -- the lender is one of the actors, where there are any
-  nobody : (n : Option NetPlace) (at : HasNetAt rows n cast) → length keepers ≤ lender_at rows cast play.calm play.seated n at → length cast ≡ 0
+  nobody : (n : Option NetPlace) (at : HasNetAt rows n cast) → length keepers ≤ lender_at rows cast play.calm play.over.seated n at → length cast ≡ 0
   nobody None none le = omega (arith, le, same)
   nobody (Some net) net_has le =
       let receiver = at_receiver rows net cast play.calm net_has.0 net_has.1 in
@@ -126,7 +126,7 @@ module _ (history : History) (rows : List QueueRow) (pools : List PoolRow) (plac
           record {
             table = shown_table naming lender keepers (length rows) m;
             begins = record { lender = lender; naming_is = named; counted = shows.1; shown = shows.0 };
-            pools = λ k. pools_stay naming lender hostile history rows keepers [] theirs k (place_sizes place k) (all_there rows cast play.calm play.seated place placed has.numbered k);
+            pools = λ k. pools_stay naming lender hostile history rows keepers [] theirs k (place_sizes place k) (all_there rows cast play.calm play.over.seated place placed has.numbered k);
           }
       by (inr le) =
           let empty : length cast ≡ 0 = nobody place.net placed.net le in
@@ -137,7 +137,7 @@ module _ (history : History) (rows : List QueueRow) (pools : List PoolRow) (plac
               lender = lender;
               naming_is = named;
               counted = start_counted keepers;
-              shown = subst (λ ks. IsShownBy naming lender ks m (start_table ks)) (sym none) (nobody_shown naming lender hostile rows m named (subst (IsPeopled rows) empty play.peopled));
+              shown = subst (λ ks. IsShownBy naming lender ks m (start_table ks)) (sym none) (nobody_shown naming lender hostile rows m named (subst (IsPeopled rows) empty play.over.peopled));
             };
-            pools = all_there rows cast play.calm play.seated place placed has.numbered;
+            pools = all_there rows cast play.calm play.over.seated place placed has.numbered;
           }

@@ -18,7 +18,7 @@ use Rattle.actor_set.proofs.LawsLemmas.Told.{none_wild}
 use Rattle.wired_law.specs.Wiring.{HasBlk}
 
 -- the virtualiser's clients by their numbers
-sharer_there : (first from : ℕ) (entries : List ℕ) (pools : List PoolAt) (k : ℕ) (p : PoolAt) → length pools ≡ length entries → slice_get pools k ≡ Some p → (c : Sharer) × (slice_get (sharers_from first from entries pools) k ≡ Some c) × (c.req ≡ first + 4 + 2 * (from + k)) × (c.resp ≡ first + 5 + 2 * (from + k))
+pub sharer_there : (first from : ℕ) (entries : List ℕ) (pools : List PoolAt) (k : ℕ) (p : PoolAt) → length pools ≡ length entries → slice_get pools k ≡ Some p → (c : Sharer) × (slice_get (sharers_from first from entries pools) k ≡ Some c) × (c.req ≡ first + 4 + 2 * (from + k)) × (c.resp ≡ first + 5 + 2 * (from + k))
 sharer_there first from [] [] k p many at = cc
 sharer_there first from [] (q ∷ pools) k p many at = absurd (omega (arith, many))
 sharer_there first from (e ∷ entries) [] k p many at = cc

@@ -51,7 +51,7 @@ get_behind (x ∷ xs) ys i y at =
     let next : suc (length xs + i) ≡ length (x ∷ xs) + i = omega arith in
     subst (λ n. slice_get (x ∷ (xs ++ ys)) n ≡ Some y) next (get_behind xs ys i y at)
 
-get_either : {X : Type 0} (xs ys : List X) (i : ℕ) (x : X) → slice_get (xs ++ ys) i ≡ Some x → (slice_get xs i ≡ Some x) ⊎ ((j : ℕ) × (slice_get ys j ≡ Some x))
+pub get_either : {X : Type 0} (xs ys : List X) (i : ℕ) (x : X) → slice_get (xs ++ ys) i ≡ Some x → (slice_get xs i ≡ Some x) ⊎ ((j : ℕ) × (slice_get ys j ≡ Some x))
 get_either [] ys i x at = inr (i, at)
 get_either (y ∷ xs) ys zero x at = inl at
 get_either (y ∷ xs) ys (suc i) x at = get_either xs ys i x at

@@ -47,7 +47,7 @@ answers_behind naming blk q r ws never is = by (cases_lt q blk.first)
     by (inr ge) = (q - blk.first, omega (arith, ge), blk_answers blk (q - blk.first) r ws (sym (ap (λ t. cond t (naming q) (blk_naming blk q)) (le-ltb q blk.first ge)) ∙ is))
 
 -- what a client may put are requests
-asked_kind : (id used hand buffers size : ℕ) (asks : List Ask) (j : ℕ) (i : Item) → slice_get (asked_items id used hand buffers size asks) j ≡ Some i → kind_of i ≡ Kind.Req
+pub asked_kind : (id used hand buffers size : ℕ) (asks : List Ask) (j : ℕ) (i : Item) → slice_get (asked_items id used hand buffers size asks) j ≡ Some i → kind_of i ≡ Kind.Req
 asked_kind id used hand buffers size [] j i at = cc
 asked_kind id used hand buffers size (a ∷ asks) j i at = by (needs_buffer a.code) (nat_lt used hand) j at (λ h e. asked_kind (id + 1) (used + 1) hand buffers size asks h i e) (λ h e. asked_kind (id + 1) used hand buffers size asks h i e)
   where

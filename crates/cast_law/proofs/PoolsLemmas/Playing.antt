@@ -78,7 +78,7 @@ items_begin (x ∷ xs) (y ∷ ys) h =
     let rest = items_begin xs ys (h.0, tail) in
     (rest.0, ap (λ l. x.0 ∷ l) rest.1 ∙ ap (λ (z : Cargo). z.0 ∷ items_of ys) head)
 
-begins_too : (a b : List Item) (xs ys : List Cargo) → a ≡ items_of xs → b ≡ items_of ys → IsPrefix xs ys → IsPrefix a b
+pub begins_too : (a b : List Item) (xs ys : List Cargo) → a ≡ items_of xs → b ≡ items_of ys → IsPrefix xs ys → IsPrefix a b
 begins_too a b xs ys p q h = subst (λ l. IsPrefix l b) (sym p) (subst (λ l. IsPrefix (items_of xs) l) (sym q) (items_begin xs ys h))
 
 -- entries that carry the pages which their items name do so after a call of an actor
@@ -117,7 +117,7 @@ begins_anew rows cast calm seated place placed numbered = record {
 }
 
 -- at the end of a journal queues have what is of their kind
-kindly_last : (history : History) (rows : List QueueRow) (journal : List Entry) (passed : Passed) → HaveItems passed (moved history journal) → AreOfKind rows passed → ((n : ℕ) → IsPrefix (passed.taken n) (passed.sent n)) → AreKindly history rows journal
+pub kindly_last : (history : History) (rows : List QueueRow) (journal : List Entry) (passed : Passed) → HaveItems passed (moved history journal) → AreOfKind rows passed → ((n : ℕ) → IsPrefix (passed.taken n) (passed.sent n)) → AreKindly history rows journal
 kindly_last history rows journal passed items kinds begins n = by (slice_get rows n) refl
   where
     by : (o : Option QueueRow) → slice_get rows n ≡ o → IsKindly o (sent history n journal) (taken history n journal)
@@ -128,7 +128,7 @@ kindly_last history rows journal passed items kinds begins n = by (slice_get row
 
 -- at each moment of a cast at play queues have what is of their kind
 pub play_kinds : (history : History) (rows : List QueueRow) (actors : List Actor) (journal : List Entry) (passed : Passed) (world : List Queue) → AreAtPlay history rows actors journal passed world → EachMoment (AreKindly history rows) journal
-play_kinds history rows actors journal passed world play = each_kindly (hostiles (map part_of actors)) history rows journal play.legal (kindly_last history rows journal passed play.items play.kinds (λ n. ((queue_at world n).entries, sym (play.stands_there n))))
+play_kinds history rows actors journal passed world play = each_kindly (hostiles (map part_of actors)) history rows journal play.legal (kindly_last history rows journal passed play.items play.over.kinds (λ n. ((queue_at world n).entries, sym (play.over.stands_there n))))
 
 -- at a moment
 module _ (history : History) (rows : List QueueRow) (pools : List PoolRow) (place : PoolPlace) (actors : List Actor) (start : Table) (journal : List Entry) (passed : Passed) (world : List Queue) (placed : IsPlaced rows place (map part_of actors)) (has : HasPools pools place) (play : AreAtPlay history rows actors journal passed world) (begin : BeginsWith history rows place (map part_of actors) start) (carry : CarryPages (cast_naming (scene_of (map part_of actors)) place) (moved history journal) passed) where
@@ -154,20 +154,20 @@ module _ (history : History) (rows : List QueueRow) (pools : List PoolRow) (plac
   lender = begin.lender
 
   abbrev owner_ : ℕ → ℕ
-  owner_ = owner rows cast play.calm play.seated place.net place.blk placed.net placed.blk has.numbered
+  owner_ = owner rows cast play.calm play.over.seated place.net place.blk placed.net placed.blk has.numbered
 
   begins : (n : ℕ) → IsPrefix (passed.taken n) (passed.sent n)
-  begins n = ((queue_at world n).entries, sym (play.stands_there n))
+  begins n = ((queue_at world n).entries, sym (play.over.stands_there n))
 
   actor_at : (k : ℕ) (p : Part) → slice_get cast k ≡ Some p → (x : Actor) × (slice_get actors k ≡ Some x) × (part_of x ≡ p)
   actor_at k p at = map_from part_of actors k p at
 
   owned : IsOwned naming lender hostile history rows (keepers_at cast) start journal
-  owned = owned_by rows cast play.calm play.seated place.net place.blk placed.net placed.blk lender begin.naming_is history start journal play.filled play.peopled
-      (λ k p at. let x = actor_at k p at in subst (λ q. AreApart (sheet scene q).ends) x.2 (ends_apart (end_at world) scene x.0 (play.fits k x.0 x.1)))
+  owned = owned_by rows cast play.calm play.over.seated place.net place.blk placed.net placed.blk lender begin.naming_is history start journal play.over.filled play.over.peopled
+      (λ k p at. let x = actor_at k p at in subst (λ q. AreApart (sheet scene q).ends) x.2 (ends_apart (end_at world) scene x.0 (play.over.fits k x.0 x.1)))
       (λ k p at.
       let x = actor_at k p at in
-      subst (λ q. PutsItsOwnInOrder naming (sheet scene q)) x.2 (own_at rows cast play.calm play.seated place.net place.blk placed.net placed.blk passed x.0 (names_at rows cast play.calm play.seated place.net place.blk placed.net placed.blk k (part_of x.0) (map_get part_of actors k x.0 x.1)) (play.stands k x.0 x.1)))
+      subst (λ q. PutsItsOwnInOrder naming (sheet scene q)) x.2 (own_at rows cast play.calm play.over.seated place.net place.blk placed.net placed.blk passed x.0 (names_at rows cast play.calm play.over.seated place.net place.blk placed.net placed.blk k (part_of x.0) (map_get part_of actors k x.0 x.1)) (play.over.stands k x.0 x.1)))
       play.legal play.flows play.rows_hold (play_kinds history rows actors journal passed world play) begin.counted begin.shown
 
   -- each actor has what the table says
@@ -176,20 +176,20 @@ module _ (history : History) (rows : List QueueRow) (pools : List PoolRow) (plac
       let x = map_from (actor_holder scene) actors k h at in
       let here = map_get part_of actors k x.0 x.1 in
       subst (HoldsIts naming sizes m passed) x.2
-      (actor_holds naming scene passed m play.items sizes x.0 (play.calm k (part_of x.0) here) (names_at rows cast play.calm play.seated place.net place.blk placed.net placed.blk k (part_of x.0) here) (sized_at rows cast play.calm play.seated place.net place.blk placed.net placed.blk has.numbered k (part_of x.0) here) (fits_whole (end_at world) x.0 (play.fits k x.0 x.1)) (play.in_turn k x.0 x.1) (play.stands k x.0 x.1)
+      (actor_holds naming scene passed m play.items sizes x.0 (play.calm k (part_of x.0) here) (names_at rows cast play.calm play.over.seated place.net place.blk placed.net placed.blk k (part_of x.0) here) (sized_at rows cast play.calm play.over.seated place.net place.blk placed.net placed.blk has.numbered k (part_of x.0) here) (fits_whole (end_at world) x.0 (play.over.fits k x.0 x.1)) (play.in_turn k x.0 x.1) (play.over.stands k x.0 x.1)
       (carry_takes naming m passed (sheet scene (part_of x.0)).ends carry begins))
 
   starts_at : (k : ℕ) (h : Holder) → slice_get (holders_of actors) k ≡ Some h → HandWithin sizes h.keeper
   starts_at k h at =
       let there : slice_get (keepers_at cast) k ≡ Some h.keeper = ap (λ ks. slice_get ks k) (sym (keepers_same scene actors)) ∙ map_get (λ (y : Holder). y.keeper) (holders_of actors) k h at in
-      spread_within sizes owner_ (keepers_at cast) (are_spread rows cast play.calm play.seated place.net place.blk placed.net placed.blk has.numbered) k h.keeper there
+      spread_within sizes owner_ (keepers_at cast) (are_spread rows cast play.calm play.over.seated place.net place.blk placed.net placed.blk has.numbered) k h.keeper there
 
   lines : AreLines naming lender hostile history rows sizes (holders_of actors) start journal passed world
   lines = record {
     owned = subst (λ ks. IsOwned naming lender hostile history rows ks start journal) (sym (keepers_same scene actors)) owned;
     carry = carry;
-    stands_there = play.stands_there;
-    size = play.size;
+    stands_there = play.over.stands_there;
+    size = play.over.size;
     names = cast_within scene place.net place.blk has.numbered;
     starts = starts_at;
     holds = holds_at;

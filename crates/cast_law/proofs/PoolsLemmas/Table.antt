@@ -21,14 +21,14 @@ use Rattle.actor_set.proofs.LawsLemmas.Told.{none_wild}
 use Rattle.wired_law.specs.Wiring.{HasPart, HasWhole}
 
 -- the virtualisers' clients by their numbers
-lessee_there : (from : ℕ) (macs : List Mac) (k : ℕ) (mac : Mac) → slice_get macs k ≡ Some mac → (c : Lessee) × (slice_get (lessees_from 0 from macs) k ≡ Some c) × (c.active ≡ client_first 0 (from + k)) × (c.free ≡ client_first 0 (from + k) + 1)
+pub lessee_there : (from : ℕ) (macs : List Mac) (k : ℕ) (mac : Mac) → slice_get macs k ≡ Some mac → (c : Lessee) × (slice_get (lessees_from 0 from macs) k ≡ Some c) × (c.active ≡ client_first 0 (from + k)) × (c.free ≡ client_first 0 (from + k) + 1)
 lessee_there from [] k mac at = cc
 lessee_there from (m ∷ macs) zero mac at = (record { active = client_first 0 from; free = client_first 0 from + 1; mac = m }, refl, omega arith, omega arith)
 lessee_there from (m ∷ macs) (suc k) mac at =
     let x = lessee_there (from + 1) macs k mac at in
     (x.0, x.1, omega (arith, x.2), omega (arith, x.3))
 
-shipper_there : (most from : ℕ) (pools : List ClientPools) (k : ℕ) (p : ClientPools) → slice_get pools k ≡ Some p → (c : Shipper) × (slice_get (shippers_from 0 most from pools) k ≡ Some c) × (c.active ≡ client_first 0 (from + k) + 4) × (c.free ≡ client_first 0 (from + k) + 5)
+pub shipper_there : (most from : ℕ) (pools : List ClientPools) (k : ℕ) (p : ClientPools) → slice_get pools k ≡ Some p → (c : Shipper) × (slice_get (shippers_from 0 most from pools) k ≡ Some c) × (c.active ≡ client_first 0 (from + k) + 4) × (c.free ≡ client_first 0 (from + k) + 5)
 shipper_there most from [] k p at = cc
 shipper_there most from (q ∷ pools) zero p at = (record { active = client_first 0 from + 4; free = client_first 0 from + 5; pool = q.tx; most = most }, refl, omega arith, omega arith)
 shipper_there most from (q ∷ pools) (suc k) p at =

@@ -1,5 +1,5 @@
 -- All that holds of a cast in place goes on to hold, turn by turn.
-use Rattle.std.proofs.Common.{◌≡◌, ◌≢◌, ◌∙◌, ℕ, zero, suc, List, [], ◌∷◌, ◌++◌, map, refl, sym, ap, subst, append-nil, Option, Some, slice_get, slice_set, Bool, if◌then◌else◌, ⊎_elim}
+use Rattle.std.proofs.Common.{◌≡◌, ◌≢◌, ◌∙◌, ◌+◌, ◌*◌, ℕ, zero, suc, List, [], ◌∷◌, ◌++◌, map, refl, sym, ap, subst, append-nil, Option, Some, slice_get, slice_set, Bool, true, false, if◌then◌else◌, ◌⊎◌, inl, inr, ⊎_elim}
 use Rattle.std.specs.Option.{option_map_or}
 use mathlib.Core.Logic.{dite}
 use native.Mathlib.Decide.{ℕ_discrete}
@@ -8,30 +8,35 @@ use Rattle.std.proofs.lemmas.Bool.Decides.{eqb_tells}
 use Rattle.cargo_core.specs.Lists.{IsPrefix}
 use Rattle.wire_core.specs.declared.names.PoolRow.{PoolRow}
 use Rattle.wire_core.specs.declared.names.QueueRow.{QueueRow}
-use Rattle.wire_core.specs.Deeds.{Cargo}
+use Rattle.wire_core.specs.declared.names.Event.{Event}
+use Rattle.wire_core.specs.declared.names.Op.{Op}
+use Rattle.wire_core.specs.declared.names.Op.TheVariants as Do
+use Rattle.wire_core.specs.Deeds.{Cargo, Deed, cargo_of}
 use Rattle.wire_core.specs.Ends.{Role, Consumer, Producer, End, role_of}
 use Rattle.wire_core.specs.Journal.{owner_of}
-use Rattle.wire_core.specs.Lists.{Passed, nothing_passed, with_deed}
-use Rattle.wire_core.specs.Queues.{items_of}
+use Rattle.wire_core.specs.Lists.{Passed, if_put, if_taken, if_there, nothing_passed, put_by, with_deed}
+use Rattle.wire_core.specs.Queues.{is_store, items_of}
 use Rattle.play_core.specs.Moved.{Moved}
-use Rattle.play_core.specs.Sheets.{AreSeated, RowsHold}
+use Rattle.play_core.specs.Names.{Wild, names_at, wild_in}
+use Rattle.play_core.specs.Sheets.{AreFilled, AreSeated}
 use Rattle.play_core.proofs.Lists.{map_get}
 use Rattle.play_core.specs.Rests.Showing.{HaveItems}
-use Rattle.owner_law.specs.Pages.{CarryPages}
 use Rattle.actor_set.specs.Parts.{Part}
-use Rattle.actor_set.specs.Actors.{FitsActor, ActorStandsFor, ActorEnd, part_of}
+use Rattle.actor_set.specs.Actors.{FitsActor, ActorStandsFor, ActorEnd, IsActorCall, IsWhole, part_of}
 use Rattle.actor_set.specs.declared.actor.Actor.{Actor}
+use Rattle.actor_set.specs.declared.actor.Actor.TheVariants as Kinds
 use Rattle.actor_set.specs.Laws.Kinds.{sheet, scene_of, hostiles}
-use Rattle.actor_set.specs.Laws.Turning.{InTurn}
+use Rattle.actor_set.specs.Laws.Scenes.{ToldInTurn}
 use Rattle.actor_set.proofs.LawsLemmas.Beside.{fits_beside, stands_beside}
 use Rattle.actor_set.proofs.LawsLemmas.PartEnds.{to_part, end_seat, same_part}
-use Rattle.actor_set.proofs.LawsLemmas.Rounds.{own_is}
 use Rattle.actor_set.proofs.LawsLemmas.Starts.{fits_whole}
 use Rattle.wired_law.specs.Wiring.{IsWired, AreAtWork, AreOfKind, ClientsSend}
 use Rattle.wired_law.proofs.Wiring.{sends_on, nothing_sent}
-use Rattle.cast_law.specs.Pools.Places.{PoolPlace, IsInPlace, IsPlaced, cast_naming}
-use Rattle.cast_law.proofs.TurnsLemmas.{calm_turns, wired_place}
-use Rattle.cast_law.proofs.PoolsLemmas.Playing.{carry_call, rows_at}
+use Rattle.cast_law.specs.Pools.Beside.{CastCarries, RoguesAsk}
+use Rattle.cast_law.specs.Pools.Places.{PoolPlace, IsInPlace, IsPlaced}
+use Rattle.cast_law.proofs.BesideLemmas.Carrying.{call_carries}
+use Rattle.cast_law.proofs.BesideLemmas.Hands.{first_move}
+use Rattle.cast_law.proofs.TurnsLemmas.{told_turns, wired_place}
 use Rattle.order_law.specs.Orders.{Turn, IsTurn, InOrder}
 use Rattle.order_law.proofs.Lists.{same_some, set_there, set_beside, get_front}
 use Rattle.order_law.proofs.Moving.{moved_by, moved_else}
@@ -55,6 +60,52 @@ map_same (a ∷ xs) (suc k) x y at same = ap (λ bs. part_of a ∷ bs) (map_same
 kinds_before : (rows : List QueueRow) (passed last : Passed) → ((n : ℕ) → IsPrefix (passed.sent n) (last.sent n)) → AreOfKind rows last → AreOfKind rows passed
 kinds_before rows passed last begins kinds n row is k c at = kinds n row is k c (ap (λ (z : List Cargo). slice_get z k) (sym (begins n).1) ∙ get_front (passed.sent n) (begins n).0 k c at)
 
+-- a call is at an end of its actor, or it is a store
+own_or_store : (x : Actor) (e : Event) → IsActorCall x e → ActorEnd x (role_of e.op) e.queue.0 ⊎ (is_store e.op ≡ true)
+own_or_store (Kinds.UartDevice x) e h = inl h
+own_or_store (Kinds.UartDriver x) e h = inl h
+own_or_store (Kinds.SerialVirtRx x) e h = inl h
+own_or_store (Kinds.SerialVirtTx x) e h = inl h
+own_or_store (Kinds.SerialClient x) e h = inl h
+own_or_store (Kinds.EthDevice x) e h = inl h
+own_or_store (Kinds.EthDriver x) e h = inl h
+own_or_store (Kinds.NetVirtRx x) e h = inl h
+own_or_store (Kinds.NetCopier x) e h = inl h
+own_or_store (Kinds.NetClient x) e h = inl h
+own_or_store (Kinds.NetVirtTx x) e h = inl h
+own_or_store (Kinds.DiskDevice x) e h = inl h
+own_or_store (Kinds.BlkDriver x) e h = inl h
+own_or_store (Kinds.BlkVirt x) e h = inl h
+own_or_store (Kinds.BlkClient x) e h = inl h
+own_or_store (Kinds.Rogue x) e (inl h) = inl h
+own_or_store (Kinds.Rogue x) e (inr (is, r, own)) = inr is
+
+-- an actor of the same part makes it there too
+own_after : (x y : Actor) (e : Event) → part_of y ≡ part_of x → IsWhole x → IsActorCall x e → ActorEnd y (role_of e.op) e.queue.0 ⊎ (is_store e.op ≡ true)
+own_after x y e same whole h = ⊎_elim (λ own. inl (same_part y x (role_of e.op) e.queue.0 (sym same) whole own)) (λ stores. inr stores) (own_or_store x e h)
+
+-- a store moves nothing
+no_move : (o : Op) (c : List Cargo) → is_store o ≡ true → (if_taken o c ≡ []) × (if_put o c ≡ [])
+no_move Do.See c is = cc
+no_move Do.Room c is = cc
+no_move Do.Take c is = cc
+no_move Do.Put c is = cc
+no_move (Do.Ask s) c is = cc
+no_move (Do.Waive s) c is = cc
+no_move (Do.Wake s) c is = cc
+no_move (Do.Wanted s) c is = cc
+no_move (Do.Settle s) c is = cc
+no_move (Do.Ring s) c is = cc
+no_move (Do.Store w v) c is = (refl, refl)
+
+nothing_there : (b : Bool) → if_there b [] ≡ []
+nothing_there true = refl
+nothing_there false = refl
+
+store_moves : (d : Deed) (r : Role) (n : ℕ) → is_store d.event.op ≡ true → moved_by d r n ≡ []
+store_moves d Consumer n is = ap (if_there (eqb d.event.queue.0 n)) (no_move d.event.op (cargo_of d) is).0 ∙ nothing_there (eqb d.event.queue.0 n)
+store_moves d Producer n is = ap (if_there (eqb d.event.queue.0 n)) (no_move d.event.op (cargo_of d) is).1 ∙ nothing_there (eqb d.event.queue.0 n)
+
 -- what holds of a cast at a moment
 record Stands (rows : List QueueRow) (cast : List Part) (actors : List Actor) (passed : Passed) : Type 0 where
   pub parts : map part_of actors ≡ cast
@@ -63,7 +114,7 @@ record Stands (rows : List QueueRow) (cast : List Part) (actors : List Actor) (p
   pub stands : (k : ℕ) (x : Actor) → slice_get actors k ≡ Some x → ActorStandsFor x passed
   pub over : (n : ℕ) → IsPrefix (passed.taken n) (passed.sent n)
   pub sends : ClientsSend rows cast passed
-  pub carry : (place : PoolPlace) → IsPlaced rows place cast → CarryPages (cast_naming (scene_of cast) place) (moved_of passed) passed
+  pub carry : (place : PoolPlace) → IsPlaced rows place cast → RoguesAsk (wild_in (hostiles cast) rows) place passed → CastCarries rows place actors (moved_of passed) passed
 
 module _ (rows : List QueueRow) (pools : List PoolRow) (cast : List Part) (in_place : IsInPlace rows pools cast) (split : (n : ℕ) (row : QueueRow) → slice_get rows n ≡ Some row → row.producer.0 ≡ row.consumer.0 → ⊥) where
   wired : IsWired rows cast
@@ -98,11 +149,8 @@ module _ (rows : List QueueRow) (pools : List PoolRow) (cast : List Part) (in_pl
       kinds = kinds;
     }
 
-    turns_of : AreOfKind rows passed → (k : ℕ) (x : Actor) → slice_get actors k ≡ Some x → InTurn (scene_of (map part_of actors)) x passed
-    turns_of kinds k x at = calm_turns ends rows pools actors passed (subst (IsInPlace rows pools) (sym st.parts) in_place) (work kinds) (subst (λ (c : List Part). ClientsSend rows c passed) (sym st.parts) st.sends) k x at
-
-    rows_of : AreOfKind rows passed → RowsHold (sheet (scene_of cast)) (hostiles cast) cast (moved_of passed)
-    rows_of kinds = subst (λ (c : List Part). RowsHold (sheet (scene_of c)) (hostiles c) c (moved_of passed)) st.parts (rows_at rows actors passed (moved_of passed) (have_items passed) (turns_of kinds) st.stands)
+    told_of : AreOfKind rows passed → (k : ℕ) (x : Actor) → slice_get actors k ≡ Some x → ToldInTurn (scene_of (map part_of actors)) (wild_in (hostiles (map part_of actors)) rows) (names_at passed) x passed
+    told_of kinds k x at = told_turns ends rows pools actors passed (subst (IsInPlace rows pools) (sym st.parts) in_place) (work kinds) (subst (λ (c : List Part). ClientsSend rows c passed) (sym st.parts) st.sends) (names_at passed) (λ n is_wild. ([], append-nil (names_at passed n))) k x at
 
   module _ (actors : List Actor) (passed : Passed) (st : Stands rows cast actors passed) (t : Turn) (turn : IsTurn actors passed t) (kinds : AreOfKind rows passed) (kinds' : AreOfKind rows (with_deed passed t.deed)) where
     abbrev k : ℕ
@@ -111,9 +159,9 @@ module _ (rows : List QueueRow) (pools : List PoolRow) (cast : List Part) (in_pl
     abbrev x : Actor
     x = turn.old
 
-    -- nobody is hostile, so its call is at one of its ends
-    own_there : ActorEnd x (role_of t.deed.event.op) t.deed.event.queue.0
-    own_there = own_is x t.deed.event (in_place.calm k (part_of x) (ap (λ (c : List Part). slice_get c k) (sym st.parts) ∙ map_get part_of actors k x turn.there)) turn.own
+    -- a hostile client's store moves nothing
+    own_moves : ActorEnd x (role_of t.deed.event.op) t.deed.event.queue.0 ⊎ (is_store t.deed.event.op ≡ true)
+    own_moves = own_or_store x t.deed.event turn.own
 
     abbrev actors' : List Actor
     actors' = slice_set actors k t.actor
@@ -140,7 +188,11 @@ module _ (rows : List QueueRow) (pools : List PoolRow) (cast : List Part) (in_pl
         (eqb_tells j k)
 
     beside : (j : ℕ) (y : Actor) → j ≢ k → slice_get actors j ≡ Some y → (r : Role) (n : ℕ) → ActorEnd y r n → moved_by t.deed r n ≡ []
-    beside j y ne at r n own = moved_else t.deed r n (λ same there. apart actors passed st j k y x at turn.there ne r n own (subst (λ (z : Role × ℕ). ActorEnd x z.0 z.1) (λ i. (sym same i, sym there i)) own_there))
+    beside j y ne at r n own = by own_moves
+      where
+        by : ActorEnd x (role_of t.deed.event.op) t.deed.event.queue.0 ⊎ (is_store t.deed.event.op ≡ true) → moved_by t.deed r n ≡ []
+        by (inl there_own) = moved_else t.deed r n (λ same there. apart actors passed st j k y x at turn.there ne r n own (subst (λ (z : Role × ℕ). ActorEnd x z.0 z.1) (λ i. (sym same i, sym there i)) there_own))
+        by (inr stores) = store_moves t.deed r n stores
 
     stands' : (j : ℕ) (y : Actor) → slice_get actors' j ≡ Some y → ActorStandsFor y passed'
     stands' j y at = dite (ℕ_discrete j k)
@@ -171,31 +223,31 @@ module _ (rows : List QueueRow) (pools : List PoolRow) (cast : List Part) (in_pl
     sends' : ClientsSend rows cast passed'
     sends' = subst (λ (c : List Part). ClientsSend rows c passed') (parts' ∙ st.parts) (sends_on (ends actors passed st) ends' rows actors actors' passed t.deed (subst (IsWired rows) (sym st.parts) wired) parts' (work actors passed st kinds) (subst (λ (c : List Part). ClientsSend rows c passed) (sym st.parts) st.sends) work')
 
-    turns' : (j : ℕ) (y : Actor) → slice_get actors' j ≡ Some y → InTurn (scene_of cast) y passed'
-    turns' j y at = subst (λ (c : List Part). InTurn (scene_of c) y passed') (parts' ∙ st.parts) (calm_turns ends' rows pools actors' passed' (subst (IsInPlace rows pools) (sym (parts' ∙ st.parts)) in_place) work' (subst (λ (c : List Part). ClientsSend rows c passed') (sym (parts' ∙ st.parts)) sends') j y at)
+    told' : (j : ℕ) (y : Actor) → slice_get actors' j ≡ Some y → ToldInTurn (scene_of (map part_of actors')) (wild_in (hostiles (map part_of actors')) rows) (names_at passed') y passed'
+    told' j y at = told_turns ends' rows pools actors' passed' (subst (IsInPlace rows pools) (sym (parts' ∙ st.parts)) in_place) work' (subst (λ (c : List Part). ClientsSend rows c passed') (sym (parts' ∙ st.parts)) sends') (names_at passed') (λ n is_wild. ([], append-nil (names_at passed' n))) j y at
 
-    rows' : RowsHold (sheet (scene_of cast)) (hostiles cast) cast (moved_of passed')
-    rows' = subst (λ (c : List Part). RowsHold (sheet (scene_of c)) (hostiles c) c (moved_of passed')) (parts' ∙ st.parts) (rows_at rows actors' passed' (moved_of passed') (have_items passed') (λ j y at. subst (λ (c : List Part). InTurn (scene_of c) y passed') (sym (parts' ∙ st.parts)) (turns' j y at)) stands')
+    -- an earlier moment's requests are the first ones
+    asks_before : (off_queues : Wild) (place : PoolPlace) → RoguesAsk off_queues place passed' → RoguesAsk off_queues place passed
+    asks_before off_queues place asks blk here i q q_at is = first_move (passed.sent (blk.first + 4 + 2 * i)) (put_by t.deed (blk.first + 4 + 2 * i)) (asks blk here i q q_at is)
 
-    carry' : (place : PoolPlace) → IsPlaced rows place cast → CarryPages (cast_naming (scene_of cast) place) (moved_of passed') passed'
-    carry' place placed = carry_call rows place cast (moved_of passed) (moved_of passed') passed t.deed k t.actor (record {
-      calm = in_place.calm;
-      placed = placed;
-      seated = seated;
+    carry' : (place : PoolPlace) → IsPlaced rows place cast → RoguesAsk (wild_in (hostiles cast) rows) place passed' → CastCarries rows place actors' (moved_of passed') passed'
+    carry' place placed asks = call_carries rows place actors actors' passed t.deed k (moved_of passed) (moved_of passed') (record {
+      placed = subst (IsPlaced rows place) (sym (parts' ∙ st.parts)) placed;
+      seated = subst (λ c. AreSeated (sheet (scene_of c)) rows c) (sym (parts' ∙ st.parts)) seated;
+      filled = subst (λ c. AreFilled (sheet (scene_of c)) rows c) (sym (parts' ∙ st.parts)) in_place.filled;
       split = split;
-      carried = st.carry place placed;
-      rows_before = rows_of actors passed st kinds;
-      rows_after = rows';
-      began = st.over;
-      items = have_items passed';
-      begins = turn.hands_over;
-      kinds = kinds';
-      here = ap (λ (c : List Part). slice_get c k) (sym (parts' ∙ st.parts)) ∙ map_get part_of actors' k t.actor (set_there actors k x t.actor turn.there);
-      in_turn = turns' k t.actor (set_there actors k x t.actor turn.there);
-      stands = stands' k t.actor (set_there actors k x t.actor turn.there);
-      fits = fits_whole turn.ends t.actor turn.fits;
-      own = same_part t.actor x (role_of t.deed.event.op) t.deed.event.queue.0 (sym turn.part) (fits_whole (st.each k) x (st.fits k x turn.there)) own_there;
-    })
+      same = parts';
+      before = ends actors passed st;
+      worked = work actors passed st kinds;
+      ends = ends';
+      works = work';
+      was_told = told_of actors passed st kinds;
+      told = told';
+      asks = subst (λ c. RoguesAsk (wild_in (hostiles c) rows) place passed') (sym (parts' ∙ st.parts)) asks;
+      there = t.actor;
+      here = set_there actors k x t.actor turn.there;
+      own = own_after x t.actor t.deed.event turn.part (fits_whole (st.each k) x (st.fits k x turn.there)) turn.own;
+    }) (have_items passed) (have_items passed') (st.carry place placed (asks_before (wild_in (hostiles cast) rows) place asks))
 
     -- all goes on to hold after the turn
     next : Stands rows cast actors' passed'
@@ -219,16 +271,16 @@ have_held rows olds news turns passed ready order kinds =
       stands = ready.stands;
       over = λ n. ([], refl);
       sends = nothing_sent rows cast;
-      carry = λ place placed. record { sent = λ n. refl; taken = λ n. refl; bodies = λ n k c at. cc };
+      carry = λ place placed asks. record { sent = λ n. refl; taken = λ n. refl; bodies = λ n calm k c at. cc; others = λ n wild k c at. cc };
     } in
     let st = held rows ready.pools cast ready.in_place ready.split turns olds news nothing_passed passed begin order kinds in record {
       parts = st.parts;
       stands = st.stands;
-      in_turn = turns_of rows ready.pools cast ready.in_place ready.split news passed st kinds;
+      in_turn = told_of rows ready.pools cast ready.in_place ready.split news passed st kinds;
       sends = subst (λ (c : List Part). ClientsSend rows c passed) (sym st.parts) st.sends;
-      carry = λ place placed m items. (
-          let has = st.carry place (subst (IsPlaced rows place) st.parts placed) in
+      carry = λ place placed asks m items. (
+          let has = st.carry place (subst (IsPlaced rows place) st.parts placed) (subst (λ (c : List Part). RoguesAsk (wild_in (hostiles c) rows) place passed) st.parts asks) in
           let same : moved_of passed ≡ m = (λ i. record { sent = λ n. items.sent n i; taken = λ n. items.taken n i }) in
-          subst (λ (z : List Part × Moved). CarryPages (cast_naming (scene_of z.0) place) z.1 passed) (λ i. (sym st.parts i, same i)) has
+          subst (λ (z : Moved). CastCarries rows place news z passed) same has
           );
     }

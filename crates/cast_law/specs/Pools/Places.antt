@@ -1,5 +1,5 @@
--- Where the classes that have pools stand in a cast, what items name at its queues, and its pools;
--- and a cast in place.
+-- Where the classes that have pools stand in a cast with its hostile clients, what items name at its
+-- queues, and its pools; and a cast in place.
 use Rattle.std.specs.Prelude.{◌≡◌, ◌++◌, ℕ, nat_lt, if◌then◌else◌, Option, None, Some, List, []}
 use Rattle.std.specs.Prelude.{length}
 use Rattle.wire_core.specs.declared.names.PoolRow.{PoolRow}
@@ -14,9 +14,10 @@ use Rattle.net_law.specs.TxParts.Numbers.{NetPlace}
 use Rattle.net_quiet.specs.Pools.Sizes.{net_pools}
 use Rattle.blk_law.specs.Sheets.Numbers.{BlkPlace}
 use Rattle.blk_quiet.specs.Pools.Naming.{blk_naming, blk_pools, HasApartPools}
-use Rattle.actor_set.specs.Laws.Kinds.{AllCalm, scene_of, sheet}
+use Rattle.actor_set.specs.Laws.Kinds.{scene_of, sheet}
 use Rattle.actor_set.specs.Parts.{Part}
 use Rattle.wired_law.specs.Wiring.{HasWhole, HasNoNetwork, HasBlk, HasNoBlock}
+use Rattle.cast_law.specs.Pools.Rogues.{HasRogues}
 
 -- where the network stands, if a cast has one, and where the block class does
 pub record PoolPlace : Type 0 where
@@ -33,10 +34,11 @@ abbrev pub HasBlkAt : List QueueRow → Option BlkPlace → List Part → Type 0
 HasBlkAt rows None cast = HasNoBlock cast
 HasBlkAt rows (Some blk) cast = HasBlk rows blk cast × HasApartPools blk
 
--- both classes stand at this place, or are not there
+-- both classes stand at this place, or are not there, and hostile clients are clients of theirs
 pub record IsPlaced (rows : List QueueRow) (place : PoolPlace) (cast : List Part) : Type 0 where
   pub net : HasNetAt rows place.net cast
   pub blk : HasBlkAt rows place.blk cast
+  pub rogues : HasRogues rows place.net place.blk cast
 
 -- what items name at the network's queues, which are the first; without one nothing
 abbrev pub first_naming : Scene → Option NetPlace → Naming
@@ -83,11 +85,10 @@ abbrev pub ArePooled : List QueueRow → List PoolRow → List Part → Type 0
 ArePooled rows pools cast =
     (place : PoolPlace) × IsPlaced rows place cast × HasPools pools place
 
--- a cast is in place: nobody of it is hostile, the owners of all queues are among its actors, each
--- has just the ends that the rows give it, and these are its pools
+-- a cast is in place, with hostile clients or without: the owners of all queues are among its
+-- actors, each has just the ends that the rows give it, and these are its pools
 pub record IsInPlace (rows : List QueueRow) (pools : List PoolRow) (cast : List Part) :
     Type 0 where
-  pub calm : AllCalm cast
   pub peopled : IsPeopled rows (length cast)
   pub seated : AreSeated (sheet (scene_of cast)) rows cast
   pub filled : AreFilled (sheet (scene_of cast)) rows cast

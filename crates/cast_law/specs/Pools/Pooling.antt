@@ -42,26 +42,32 @@ AddUp world holders pools = (k : ℕ) (row : PoolRow) → slice_get pools k ≡ 
     + (counted world holders (record { 0 = k })).hands
     + (counted world holders (record { 0 = k })).lent ≡ row.buffers
 
--- a cast at play whose queues had this before its journal begins: no actor is hostile, and each has
--- just the ends that the rows give it, fits them and stands for what passed there, of which nothing
--- came out of turn; the journal is legal, at each moment queues hand over and rows hold; and in
--- each queue stands what was put there and not taken
-pub record AreAtPlay (history : History) (rows : List QueueRow) (actors : List Actor)
-    (journal : List Entry) (passed : Passed) (world : List Queue) : Type 0 where
-  pub calm : AllCalm (map part_of actors)
+-- a cast over queues at one moment, with hostile clients or without: each actor has just the ends
+-- that the rows give it, fits them and stands for what passed there, which is of each queue's kind;
+-- and in each queue stands what was put there and not taken
+pub record AreOverQueues (rows : List QueueRow) (actors : List Actor) (passed : Passed)
+    (world : List Queue) : Type 0 where
   pub peopled : IsPeopled rows (length (map part_of actors))
   pub seated : AreSeated (sheet (scene_of (map part_of actors))) rows (map part_of actors)
   pub filled : AreFilled (sheet (scene_of (map part_of actors))) rows (map part_of actors)
-  pub legal : LegalJournal (hostiles (map part_of actors)) history rows journal
-  pub flows : EachMoment (QueuesFlow history rows) journal
-  pub rows_hold : EachMoment (λ j. RowsHold (sheet (scene_of (map part_of actors)))
-      (hostiles (map part_of actors)) (map part_of actors) (moved history j)) journal
-  pub items : HaveItems passed (moved history journal)
   pub stands_there : (n : ℕ) → passed.sent n ≡ passed.taken n ++ (queue_at world n).entries
   pub size : length world ≡ length rows
   pub kinds : AreOfKind rows passed
   pub fits : (k : ℕ) (x : Actor) → slice_get actors k ≡ Some x → FitsActor (end_at world) x
   pub stands : (k : ℕ) (x : Actor) → slice_get actors k ≡ Some x → ActorStandsFor x passed
+
+-- a cast at play whose queues had this before its journal begins: it is over its queues, and no
+-- actor is hostile; nothing came out of turn; and the journal is legal, at each moment queues hand
+-- over and rows hold
+pub record AreAtPlay (history : History) (rows : List QueueRow) (actors : List Actor)
+    (journal : List Entry) (passed : Passed) (world : List Queue) : Type 0 where
+  pub over : AreOverQueues rows actors passed world
+  pub calm : AllCalm (map part_of actors)
+  pub legal : LegalJournal (hostiles (map part_of actors)) history rows journal
+  pub flows : EachMoment (QueuesFlow history rows) journal
+  pub rows_hold : EachMoment (λ j. RowsHold (sheet (scene_of (map part_of actors)))
+      (hostiles (map part_of actors)) (map part_of actors) (moved history j)) journal
+  pub items : HaveItems passed (moved history journal)
   pub in_turn : (k : ℕ) (x : Actor) → slice_get actors k ≡ Some x
       → InTurn (scene_of (map part_of actors)) x passed
 

@@ -18,7 +18,7 @@ use crate::i2c_client::Asking;
 use cargo_core::{Body, Item, Memory, PoolId, Series};
 use i2c_text::{BusAsk, BusReply};
 use std::alloc::Global;
-use turn_kit::{Intake, Outlet, Turn};
+use turn_kit::{Intake, Lowest, Outlet, Turn};
 use wire_core::{Event, QueueId, Wires};
 
 /// A client of the bus. `asking` has what it has yet to ask, and what came of the rest. After an
@@ -78,7 +78,8 @@ impl BusClient {
         self.responses.settled(self.stray.is_none()) && self.requests.settled(self.is_asking())
     }
 
-    // The end that is stepped now, in the order of responses and requests.
+    // The end that is stepped now, in the order of responses and requests. The rotation is asked
+    // only where both are settled.
     fn choose(&mut self) -> usize
         ensures place { result ≡ chosen_place (choice_of (client_round self.old)) }
         ensures within { result < 2 }
@@ -87,13 +88,19 @@ impl BusClient {
         } }
     {
         let asking = self.is_asking();
-        let settled = self.responses.settled(self.stray.is_none());
-        let asking_settled = self.requests.settled(asking);
+        let responses = self.responses.settled(self.stray.is_none());
+        let requests = self.requests.settled(asking);
+        let lowest = Lowest::none()
+            .unless_settled(0, self.responses.queue, responses)
+            .unless_settled(1, self.requests.queue, requests);
+        if let Some(end) = lowest.stand() {
+            return end.place;
+        }
         let choice = self
             .turn
             .begin(2)
-            .offer(0, self.responses.queue, settled)
-            .offer(1, self.requests.queue, asking_settled);
+            .offer(0, self.responses.queue, responses)
+            .offer(1, self.requests.queue, requests);
         self.turn.pass(choice)
     }
 

@@ -162,5 +162,5 @@ is_ran plan trace limit s parts t new adopted first played system = record {
 }
   where
     goes_on : AllRest t.setting ⊎ OneSpent t.setting limit → AllRest new.setting ⊎ OneSpent new.setting limit
-    goes_on (inl rest) = inl (keeps_rests t.setting new.setting (was_calm t.setting new.setting played.setting system.stands.fitted.calm) played.setting rest)
+    goes_on (inl rest) = inl (keeps_rests t.setting new.setting (was_calm t.setting new.setting played.setting system.calm) played.setting rest)
     goes_on (inr spent) = inr (keeps_spent t.setting new.setting limit played.setting spent)

@@ -23,7 +23,7 @@ use Rattle.region_layout.specs.Rows.{pools_of}
 use Rattle.trace_text.specs.declared.trace.Trace.{Trace}
 use Rattle.trace_text.specs.Events.{net_clients}
 use Rattle.actor_set.specs.Parts.{HostilePart, Part, UartPart, DriverPart, RxPart, TxPart, ClientPart, NetworkPart, SendingPart, BlockPart}
-use Rattle.actor_set.specs.Laws.Kinds.{sheet, scene_of, hostiles}
+use Rattle.actor_set.specs.Laws.Kinds.{AllCalm, sheet, scene_of, hostiles}
 use Rattle.actor_set.specs.Rogues.{pages_in}
 use Rattle.std.proofs.Math.Nat.{mul_comm}
 use Rattle.cast_core.specs.Casts.{client_pools, net_place}
@@ -47,7 +47,7 @@ use Rattle.cast_law.proofs.PoolsLemmas.Naming.{names_at, block_own}
 use Rattle.cast_law.proofs.PoolsLemmas.Owning.{owned}
 use Rattle.cast_law.specs.Places.{pool_place}
 use Rattle.system_core.proofs.PoolsLemmas.Ends.{job_apart}
-use Rattle.system_core.proofs.PoolsLemmas.Placing.{placed, job_at}
+use Rattle.system_core.proofs.PoolsLemmas.Placing.{cast_calm, placed, job_at}
 use Rattle.system_core.proofs.PoolsLemmas.Staying.{pool_stays, each_follows}
 
 -- an address in a pool's range
@@ -143,6 +143,9 @@ module _ (plan : Plan) (valid : Valid plan) where
   }
 
 module _ (plan : Plan) (trace : Trace) (s : Shown) (valid : Valid plan) (cast_is : IsCastOf plan trace s.setting) (stands : StandsLawful s) where
+  calm : AllCalm s.setting.cast
+  calm = cast_calm plan trace valid s.setting cast_is
+
   abbrev place : PoolPlace
   place = pool_place plan trace
 
@@ -174,7 +177,7 @@ module _ (plan : Plan) (trace : Trace) (s : Shown) (valid : Valid plan) (cast_is
   filled = subst (λ z. AreFilled (sheet z) rows cast) scene_is stands.fitted.ends
 
   rows_hold : EachMoment (λ j. RowsHold (sheet scene) hostile cast (moved s.setting.history j)) s.journal
-  rows_hold = subst (λ z. EachMoment (λ j. RowsHold (sheet z) hostile cast (moved s.setting.history j)) s.journal) scene_is (each_plain s.setting stands.fitted.calm s.journal stands.lawful.rows_hold)
+  rows_hold = subst (λ z. EachMoment (λ j. RowsHold (sheet z) hostile cast (moved s.setting.history j)) s.journal) scene_is (each_plain s.setting calm s.journal stands.lawful.rows_hold)
 
   -- each part is that of a job
   ends_apart : (k : ℕ) (p : Part) → slice_get cast k ≡ Some p → AreApart (sheet scene p).ends
@@ -207,8 +210,8 @@ module _ (plan : Plan) (trace : Trace) (s : Shown) (valid : Valid plan) (cast_is
   -- each move finds its buffer in the place that it leaves
   moves : (first : Table) → BeginsWith s.setting.history rows place cast first → EachMoment (OneOwner naming s.setting.history first) s.journal
   moves first is = owners_hold naming is.lender hostile s.setting.history rows (keepers_at cast) first s.journal
-      (owned rows cast stands.fitted.calm seated place.net place.blk here.net here.blk is.lender is.naming_is s.setting.history first s.journal filled stands.fitted.peopled ends_apart
-      (λ k p at. puts_own k p at (names_at rows cast stands.fitted.calm seated place.net place.blk here.net here.blk k p at))
+      (owned rows cast calm seated place.net place.blk here.net here.blk is.lender is.naming_is s.setting.history first s.journal filled stands.fitted.peopled ends_apart
+      (λ k p at. puts_own k p at (names_at rows cast calm seated place.net place.blk here.net here.blk k p at))
       stands.lawful.legal stands.lawful.flows rows_hold stands.lawful.kinds is.counted is.shown)
 
   -- from a table on with which it begins

@@ -1,9 +1,10 @@
 -- The classes of a plan that have pools stand at its place in a system.
 use Rattle.std.proofs.Common.{◌≡◌, ℕ, Option, None, Some, List, slice_get, refl, sym, ◌∙◌, subst, arith}
-use Rattle.actor_set.specs.Laws.Kinds.{scene_of}
+use Rattle.actor_set.specs.Laws.Kinds.{AllCalm, manner_of, scene_of}
+use Rattle.play_core.specs.Manners.{Calm}
 use Rattle.wired_law.specs.Wiring.{HasWholeIn, HasBlkIn}
 use Rattle.std.specs.Option.{option_map}
-use Rattle.play_core.proofs.Lists.{there_below}
+use Rattle.play_core.proofs.Lists.{some_is, there_below}
 use Rattle.sdf_plan.specs.declared.plan.Plan.{Plan}
 use Rattle.sdf_plan.specs.declared.plan.Net.{Net}
 use Rattle.sdf_plan.specs.declared.plan.Blk.{Blk}
@@ -21,7 +22,8 @@ use Rattle.cast_core.specs.Casts.{net_place, blk_place, calm_part}
 use Rattle.cast_law.specs.Pools.Places.{HasNetAt, HasBlkAt, IsPlaced}
 use Rattle.cast_law.specs.Places.{pool_place}
 use Rattle.cast_law.proofs.Pooled.{apart_pools}
-use Rattle.system_core.specs.Shows.{Shown}
+use Rattle.cast_law.proofs.PoolsLemmas.Calmed.{no_rogues}
+use Rattle.system_core.specs.Shows.{Setting, Shown}
 use Rattle.system_core.specs.Builds.{IsCastOf}
 
 -- a part of a class has a job of the class
@@ -76,6 +78,31 @@ blk_job plan trace DiskDriver q e of = of
 blk_job plan trace BlkVirtualiser q e of = of
 blk_job plan trace (BlkClient c) q e of = of.0
 
+-- each part of a plan's cast is calm
+calm_is : (plan : Plan) (trace : Trace) (job : Job) (p : Part) → calm_part plan trace job ≡ Some p → manner_of p ≡ Calm
+calm_is plan trace EthDevice p is = subst (λ q. manner_of q ≡ Calm) (some_is is) refl
+calm_is plan trace EthDriver p is = subst (λ q. manner_of q ≡ Calm) (some_is is) refl
+calm_is plan trace NetReceiver p is = subst (λ q. manner_of q ≡ Calm) (some_is is) refl
+calm_is plan trace NetSender p is = subst (λ q. manner_of q ≡ Calm) (some_is is) refl
+calm_is plan trace (NetCopier c) p is = subst (λ q. manner_of q ≡ Calm) (some_is is) refl
+calm_is plan trace (NetClient c) p is = subst (λ q. manner_of q ≡ Calm) (some_is is) refl
+calm_is plan trace UartDevice p is = subst (λ q. manner_of q ≡ Calm) (some_is is) refl
+calm_is plan trace UartDriver p is = subst (λ q. manner_of q ≡ Calm) (some_is is) refl
+calm_is plan trace SerialReceiver p is = subst (λ q. manner_of q ≡ Calm) (some_is is) refl
+calm_is plan trace SerialSender p is = subst (λ q. manner_of q ≡ Calm) (some_is is) refl
+calm_is plan trace (SerialClient c) p is = subst (λ q. manner_of q ≡ Calm) (some_is is) refl
+calm_is plan trace DiskDevice p is = subst (λ q. manner_of q ≡ Calm) (some_is is) refl
+calm_is plan trace DiskDriver p is = subst (λ q. manner_of q ≡ Calm) (some_is is) refl
+calm_is plan trace BlkVirtualiser p is = subst (λ q. manner_of q ≡ Calm) (some_is is) refl
+calm_is plan trace (BlkClient c) p is = subst (λ q. manner_of q ≡ Calm) (some_is is) refl
+
+-- so nobody of it is hostile
+pub cast_calm : (plan : Plan) (trace : Trace) → Valid plan → (s : Setting) → IsCastOf plan trace s → AllCalm s.cast
+cast_calm plan trace valid s cast_is k p at =
+    let below = there_below s.cast k p at in
+    let job = some_job plan valid k (omega (arith, below, cast_is.count)) in
+    calm_is plan trace job.0 p (sym (cast_is.parts job.0 k job.1) ∙ at)
+
 module _ (plan : Plan) (trace : Trace) (s : Shown) (valid : Valid plan) (cast_is : IsCastOf plan trace s.setting) (scene_is : s.setting.scene ≡ scene_of s.setting.cast) where
   abbrev cast : List Part
   cast = s.setting.cast
@@ -94,7 +121,11 @@ module _ (plan : Plan) (trace : Trace) (s : Shown) (valid : Valid plan) (cast_is
   no_blk none (blk, is) = absurd cc
 
   pub placed : IsPlaced s.setting.rows (pool_place plan trace) cast
-  placed = record { net = first plan.net refl; blk = behind plan.blk refl }
+  placed = record {
+    net = first plan.net refl;
+    blk = behind plan.blk refl;
+    rogues = no_rogues s.setting.rows (pool_place plan trace).net (pool_place plan trace).blk cast (cast_calm plan trace valid s.setting cast_is);
+  }
     where
       first : (n : Option Net) → plan.net ≡ n → HasNetAt s.setting.rows (option_map (λ net. net_place plan trace) n) cast
       first None none = record {

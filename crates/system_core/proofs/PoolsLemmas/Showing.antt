@@ -13,7 +13,7 @@ use Rattle.sdf_plan.specs.declared.plan.Plan.{Plan}
 use Rattle.sdf_check.specs.Valid.{Valid}
 use Rattle.region_layout.specs.Rows.{pools_of}
 use Rattle.trace_text.specs.declared.trace.Trace.{Trace}
-use Rattle.actor_set.specs.Laws.Kinds.{sheet, scene_of}
+use Rattle.actor_set.specs.Laws.Kinds.{AllCalm, sheet, scene_of}
 use Rattle.cast_law.specs.Pools.Places.{PoolPlace, IsPlaced, HasPools, cast_naming, place_sizes}
 use Rattle.cast_law.specs.Pools.Pooling.{BeginsWith, HasOwners}
 use Rattle.cast_law.proofs.PoolsLemmas.Playing.{begins_anew, all_there}
@@ -23,7 +23,7 @@ use Rattle.system_core.specs.Shows.{Shown}
 use Rattle.system_core.specs.Builds.{BeginsAnew, IsCastOf}
 use Rattle.system_core.specs.Lawful.{StandsLawful}
 use Rattle.system_core.specs.Pools.{IsFirstTable, owners_table, table_after, AllAdd, TellsOwners}
-use Rattle.system_core.proofs.PoolsLemmas.Placing.{placed}
+use Rattle.system_core.proofs.PoolsLemmas.Placing.{cast_calm, placed}
 use Rattle.system_core.proofs.PoolsLemmas.Owning.{one_owner}
 
 -- a line of a table
@@ -38,6 +38,9 @@ line_from t first (p ∷ ps) (suc k) l at =
     (x.0, x.1, x.2 ∙ ap (λ n. line_of x.0 (census t n x.0.buffers)) shift)
 
 module _ (plan : Plan) (trace : Trace) (s : Shown) (valid : Valid plan) (cast_is : IsCastOf plan trace s.setting) (stands : StandsLawful s) where
+  calm : AllCalm s.setting.cast
+  calm = cast_calm plan trace valid s.setting cast_is
+
   abbrev place : PoolPlace
   place = pool_place plan trace
 
@@ -55,7 +58,7 @@ module _ (plan : Plan) (trace : Trace) (s : Shown) (valid : Valid plan) (cast_is
 
   -- the system begins with a table of owners
   owners : HasOwners s.setting.history s.setting.rows place s.setting.cast
-  owners = stands.fitted.owners place here numbered
+  owners = stands.fitted.owners calm place here numbered
 
   first_table : IsFirstTable place s owners.table
   first_table = record { begins = owners.begins; pools = owners.pools }
@@ -63,12 +66,12 @@ module _ (plan : Plan) (trace : Trace) (s : Shown) (valid : Valid plan) (cast_is
   -- at the start state with the one in which each pool's buffers are in its owner's hand
   first_anew : BeginsAnew s.setting → IsFirstTable place s (owners_table s)
   first_anew anew = record {
-    begins = subst (λ h. BeginsWith h s.setting.rows place s.setting.cast (owners_table s)) (sym anew) (begins_anew s.setting.rows s.setting.cast stands.fitted.calm seated place here pools.numbered);
-    pools = all_there s.setting.rows s.setting.cast stands.fitted.calm seated place here pools.numbered;
+    begins = subst (λ h. BeginsWith h s.setting.rows place s.setting.cast (owners_table s)) (sym anew) (begins_anew s.setting.rows s.setting.cast calm seated place here pools.numbered);
+    pools = all_there s.setting.rows s.setting.cast calm seated place here pools.numbered;
   }
 
   shows_lines : (first : Table) → IsFirstTable place s first → s.state.pools ≡ table_lines (table_after place first s s.journal) 0 (pools_of plan)
-  shows_lines first is = stands.told.pools place here numbered first is.begins ∙ ap (table_lines (table_after place first s s.journal) 0) cast_is.pools
+  shows_lines first is = stands.told.pools calm place here numbered first is.begins ∙ ap (table_lines (table_after place first s s.journal) 0) cast_is.pools
 
   lines_add : AllAdd s.state.pools
   lines_add k l at =
@@ -85,5 +88,5 @@ module _ (plan : Plan) (trace : Trace) (s : Shown) (valid : Valid plan) (cast_is
     owners = one_owner plan trace s valid cast_is stands;
     lines = shows_lines;
     adds = lines_add;
-    buffers = stands.told.buffers place here numbered;
+    buffers = stands.told.buffers calm place here numbered;
   }

@@ -3,6 +3,7 @@
 ghost use Rattle.std.specs.Prelude.{◌≡◌, IfOk, [], map};
 ghost use Rattle.std.specs.List.{AllZip};
 ghost use Rattle.actor_set.specs.Actors.{part_of};
+ghost use Rattle.actor_set.specs.Laws.Kinds.{AllCalm};
 ghost use Rattle.order_law.specs.ActorParts.Given.{Kept, apart_of};
 ghost use Rattle.order_law.specs.ActorParts.Opened.{HaveNothing, AreAsOpened};
 ghost use Rattle.order_law.specs.ActorParts.Parting.{AreApart};
@@ -46,17 +47,18 @@ impl System {
     /// Takes a system apart before its first step: a new ring for each queue, and each actor with
     /// the ends that the rows give it, both in the order of the layout. Each end is as its ring was
     /// opened: it counts no look that answered no and no step, and its waiter and ringer are those
-    /// of the start. After want of memory nothing is left of the system.
+    /// of the start. Of a system with hostile actors less is said. After want of memory nothing is
+    /// left of the system.
     pub fn take_apart(self) -> Result<Parts, Memory>
         requires anew { BeginsAnew self.setting }
         requires unplayed { self.journal ≡ [] }
-        ensures apart { IfOk result (λ p. AreApart self.setting.rows p.rings.items
-            (map apart_of p.actors.items)) }
+        ensures apart { IfOk result (λ p. AllCalm self.setting.cast
+            → AreApart self.setting.rows p.rings.items (map apart_of p.actors.items)) }
         ensures nothing { IfOk result (λ p. HaveNothing (map apart_of p.actors.items)) }
         ensures opened { IfOk result (λ p. AreAsOpened self.setting.rows
             (map apart_of p.actors.items)) }
-        ensures cast { IfOk result (λ p. map (λ (x : Kept). part_of x.0.actor) p.actors.items
-            ≡ self.setting.cast) }
+        ensures cast { IfOk result (λ p. AllCalm self.setting.cast
+            → map (λ (x : Kept). part_of x.0.actor) p.actors.items ≡ self.setting.cast) }
     {
         let System {
             alloc,

@@ -65,7 +65,7 @@ made-more plan trace seed x n old new valid read made is p stays = record {
   begins = still-anew old.setting new.setting p.setting made.begins;
   system = stays plan trace valid read made.system;
   picked =
-      let first = picked_same (runs old.setting) (runs new.setting) seed [] old.journal (λ some rest is. keeps_runs old.setting new.setting made.system.stands.fitted.calm p.setting some) made.picked in
+      let first = picked_same (runs old.setting) (runs new.setting) seed [] old.journal (λ some rest is. keeps_runs old.setting new.setting made.system.calm p.setting some) made.picked in
       subst (λ j. PickedFrom (runs new.setting) seed [] j) (sym p.journal)
       (picked-on (runs new.setting) seed [] old.journal p.more first (subst (λ y. PickedFrom (runs new.setting) y old.journal p.more) is p.picked));
 }

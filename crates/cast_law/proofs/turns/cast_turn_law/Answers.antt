@@ -17,4 +17,4 @@ pub returns-clause-noted : goal.returns-clause-noted
 returns-clause-noted c = noted_tell
 
 pub returns-clause-calm : goal.returns-clause-calm
-returns-clause-calm c = λ ends rows pools actors passed in_place work sends k x at. calm_turns ends rows pools actors passed in_place work sends k x at
+returns-clause-calm c = λ ends rows pools actors passed calm in_place work sends k x at. calm_turns ends rows pools actors passed in_place work calm sends k x at

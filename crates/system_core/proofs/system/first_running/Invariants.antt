@@ -1,13 +1,11 @@
-use Rattle.std.proofs.Common.{◌≡◌, ◌≤◌, length, map, take}
-use Rattle.actor_set.specs.Actors.{part_of}
+use Rattle.std.proofs.Common.{◌≡◌, ◌≤◌, length, take}
 use Rattle.play_core.specs.Runs.{places_from}
-use Rattle.actor_set.specs.Laws.Kinds.{scene_of}
 use Rattle.system_core.specs.States.{history_of}
 use Rattle.system_core.proofs.Starting.{flags}
 use Rattle.system_core.proofs.system.first_running.Given as goal
 
 abbrev pub invariant-loop-k : goal.invariant-loop-k
 invariant-loop-k l = record {
-  list : l.running.list ≡ places_from 0 (take l.k (flags (history_of l.rows l.past.value.items) l.rows l.actors (scene_of (map part_of l.actors))));
+  list : l.running.list ≡ places_from 0 (take l.k (flags (history_of l.rows l.past.value.items) l.rows l.actors));
   room : length l.actors ≤ l.running.room;
 }

@@ -1,9 +1,5 @@
-use Rattle.system_core.proofs.Playing.{rests}
 use Rattle.system_core.proofs.Together.{stays_of_plan}
 use Rattle.system_core.proofs.system.System.play.Goals as goal
 
 pub returns-clause-system : goal.returns-clause-system
 returns-clause-system c = stays_of_plan _ _ c.args.seed c.args.limit c.play_on-ending.ensures.played c.stand.ensures.of_plan
-
-pub returns-clause-rests : goal.returns-clause-rests
-returns-clause-rests c = rests _ _ c.args.seed c.args.limit c.stand.ensures.stands.fitted.calm c.play_on-ending.ensures.played

@@ -12,17 +12,17 @@ use Rattle.system_core.specs.Inside.{shown_of}
 use Rattle.system_core.specs.Plays.{runnable_now}
 use Rattle.system_core.specs.Reports.{report_of}
 use Rattle.system_core.specs.States.{bad_in, frames_from, record_from, replies_from}
-use Rattle.system_core.proofs.Lining.{add_up, few_pools}
+use Rattle.system_core.proofs.Lining.{few_pools, no_more}
 use Rattle.system_core.proofs.system.System.report.Goals as goal
 
 pub lines-requires-clause-whole : goal.lines-requires-clause-whole
-lines-requires-clause-whole c k x at = fits_whole (end_at c.self.inside.world) x (c.self.invariant.holds.fits k x (ap (λ xs. slice_get xs k) (sym c.deref-7.ensures.value) ∙ at))
+lines-requires-clause-whole c k x at = fits_whole (end_at c.self.inside.wires.world) x (c.self.invariant.holds.fits k x (ap (λ xs. slice_get xs k) (sym c.deref-7.ensures.value) ∙ at))
 
 pub lines-requires-clause-few : goal.lines-requires-clause-few
 lines-requires-clause-few c = rw c.deref-6.ensures.value (few_pools c.self.inside c.self.invariant)
 
 pub lines-requires-clause-all : goal.lines-requires-clause-all
-lines-requires-clause-all c = rw (c.deref-6.ensures.value, c.deref-7.ensures.value) (add_up c.self.inside c.self.invariant)
+lines-requires-clause-all c = rw (c.deref-6.ensures.value, c.deref-7.ensures.value) (no_more c.self.inside c.self.invariant)
 
 -- each of its parts is what the system shows
 pub returns : goal.returns
@@ -35,7 +35,7 @@ returns c =
     let line = c.in_ok-line.ensures ∙ ap₂ (λ (xs : List Actor) (d : Option ℕ). option_map (record_from xs) d) c.deref-3.ensures.value c.device-2.ensures in
     let serial = c.in_ok-records.ensures ∙ ap₂ (λ (xs : List Actor) (ks : List ℕ). map (record_from xs) ks) c.deref-4.ensures.value c.clients-2.ensures in
     let blk = c.in_ok-replies.ensures ∙ ap₂ (λ (xs : List Actor) (ks : List ℕ). map (replies_from xs) ks) c.deref-5.ensures.value c.clients-3.ensures in
-    let pools = c.in_ok-lines.ensures ∙ ap₂ (λ (ps : List PoolRow) (xs : List Actor). counted_lines c.self.inside.world (holders_of xs) 0 ps) c.deref-6.ensures.value c.deref-7.ensures.value in
+    let pools = c.in_ok-lines.ensures ∙ ap₂ (λ (ps : List PoolRow) (xs : List Actor). counted_lines c.self.inside.wires.world (holders_of xs) 0 ps) c.deref-6.ensures.value c.deref-7.ensures.value in
     let bad = c.bad.ensures ∙ ap bad_in c.deref-8.ensures.value in
     let same : told ≡ report_of (shown_of c.self.inside) = λ i. record { quiet = nat_eq (count i) 0; steps = steps i; wire = wire i; net = net i; line = line i; serial = serial i; blk = blk i; pools = pools i; bad = bad i } in
     same ∙ ap report_of c.self.view_is

@@ -1,0 +1,8 @@
+-- Owners of buffers beside hostile clients.
+pub mod Windows
+pub mod Facts
+pub mod Hiding
+pub mod Keeping
+pub mod Beginning
+pub mod Plain
+pub mod Past

@@ -1,0 +1,2 @@
+-- What a call leaves as the last name (Lasting).
+pub mod Lasting
