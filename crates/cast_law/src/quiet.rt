@@ -1,6 +1,6 @@
 //! The network and the block class of a valid plan where nobody is runnable: their pools are as the
-//! laws of a quiet network and a quiet block class ask, and so are the queues of a class that has no
-//! hostile client.
+//! laws of a quiet network and a quiet block class ask, and so are the queues of a class that has
+//! no hostile client.
 
 ghost use Rattle.std.specs.Prelude.{◌≡◌, ℕ, false, Some, List};
 ghost use Rattle.sdf_plan.specs.declared.plan.Plan.{Plan};

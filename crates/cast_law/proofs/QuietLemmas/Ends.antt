@@ -101,27 +101,13 @@ module _ (plan : Plan) (trace : Trace) (valid : Valid plan) (cast : List Part) (
     owner_calm : (r : Role) → ((c : ℕ) → IsOf plan (NetClient c) → IsAmong (job_ends plan (NetClient c)) (record { queue = n; role = r }) → is_net_rogue plan c ≡ false)
         → ((c : ℕ) → IsOf plan (SerialClient c) → IsAmong (job_ends plan (SerialClient c)) (record { queue = n; role = r }) → is_serial_rogue plan c ≡ false)
         → ((c : ℕ) → IsAmong (job_ends plan (BlkClient c)) (record { queue = n; role = r }) → is_blk_rogue plan c ≡ false) → hostiles cast (owner_of row r) ≡ false
-    owner_calm r net serial blk = by (owner_at o.0 r) o.2
-      where
-        o = job_at plan n row at r
-
-        by : (job : Job) → HasJob plan job (owner_of row r) → hostiles cast (owner_of row r) ≡ false
-        by job has = calm_by job (owner_of row r) has (λ c e. net c (job_is_of plan (NetClient c) (owner_of row r) (as c e)) (among c e)) (λ c e. serial c (job_is_of plan (SerialClient c) (owner_of row r) (saying c e)) (said c e)) (λ c e. blk c (asked c e))
-          where
-            as : (c : ℕ) → job ≡ NetClient c → HasJob plan (NetClient c) (owner_of row r)
-            as c e = subst (λ j. HasJob plan j (owner_of row r)) e has
-
-            among : (c : ℕ) → job ≡ NetClient c → IsAmong (job_ends plan (NetClient c)) (record { queue = n; role = r })
-            among c e = has_end plan valid n row at r (NetClient c) (as c e)
-
-            saying : (c : ℕ) → job ≡ SerialClient c → HasJob plan (SerialClient c) (owner_of row r)
-            saying c e = subst (λ j. HasJob plan j (owner_of row r)) e has
-
-            said : (c : ℕ) → job ≡ SerialClient c → IsAmong (job_ends plan (SerialClient c)) (record { queue = n; role = r })
-            said c e = has_end plan valid n row at r (SerialClient c) (saying c e)
-
-            asked : (c : ℕ) → job ≡ BlkClient c → IsAmong (job_ends plan (BlkClient c)) (record { queue = n; role = r })
-            asked c e = has_end plan valid n row at r (BlkClient c) (subst (λ j. HasJob plan j (owner_of row r)) e has)
+    owner_calm r net serial blk =
+        let k = owner_of row r in
+        let o = job_at plan n row at r in
+        calm_by (owner_at o.0 r) k o.2
+        (λ c e. let has = subst (λ j. HasJob plan j k) e o.2 in net c (job_is_of plan (NetClient c) k has) (has_end plan valid n row at r (NetClient c) has))
+        (λ c e. let has = subst (λ j. HasJob plan j k) e o.2 in serial c (job_is_of plan (SerialClient c) k has) (has_end plan valid n row at r (SerialClient c) has))
+        (λ c e. let has = subst (λ j. HasJob plan j k) e o.2 in blk c (has_end plan valid n row at r (BlkClient c) has))
 
     both_calm : ((r : Role) → hostiles cast (owner_of row r) ≡ false) → is_calm (hostiles cast) row ≡ true
     both_calm calm = rw (calm Producer, calm Consumer) refl
