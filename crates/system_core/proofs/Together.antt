@@ -37,7 +37,7 @@ use Rattle.system_core.proofs.Scripts.{scripts_length}
 use Rattle.cast_core.specs.Sources.{first_serial}
 use Rattle.system_core.proofs.Casting.{HasSerial, has_serial}
 use Rattle.system_core.proofs.Networking.{sends_are, shows_frames}
-use Rattle.system_core.proofs.Quieting.{still_now, shows_whole_net, shows_whole_blk}
+use Rattle.system_core.proofs.Quieting.{none_there, still_now, shows_whole_net, shows_whole_blk}
 use Rattle.system_core.proofs.Bounded.{row_as, bounded}
 use Rattle.system_core.proofs.Replying.{shows_replies}
 use Rattle.system_core.proofs.PoolsLemmas.Placing.{cast_calm}
@@ -119,11 +119,11 @@ module _ (plan : Plan) (trace : Trace) (valid : Valid plan) (read : IsReadFor pl
     arrives = λ none. arrives_there none.serial (calm none);
     shows = λ none. shows_there none.serial (calm none);
     shows_net = λ net has. shows_frames plan net trace s cast_is has stands.told;
-    plain = λ none net has. sends_are plan net trace s cast_is has stands.told (calm none);
+    plain = λ gives net has. sends_are plan net trace s cast_is has stands.told (none_there plan trace s.setting valid gives net has cast_is);
     shows_blk = λ blk has. shows_replies plan blk trace s cast_is has stands.told;
     whole = λ quiet none serial has. whole_there none.serial (calm none) serial has quiet;
-    whole_net = λ quiet none net has. shows_whole_net s stands (calm none) quiet plan valid none net has trace cast_is;
-    whole_blk = λ quiet none blk has. shows_whole_blk s stands (calm none) quiet plan valid none blk has trace cast_is;
+    whole_net = λ quiet gives net has. shows_whole_net s stands quiet plan valid gives net has trace cast_is;
+    whole_blk = λ quiet gives blk has. shows_whole_blk s stands quiet plan valid gives blk has trace cast_is;
   }
 
 -- of each plan and trace of which it has the cast

@@ -33,6 +33,7 @@ use Rattle.system_core.specs.Shows.{State, Shown, runs, moved_in, wild_by}
 use Rattle.system_core.specs.Plays.{runnable_now}
 use Rattle.system_core.specs.Lawful.{StandsLawful}
 use Rattle.system_core.specs.Builds.{IsCastOf, BeginsAnew, serial_class}
+use Rattle.system_core.specs.GivesBack.{BlkGivesBack, NetGivesBack}
 use Rattle.system_core.specs.Pools.{TellsOwners}
 use Rattle.system_core.specs.declared.system.Ending.{Ending}
 use Rattle.system_core.specs.declared.system.Ending.TheVariants as Ends
@@ -105,19 +106,19 @@ pub record IsSystemOf (plan : Plan) (trace : Trace) (s : Shown) : Type 0 where
   pub shows_net : (net : Net) → plan.net ≡ Some net
       → ShowsFrames (wild_by s.setting) (net_place plan trace) trace.frames stands.told.passed
       s.state
-  -- where no client is hostile, all send by their programs
-  pub plain : HasNoRogue plan → (net : Net) → plan.net ≡ Some net
+  -- where no client of the network is hostile, all send by their programs
+  pub plain : NetGivesBack plan → (net : Net) → plan.net ≡ Some net
       → sends_beside (wild_by s.setting) (net_place plan trace) trace.frames stands.told.passed
       ≡ sends_at (net_place plan trace).programs (net_place plan trace).macs trace.frames
   pub shows_blk : (blk : Blk) → plan.blk ≡ Some blk → ShowsReplies (blk_place plan trace) s.state
   -- where nobody is runnable, all bytes of the serial class arrived
   pub whole : runnable_now s ≡ [] → HasNoRogue plan → (serial : Serial)
       → plan.serial ≡ Some serial → ShowsWhole (length serial.client) trace s.state
-  -- and all frames of the network
-  pub whole_net : runnable_now s ≡ [] → HasNoRogue plan → (net : Net) → plan.net ≡ Some net
+  -- and all frames of the network, where none of its clients is hostile, whoever else is
+  pub whole_net : runnable_now s ≡ [] → NetGivesBack plan → (net : Net) → plan.net ≡ Some net
       → ShowsAllFrames (net_place plan trace) trace.frames s.state
-  -- and all replies of the block class
-  pub whole_blk : runnable_now s ≡ [] → HasNoRogue plan → (blk : Blk) → plan.blk ≡ Some blk
+  -- and all replies of the block class, where none of its clients is
+  pub whole_blk : runnable_now s ≡ [] → BlkGivesBack plan → (blk : Blk) → plan.blk ≡ Some blk
       → ShowsAllReplies (blk_place plan trace) s.state
 
 -- of whatever valid plan and trace a system has the cast, it is a system of these

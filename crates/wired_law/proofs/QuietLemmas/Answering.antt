@@ -9,7 +9,7 @@ use Rattle.wire_core.specs.declared.names.QueueRow.{QueueRow}
 use Rattle.wire_core.specs.declared.names.Entry.{Entry}
 use Rattle.wire_core.specs.Deeds.{Cargo}
 use Rattle.wire_core.specs.Ends.{Role, End}
-use Rattle.wire_core.specs.Journal.{History}
+use Rattle.wire_core.specs.Journal.{History, Hostiles}
 use Rattle.wire_core.specs.Lists.{Passed}
 use Rattle.play_core.specs.Manners.{Calm}
 use Rattle.play_core.specs.Moved.{Moved, moved}
@@ -57,21 +57,24 @@ replies_whole image entry asks got begins many =
 pub told_long : (asks : List Ask) (came : List Cargo) → length came ≡ length asks → length (replies_to asks came) ≡ length asks
 told_long asks came same = replies_long asks came (omega (arith, same)) ∙ same
 
+-- where none of the class's queues has a hostile end, no client of it is hostile
+none_asks : (hostile : Hostiles) (rows : List QueueRow) (place : BlkPlace) → HasBlkRooms hostile rows place → NoneAsksWild (wild_in hostile rows) place
+none_asks hostile rows place rooms k below =
+    let n : place.first + (4 + 2 * k) ≡ place.first + 4 + 2 * k = omega arith in
+    subst (λ i. wild_in hostile rows i ≡ false) n (calm_queue hostile rows (place.first + (4 + 2 * k)) 1 (rooms (4 + 2 * k) (omega (arith, below))))
+
 -- the block class among a cast's actors, of which each has its row
 module _ (scene : Scene) (rows : List QueueRow) (cast : List Part) (names : Names) (m : Moved) (place : BlkPlace) (has : HasBlkIn scene rows place cast) (pools : HasClientPools place) (rooms : HasBlkRooms (hostiles cast) rows place) where
   abbrev wild : Wild
   wild = wild_in (hostiles cast) rows
 
-  -- no client of the class is hostile
-  pub none_asks : NoneAsksWild wild place
-  none_asks k below =
-      let n : place.first + (4 + 2 * k) ≡ place.first + 4 + 2 * k = omega arith in
-      subst (λ i. wild i ≡ false) n (calm_queue (hostiles cast) rows (place.first + (4 + 2 * k)) 1 (rooms (4 + 2 * k) (omega (arith, below))))
+  none_here : NoneAsksWild wild place
+  none_here = none_asks (hostiles cast) rows place rooms
 
   virt_none : NoneWild wild (BlockPart (virt_at place))
   virt_none j c at =
       let is = sharer_is place j c at in
-      ap (λ (x : Sharer). wild x.req) (sym is.4) ∙ none_asks j (there_below place.entries j is.0 is.2)
+      ap (λ (x : Sharer). wild x.req) (sym is.4) ∙ none_here j (there_below place.entries j is.0 is.2)
 
   module _ (row : (k : ℕ) (p : BlkPart) → IsOfBlock place p → NoneWild wild (BlockPart p) → slice_get cast k ≡ Some (BlockPart p) → (sheet scene (BlockPart p)).row m) where
     plays : (p : BlkPart) → IsOfBlock place p → NoneWild wild (BlockPart p) → HasPart cast (BlockPart p) → Plays (hostiles cast) (needful (told_in scene rows cast names) cast m) m (sheet scene (BlockPart p))
@@ -84,7 +87,7 @@ module _ (scene : Scene) (rows : List QueueRow) (cast : List Part) (names : Name
       disk = plays (disk_at place) (inl refl) tt has.disk;
       driver = plays (blk_driver_at place.first) (inr (inl refl)) tt has.driver;
       virt = plays (virt_at place) (inr (inr (inl refl))) virt_none has.virt;
-      client = λ k entry asks pool of. plays (blk_client_at place.first k asks pool) (inr (inr (inr (k, entry, asks, pool, of, refl)))) tt (has.client k entry asks pool of (none_asks k (there_below place.entries k entry of.has_entry)));
+      client = λ k entry asks pool of. plays (blk_client_at place.first k asks pool) (inr (inr (inr (k, entry, asks, pool, of, refl)))) tt (has.client k entry asks pool of (none_here k (there_below place.entries k entry of.has_entry)));
     }
 
 pub block_there : (scene : Scene) (rows : List QueueRow) (cast : List Part) (names : Names) (m : Moved) (place : BlkPlace) → HasBlkIn scene rows place cast → HasClientPools place → HasBlkRooms (hostiles cast) rows place → RowsHold (told_in scene rows cast names) (hostiles cast) cast m → IsBlock (hostiles cast) scene rows (needful (told_in scene rows cast names) cast m) place m
@@ -97,7 +100,7 @@ module _ (scene : Scene) (ends : Role → ℕ → End) (history : History) (rows
   cast = map part_of actors
 
   none : NoneAsksWild (wild_in (hostiles cast) rows) place
-  none = none_asks scene rows cast names (moved history journal) place has pools rooms
+  none = none_asks (hostiles cast) rows place rooms
 
   there : IsBlock (hostiles cast) scene rows (needful (told_in scene rows cast names) cast (moved history journal)) place (moved history journal)
   there = block_in scene rows cast names (moved history journal) place has pools rooms (λ k p of plain at.

@@ -1,12 +1,12 @@
 -- A cast that has the whole network, of whose queues none has a hostile end, has it among its actors;
 -- and where nobody else is runnable these recorded all.
-use Rattle.std.proofs.Common.{◌≡◌, ◌+◌, ◌*◌, ◌<◌, ℕ, Some, inl, inr, List, length, map, slice_get, refl, sym, ap, ◌∙◌, subst, arith}
+use Rattle.std.proofs.Common.{◌≡◌, ◌+◌, ◌*◌, ◌<◌, ℕ, false, Some, inl, inr, List, length, map, slice_get, refl, sym, ap, ◌∙◌, subst, arith}
 use Rattle.cargo_core.specs.Lists.{Merge, PrefixMerge}
 use Rattle.frame_core.specs.declared.mac.Mac.{Mac}
 use Rattle.wire_core.specs.declared.names.QueueRow.{QueueRow}
 use Rattle.wire_core.specs.declared.names.Entry.{Entry}
 use Rattle.wire_core.specs.Ends.{Role, End}
-use Rattle.wire_core.specs.Journal.{History}
+use Rattle.wire_core.specs.Journal.{History, Hostiles}
 use Rattle.wire_core.specs.Lists.{Passed}
 use Rattle.play_core.specs.Manners.{Calm}
 use Rattle.play_core.specs.Moved.{Moved, moved}
@@ -34,23 +34,26 @@ use Rattle.wired_law.specs.Wiring.{HasPart, HasWholeIn, IsOfNetwork, ClientsSend
 use Rattle.wired_law.proofs.Wiring.{net_turns, recorded, sends_calm_here, sent_beside, shipper_is}
 use Rattle.wired_law.proofs.QuietLemmas.Rows.{calm_queue, plain_row, plays_plain, row_there}
 
+-- where none of the network's queues has a hostile end, no client of it is hostile
+pub none_wild : (hostile : Hostiles) (rows : List QueueRow) (net : NetPlace) → HasPools net → HasRooms hostile rows net → NoneHostile (wild_in hostile rows) net
+none_wild hostile rows net pools rooms k below =
+    let many = pools.pools_many in
+    let n : net.first + (12 + 6 * k) ≡ client_first net.first k + 4 = omega arith in
+    subst (λ i. wild_in hostile rows i ≡ false) n (calm_queue hostile rows (net.first + (12 + 6 * k)) 1 (rooms.each (12 + 6 * k) (omega (arith, below, many))))
+
 -- the network among a cast's actors, of which each has its row
 module _ (scene : Scene) (rows : List QueueRow) (cast : List Part) (names : Names) (m : Moved) (net : NetPlace) (whole : HasWholeIn scene rows net cast) (pools : HasPools net) (rooms : HasRooms (hostiles cast) rows net) where
   abbrev wild : Wild
   wild = wild_in (hostiles cast) rows
 
-  -- no client of the network is hostile
-  pub none_wild : NoneHostile wild net
-  none_wild k below =
-      let many = pools.pools_many in
-      let n : net.first + (12 + 6 * k) ≡ client_first net.first k + 4 = omega arith in
-      subst (λ i. wild i ≡ false) n (calm_queue (hostiles cast) rows (net.first + (12 + 6 * k)) 1 (rooms.each (12 + 6 * k) (omega (arith, below, many))))
+  none_here : NoneHostile wild net
+  none_here = none_wild (hostiles cast) rows net pools rooms
 
   sender_none : NoneWild wild (SendingPart (sender_at net.first net.most net.pools))
   sender_none j c at =
       let is = shipper_is net.first net.most 0 net.pools j c at in
       let plus : 0 + j ≡ j = omega arith in
-      ap wild (is.0 ∙ ap (λ n. client_first net.first n + 4) plus) ∙ none_wild j is.2
+      ap wild (is.0 ∙ ap (λ n. client_first net.first n + 4) plus) ∙ none_here j is.2
 
   module _ (row : (k : ℕ) (p : Part) → IsOfNetwork net scene.frames p → manner_of p ≡ Calm → NoneWild wild p → slice_get cast k ≡ Some p → (sheet scene p).row m) where
     plays : (p : Part) → IsOfNetwork net scene.frames p → manner_of p ≡ Calm → NoneWild wild p → HasPart cast p → Plays (hostiles cast) (needful (told_in scene rows cast names) cast m) m (sheet scene p)
@@ -67,7 +70,7 @@ module _ (scene : Scene) (rows : List QueueRow) (cast : List Part) (names : Name
       copier = λ k lt. plays (NetworkPart (copier_at net.first k)) (inr (inr (inr (inr (inl (k, lt, refl)))))) refl tt (whole.copier k lt);
       client = λ k program mac q of. (
           let below : k < length net.pools = there_below net.pools k q of.pools in
-          plays (NetworkPart (client_at net.first k program mac (own_pools q))) (inr (inr (inr (inr (inr (k, program, mac, q, of, refl)))))) refl tt (whole.client k program mac q of (none_wild k below))
+          plays (NetworkPart (client_at net.first k program mac (own_pools q))) (inr (inr (inr (inr (inr (k, program, mac, q, of, refl)))))) refl tt (whole.client k program mac q of (none_here k below))
           );
     }
 
@@ -86,7 +89,7 @@ module _ (scene : Scene) (ends : Role → ℕ → End) (history : History) (rows
   needs = needful (told_in scene rows cast names) cast (moved history journal)
 
   none : NoneHostile (wild_in (hostiles cast) rows) net
-  none = none_wild scene rows cast names (moved history journal) net whole pools rooms
+  none = none_wild (hostiles cast) rows net pools rooms
 
   there : IsNetwork (hostiles cast) scene rows needs net (moved history journal)
   there = network_in scene rows cast names (moved history journal) net whole pools rooms (λ k p of calm plain at.
