@@ -143,8 +143,8 @@ pub record TellsBuffers (place : PoolPlace) (s : Shown) : Type 0 where
       → slice_get (part_pools p) j ≡ Some q → 1 ≤ q.buffers
       → counted (of_other_length (record { 0 = q.number }) q.size) s.state.bodies ≡ 0
 
--- a hostile client records nothing: where the actor at this place is one, the records of the clients
--- of this crew that it is are empty
+-- hostile clients record nothing: of the clients of this crew, each has an empty record whose actor
+-- is one
 abbrev pub IsSilent : {T : Type 0} → Shown → Crew → List (List T) → Type 0
 IsSilent {T} s crew records = (c k : ℕ) (p : RoguePart) (got : List T)
     → slice_get crew.clients c ≡ Some k → slice_get s.setting.cast k ≡ Some (HostilePart p)
