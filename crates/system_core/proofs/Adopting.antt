@@ -65,6 +65,7 @@ use Rattle.layout_laws.proofs.SeatsLemmas.Counts.{few_numbers}
 use Rattle.system_core.specs.Builds.{IsCastOf}
 use Rattle.system_core.specs.Crews.{net_crew, serial_crew, blk_crew}
 use Rattle.system_core.proofs.Fitting.{are_sized, fitted_place}
+use Rattle.cast_core.specs.Hostile.{HasNoRogue}
 use Rattle.system_core.proofs.PoolsLemmas.Placing.{cast_calm}
 use Rattle.system_core.proofs.Telling.{wants_plain}
 use Rattle.wire_core.specs.Sizes.{AreSized}
@@ -403,9 +404,9 @@ module _ (s : Setting) (calm : AllCalm s.cast) (rings : List RingIs) (parts : Li
 abbrev Given : Type 0
 Given = List QueueRow × List PoolRow × Crew × Crew × Crew
 
-module _ (plan : Plan) (valid : Valid plan) (trace : Trace) (s : Setting) (cast : IsCastOf plan trace s) (rings : List RingIs) (parts : List Apart) (come : HaveComeFrom s rings parts) (rows : List QueueRow) (rows_are : rows ≡ queues_of plan) where
+module _ (plan : Plan) (valid : Valid plan) (none : HasNoRogue plan) (trace : Trace) (s : Setting) (cast : IsCastOf plan trace s) (rings : List RingIs) (parts : List Apart) (come : HaveComeFrom s rings parts) (rows : List QueueRow) (rows_are : rows ≡ queues_of plan) where
   calm_plan : AllCalm s.cast
-  calm_plan = cast_calm plan trace valid s cast
+  calm_plan = cast_calm plan trace valid none s cast
 
   few_cast : length s.cast ≤ 65536
   few_cast = subst (λ (n : ℕ). n ≤ 65536) (sym cast.count) (few_numbers plan valid)
