@@ -115,7 +115,7 @@ module _ (plan : Plan) (trace : Trace) (valid : Valid plan) (read : IsReadFor pl
     calm = calm;
     bounded = λ none. bounded plan trace valid none s cast_is stands (there none.serial (calm none));
     stands = stands;
-    owners = λ none. tells_owners plan trace s valid none cast_is stands;
+    owners = tells_owners plan trace s valid cast_is stands;
     arrives = λ none. arrives_there none.serial (calm none);
     shows = λ none. shows_there none.serial (calm none);
     shows_net = λ net has. shows_frames plan net trace s cast_is has stands.told;

@@ -96,8 +96,8 @@ pub record IsSystemOf (plan : Plan) (trace : Trace) (s : Shown) : Type 0 where
   -- and whoever counts, the whole journal is shorter than the budget
   pub bounded : HasNoRogue plan → length s.journal < budget_of plan trace
   pub stands : StandsLawful s
-  -- each buffer has one owner at each moment, or its counted receivers
-  pub owners : HasNoRogue plan → TellsOwners plan (pool_place plan trace) s
+  -- each buffer but those of hostile clients has one owner at each moment, or its counted receivers
+  pub owners : TellsOwners plan (pool_place plan trace) s
   pub arrives : HasNoRogue plan → (serial : Serial) → plan.serial ≡ Some serial → EachMoment (λ j.
       ArrivesInPart (serial_class (first_serial plan) (length serial.client) trace)
       (moved_in s.setting j)) s.journal
