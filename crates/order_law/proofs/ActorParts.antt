@@ -6,3 +6,4 @@ pub mod Places
 pub mod Standing
 pub mod Numbering
 pub mod Sorting
+pub mod Hosting

@@ -1,8 +1,6 @@
--- No ring of actors apart is wild.
+-- Whether the rings of an actor apart are wild, and whether those at its seats are.
 use Rattle.std.proofs.Common.{◌≡◌, ◌∙◌, ℕ, zero, suc, false, List, [], ◌∷◌, refl, sym, ap, Option, Some, None, slice_get}
-use Rattle.std.specs.List.{AllZip}
 use Rattle.wire_core.specs.declared.names.QueueId.{QueueId}
-use Rattle.wire_core.specs.declared.names.QueueRow.{QueueRow}
 use Rattle.wire_core.specs.Ends.{Role}
 use Rattle.spsc_queue.specs.Known.Ends.{EndIs, RingIs}
 use Rattle.seat_wires.specs.Places.Are.{SeatsAre}
@@ -10,17 +8,9 @@ use Rattle.seat_wires.specs.Places.{ends_of}
 use Rattle.seat_wires.specs.Went.{sort_known, sort_at, NoneWild}
 use Rattle.order_law.specs.ActorParts.Going.{AreSeatsOf}
 use Rattle.order_law.specs.ActorParts.Numbered.{numbered}
-use Rattle.order_law.specs.ActorParts.Parting.{Apart, ends_at, end_in, IsRingOf}
+use Rattle.order_law.specs.ActorParts.Parting.{Apart, ends_at, end_in}
 use Rattle.order_law.proofs.ActorParts.Numbering.{numbered_from}
 use Rattle.order_law.proofs.ActorParts.Standing.{found}
-
--- a ring as a row says isn't wild
-pub plain_ring : (rows : List QueueRow) (rings : List RingIs) → AllZip IsRingOf rows rings → (n : ℕ) (ring : RingIs) → slice_get rings n ≡ Some ring → ring.wild ≡ false
-plain_ring [] [] all n ring at = cc
-plain_ring [] (g ∷ rings) all n ring at = absurd all
-plain_ring (r ∷ rows) [] all n ring at = cc
-plain_ring (r ∷ rows) (g ∷ rings) all zero ring at = let same : ring ≡ g = cc in ap (λ (z : RingIs). z.wild) same ∙ all.0.2
-plain_ring (r ∷ rows) (g ∷ rings) all (suc n) ring at = plain_ring rows rings all.1 n ring at
 
 -- where no end knows of a wild ring, none stands at a place
 pub none_wild : (rings : List RingIs) (p : Apart) (s : SeatsAre) → AreSeatsOf rings p s → ((r : Role) (i : ℕ) (x : QueueId × EndIs) → slice_get (ends_at p r) i ≡ Some x → x.1.knows.wild ≡ false) → NoneWild s
