@@ -35,8 +35,8 @@ impl Worker {
         }
     }
 
-    // Whether its actor is hostile.
-    pub(crate) fn is_hostile(&self) -> bool
+    /// Whether its actor is hostile.
+    pub fn is_hostile(&self) -> bool
         ensures { result ≡ is_hostile (manner_of (part_of self.now.actor)) }
     {
         self.actor.is_hostile()
