@@ -22,7 +22,6 @@ use Rattle.play_core.specs.Sheets.{Scene}
 use Rattle.play_core.specs.Still.{IsPeopled}
 use Rattle.play_core.specs.Wants.{all_settled}
 use Rattle.play_core.proofs.Lists.{some_is, map_get, map_from, there_is, there_below}
-use Rattle.owner_law.specs.Pages.{CarryPages}
 use Rattle.play_core.specs.Rests.Showing.{HaveItems, HaveBells}
 use Rattle.actor_set.specs.Parts.{Part}
 use Rattle.actor_set.specs.Actors.{FitsActor, ActorStandsFor, ActorEnd, Forgot, IsWhole, part_of, actor_round, actor_rests}
@@ -38,7 +37,9 @@ use Rattle.actor_set.proofs.LawsLemmas.Starts.{fits_whole}
 use Rattle.actor_set.proofs.LawsLemmas.Told.{none_wild}
 use Rattle.wired_law.specs.Wiring.{AreAtWork, AreOfKind, ClientsSend}
 use Rattle.wired_law.proofs.Wiring.{turns_calm}
+use Rattle.cast_law.specs.Pools.Beside.{CarryBeside, is_rogues}
 use Rattle.cast_law.specs.Pools.Places.{PoolPlace, IsInPlace, IsPlaced, HasPools, cast_naming}
+use Rattle.cast_law.proofs.BesideLemmas.Carrying.{calm_asks}
 use Rattle.cast_law.proofs.TurnsLemmas.{noted_tell, told_turns}
 use Rattle.cast_law.specs.Pools.Pooling.{AreAtPlay, HasOwners}
 use Rattle.cast_law.proofs.PoolsLemmas.Playing.{rows_at}
@@ -64,6 +65,7 @@ use Rattle.layout_laws.proofs.SeatsLemmas.Counts.{few_numbers}
 use Rattle.system_core.specs.Builds.{IsCastOf}
 use Rattle.system_core.specs.Crews.{net_crew, serial_crew, blk_crew}
 use Rattle.system_core.proofs.Fitting.{are_sized, fitted_place}
+use Rattle.cast_core.specs.Hostile.{HasNoRogue}
 use Rattle.system_core.proofs.PoolsLemmas.Placing.{cast_calm}
 use Rattle.system_core.proofs.Telling.{wants_plain}
 use Rattle.wire_core.specs.Sizes.{AreSized}
@@ -263,12 +265,8 @@ module _ (s : Setting) (rings : List RingIs) (parts : List Apart) (fitted : IsFi
     queues = λ n row at. (left.each n row at).shown;
     fits = fits_now;
     stands = stands_now;
-    carry = λ calm_here place placed. (
-        let same = parts_same actors nows calm forgotten in
-        let none = none_wild (map part_of actors) calm rows in
-        let carried = held.carry place (subst (IsPlaced rows place) same placed) (λ blk is k q at is_wild. absurd (let no = none (blk.first + 4 + 2 * k) in cc)) (moved history []) items in
-        subst (λ (c : List Part). CarryPages (cast_naming (scene_of c) place) (moved history []) passed) (sym same) (record { sent = carried.sent; taken = carried.taken; bodies = λ n k c at b. carried.bodies n (none n) k c at b })
-        );
+    carry = λ place placed. subst (λ (c : List Part). CarryBeside (wild_in (hostiles c) rows) (is_rogues (wild_in (hostiles c) rows) place) (cast_naming (scene_of c) place) (moved history []) passed) (sym (parts_same actors nows calm forgotten)) (held.carry place (subst (IsPlaced rows place) (parts_same actors nows calm forgotten) placed) (calm_asks rows place (map part_of actors) passed calm) (moved history []) items);
+    asks = λ place placed. calm_asks rows place (map part_of nows) passed calm_now;
     sends = sends_now;
     noted = noted;
     in_turn = told_now;
@@ -406,9 +404,9 @@ module _ (s : Setting) (calm : AllCalm s.cast) (rings : List RingIs) (parts : Li
 abbrev Given : Type 0
 Given = List QueueRow × List PoolRow × Crew × Crew × Crew
 
-module _ (plan : Plan) (valid : Valid plan) (trace : Trace) (s : Setting) (cast : IsCastOf plan trace s) (rings : List RingIs) (parts : List Apart) (come : HaveComeFrom s rings parts) (rows : List QueueRow) (rows_are : rows ≡ queues_of plan) where
+module _ (plan : Plan) (valid : Valid plan) (none : HasNoRogue plan) (trace : Trace) (s : Setting) (cast : IsCastOf plan trace s) (rings : List RingIs) (parts : List Apart) (come : HaveComeFrom s rings parts) (rows : List QueueRow) (rows_are : rows ≡ queues_of plan) where
   calm_plan : AllCalm s.cast
-  calm_plan = cast_calm plan trace valid s cast
+  calm_plan = cast_calm plan trace valid none s cast
 
   few_cast : length s.cast ≤ 65536
   few_cast = subst (λ (n : ℕ). n ≤ 65536) (sym cast.count) (few_numbers plan valid)

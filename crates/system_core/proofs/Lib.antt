@@ -12,6 +12,7 @@ pub mod Stepping
 pub mod Noting
 pub mod Keeping
 pub mod Recording
+pub mod BadOnes
 pub mod Lining
 pub mod Counting
 pub mod Fewness

@@ -5,6 +5,7 @@ use Rattle.wire_core.specs.Journal.{EachMoment, start_history}
 use Rattle.wire_core.proofs.BellTheorem.{queues_flow}
 use Rattle.buffer_kit.specs.Conserving.{Count, counted, of_pool, the_page, of_other_length}
 use Rattle.owner_law.specs.Owners.{Table, replay}
+use Rattle.owner_law.specs.Pages.{CarryPages}
 use Rattle.owner_law.specs.Keeping.{start_table}
 use Rattle.cast_law.specs.PoolLines.PoolLines.{table_lines, counted_lines}
 use Rattle.actor_set.specs.Parts.{Part}
@@ -21,6 +22,7 @@ use Rattle.cast_law.specs.Pages.Paging.{pools_weigh, shown_bodies}
 use Rattle.cast_law.specs.Pools.Holders.{holders_of}
 use Rattle.cast_law.specs.Pools.Places.{PoolPlace, IsPlaced, HasPools, ArePooled, cast_naming, place_sizes}
 use Rattle.cast_law.specs.Pools.Pooling.{keepers_at, AddUp, AreAtPlay, AreOverQueues, BeginsWith, AreKindly}
+use Rattle.cast_law.proofs.BesideLemmas.Carrying.{plain_carries}
 use Rattle.cast_law.proofs.PoolsLemmas.Calmed.{Calmed, calmed, no_rogues}
 use Rattle.cast_law.proofs.PoolsLemmas.Moments.{each_kindly}
 use Rattle.cast_law.proofs.PagesLemmas.Holding.{cast_whole, cast_shown, cast_once, cast_lengths}
@@ -105,9 +107,12 @@ module _ (a : Inside) (i : IsSystem a) where
       in_turn = turns;
     }
 
+    carried : (place : PoolPlace) → IsPlaced a.rows.items place cast → CarryPages (cast_naming (scene_of cast) place) (moved (setting_of a).history a.journal.items) i.holds.passed
+    carried place placed = plain_carries a.rows.items place a.actors.items (moved (setting_of a).history a.journal.items) i.holds.passed calm (i.holds.carry place placed)
+
     -- the lines are those of the table
     pub pool_lines : (place : PoolPlace) → IsPlaced a.rows.items place cast → HasPools a.pools.items place → (start : Table) → BeginsWith (setting_of a).history a.rows.items place cast start → counted_lines a.wires.world (holders_of a.actors.items) 0 a.pools.items ≡ table_lines (replay (cast_naming (scene_of cast) place) (setting_of a).history start a.journal.items) 0 a.pools.items
-    pool_lines place placed has start begins = play_lines (setting_of a).history a.rows.items a.pools.items place a.actors.items start a.journal.items i.holds.passed a.wires.world placed has at_play begins (i.holds.carry calm place placed)
+    pool_lines place placed has start begins = play_lines (setting_of a).history a.rows.items a.pools.items place a.actors.items start a.journal.items i.holds.passed a.wires.world placed has at_play begins (carried place placed)
 
     -- so they are from the start state on, where each pool's buffers are in its owner's hand
     pub pool_lines_anew : (setting_of a).history ≡ start_history a.rows.items → (place : PoolPlace) → IsPlaced a.rows.items place cast → HasPools a.pools.items place → counted_lines a.wires.world (holders_of a.actors.items) 0 a.pools.items ≡ table_lines (replay (cast_naming (scene_of cast) place) (start_history a.rows.items) (start_table (keepers_at cast)) a.journal.items) 0 a.pools.items
@@ -117,7 +122,7 @@ module _ (a : Inside) (i : IsSystem a) where
 
     -- the buffers are those of the cast's pools, one by one
     buffers_weigh : (place : PoolPlace) → IsPlaced a.rows.items place cast → HasPools a.pools.items place → (f : Count) → counted f (shown_bodies a.wires.world a.actors.items) ≡ pools_weigh f cast
-    buffers_weigh place placed has = cast_shown (setting_of a).history a.rows.items a.actors.items a.journal.items i.holds.passed a.wires.world at_play a.pools.items place placed has (i.holds.carry calm place placed)
+    buffers_weigh place placed has = cast_shown (setting_of a).history a.rows.items a.actors.items a.journal.items i.holds.passed a.wires.world at_play a.pools.items place placed has (carried place placed)
 
     pub buffers_told : (place : PoolPlace) → IsPlaced a.rows.items place cast → HasPools a.pools.items place → TellsBuffers place (shown_of a)
     buffers_told place placed has =
@@ -136,7 +141,7 @@ module _ (a : Inside) (i : IsSystem a) where
     add_up = by i.fitted.pooled
       where
         by : ArePooled a.rows.items a.pools.items cast → AddUp a.wires.world (holders_of a.actors.items) a.pools.items
-        by x = play_whole (setting_of a).history a.rows.items a.pools.items x.0 a.actors.items a.journal.items i.holds.passed a.wires.world x.1 x.2 at_play (i.fitted.owners calm x.0 x.1 x.2) (i.holds.carry calm x.0 x.1)
+        by x = play_whole (setting_of a).history a.rows.items a.pools.items x.0 a.actors.items a.journal.items i.holds.passed a.wires.world x.1 x.2 at_play (i.fitted.owners calm x.0 x.1 x.2) (carried x.0 x.1)
 
     -- nothing was counted as bad
     none_in : (xs : List Actor) → ((k : ℕ) (x : Actor) → slice_get xs k ≡ Some x → bad_of x ≡ 0) → sum_by bad_of xs ≡ 0

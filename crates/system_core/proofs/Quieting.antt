@@ -22,6 +22,7 @@ use Rattle.wired_law.specs.Wiring.{HasWhole, HasWholeIn, HasBlkIn}
 use Rattle.wired_law.proofs.QuietLemmas.Quieting.{network_there}
 use Rattle.wired_law.proofs.QuietLemmas.Answering.{block_there}
 use Rattle.cast_core.specs.Casts.{net_place, blk_place}
+use Rattle.cast_core.specs.Hostile.{HasNoRogue}
 use Rattle.cast_law.proofs.QuietLemmas.Rooms.{pools_are, rooms_are}
 use Rattle.cast_law.proofs.QuietLemmas.Blocks.{blk_pools_are, blk_rooms_are}
 use Rattle.system_core.specs.Shows.{Shown, manner_in, hostile_in, moved_in, RowsStand}
@@ -47,7 +48,7 @@ module _ (s : Shown) (stands : StandsLawful s) (calm : AllCalm s.setting.cast) (
   })
 
   -- the network of a plan
-  module _ (plan : Plan) (valid : Valid plan) (net : Net) (has : plan.net ≡ Some net) (trace : Trace) (cast : IsCastOf plan trace s.setting) where
+  module _ (plan : Plan) (valid : Valid plan) (none : HasNoRogue plan) (net : Net) (has : plan.net ≡ Some net) (trace : Trace) (cast : IsCastOf plan trace s.setting) where
     abbrev place : NetPlace
     place = net_place plan trace
 
@@ -62,12 +63,12 @@ module _ (s : Shown) (stands : StandsLawful s) (calm : AllCalm s.setting.cast) (
 
     pub shows_whole_net : ShowsAllFrames place trace.frames s.state
     shows_whole_net =
-        shows_all_frames plan net trace s cast has stands.told calm
+        shows_all_frames plan net trace s cast has stands.told calm none.net
         (arrives_all (hostile_in s.setting) s.setting.history s.setting.rows actors s.journal s.setting.scene place still_now network)
         (sends_all (hostile_in s.setting) s.setting.history s.setting.rows actors s.journal s.setting.scene place still_now network)
 
   -- the block class of a plan
-  module _ (plan : Plan) (valid : Valid plan) (blk : Blk) (has : plan.blk ≡ Some blk) (trace : Trace) (cast : IsCastOf plan trace s.setting) where
+  module _ (plan : Plan) (valid : Valid plan) (none : HasNoRogue plan) (blk : Blk) (has : plan.blk ≡ Some blk) (trace : Trace) (cast : IsCastOf plan trace s.setting) where
     abbrev disk_place : BlkPlace
     disk_place = blk_place plan trace
 
@@ -84,4 +85,4 @@ module _ (s : Shown) (stands : StandsLawful s) (calm : AllCalm s.setting.cast) (
     answers = answers_all (hostile_in s.setting) s.setting.history s.setting.rows actors s.journal s.setting.scene disk_place still_now block
 
     pub shows_whole_blk : ShowsAllReplies disk_place s.state
-    shows_whole_blk = shows_all_replies plan blk trace s cast has stands.told answers.answered
+    shows_whole_blk = shows_all_replies plan blk trace s cast has stands.told none.blk answers.answered

@@ -28,13 +28,15 @@ use Rattle.system_core.specs.declared.system.Ending.TheVariants as Ends
 use Rattle.system_core.specs.Lawful.{StandsLawful}
 use Rattle.order_law.specs.ActorParts.Parting.{Apart}
 use Rattle.system_core.specs.Adopting.{IsAdopted}
+use Rattle.cast_core.specs.Hostile.{HasNoRogue}
 use Rattle.system_core.specs.Builds.{IsBuilt, IsCastOf, BeginsAnew, serial_class}
-use Rattle.system_core.specs.PlanPlays.{IsSystemOf, IsOfItsPlan, StaysOfItsPlan, IsPlayed, IsPlayedOn, HasEnded}
+use Rattle.system_core.specs.GivesBack.{SerialGivesBack}
+use Rattle.system_core.specs.PlanPlays.{ShowsInPart, ShowsWhole, IsSystemOf, IsOfItsPlan, StaysOfItsPlan, IsPlayed, IsPlayedOn, HasEnded}
 use Rattle.actor_set.proofs.LawsLemmas.Calm.{calm_actor, sheet_is}
 use Rattle.system_core.proofs.Scripts.{scripts_length}
 use Rattle.cast_core.specs.Sources.{first_serial}
 use Rattle.system_core.proofs.Casting.{HasSerial, has_serial}
-use Rattle.system_core.proofs.Networking.{shows_frames}
+use Rattle.system_core.proofs.Networking.{sends_are, shows_frames}
 use Rattle.system_core.proofs.Quieting.{still_now, shows_whole_net, shows_whole_blk}
 use Rattle.system_core.proofs.Bounded.{row_as, bounded}
 use Rattle.system_core.proofs.Replying.{shows_replies}
@@ -81,15 +83,13 @@ module _ (s : Shown) (stands : StandsLawful s) (calm : AllCalm s.setting.cast) (
 
 -- a system of a plan and a trace, whatever its queues had before its journal begins
 module _ (plan : Plan) (trace : Trace) (valid : Valid plan) (read : IsReadFor plan trace) (s : Shown) (cast_is : IsCastOf plan trace s.setting) (stands : StandsLawful s) (part : LawInPart) (whole : LawWhole) where
-  calm : AllCalm s.setting.cast
-  calm = cast_calm plan trace valid s.setting cast_is
-
-  module _ (serial : Serial) (has : plan.serial ≡ Some serial) where
+  -- the serial class, where none of it is hostile
+  module _ (gives : SerialGivesBack plan) (calm : AllCalm s.setting.cast) (serial : Serial) (has : plan.serial ≡ Some serial) where
     abbrev class : SerialClass
     class = serial_class (first_serial plan) (length serial.client) trace
 
     class_is : HasSerial (first_serial plan) plan serial trace s.setting
-    class_is = has_serial plan trace s.setting cast_is serial has
+    class_is = has_serial plan trace s.setting cast_is gives serial has
 
     says : length trace.says ≡ length serial.client
     says = scripts_length plan serial trace has read
@@ -97,20 +97,33 @@ module _ (plan : Plan) (trace : Trace) (valid : Valid plan) (read : IsReadFor pl
     there : IsSerial (There s.setting) (hostile_in s.setting) s.setting.rows class
     there = serial_there plan serial (first_serial plan) trace s.setting stands.fitted calm class_is says
 
+    arrives_there : EachMoment (λ j. ArrivesInPart class (moved_in s.setting j)) s.journal
+    arrives_there = arrives s stands calm class there part
+
+    shows_there : ShowsInPart (length serial.client) trace s.state
+    shows_there = shows_in_part plan serial (first_serial plan) trace s class_is says stands.told (arrives_now s stands calm class there part)
+
+    whole_there : runnable_now s ≡ [] → ShowsWhole (length serial.client) trace s.state
+    whole_there quiet = shows_whole plan serial (first_serial plan) trace s class_is says stands.told (arrives_whole s stands calm class there whole quiet)
+
+  calm : HasNoRogue plan → AllCalm s.setting.cast
+  calm none = cast_calm plan trace valid none s.setting cast_is
+
   pub is_system : IsSystemOf plan trace s
   is_system = record {
     cast = cast_is;
     calm = calm;
-    bounded = bounded plan trace valid s cast_is stands (λ serial has. there serial has);
+    bounded = λ none. bounded plan trace valid none s cast_is stands (there none.serial (calm none));
     stands = stands;
-    owners = tells_owners plan trace s valid cast_is stands;
-    arrives = λ serial has. arrives s stands calm (class serial has) (there serial has) part;
-    shows = λ serial has. shows_in_part plan serial (first_serial plan) trace s (class_is serial has) (says serial has) stands.told (arrives_now s stands calm (class serial has) (there serial has) part);
-    shows_net = λ net has. shows_frames plan net trace s cast_is has stands.told calm;
+    owners = λ none. tells_owners plan trace s valid none cast_is stands;
+    arrives = λ none. arrives_there none.serial (calm none);
+    shows = λ none. shows_there none.serial (calm none);
+    shows_net = λ net has. shows_frames plan net trace s cast_is has stands.told;
+    plain = λ none net has. sends_are plan net trace s cast_is has stands.told (calm none);
     shows_blk = λ blk has. shows_replies plan blk trace s cast_is has stands.told;
-    whole = λ quiet serial has. shows_whole plan serial (first_serial plan) trace s (class_is serial has) (says serial has) stands.told (arrives_whole s stands calm (class serial has) (there serial has) whole quiet);
-    whole_net = λ quiet net has. shows_whole_net s stands calm quiet plan valid net has trace cast_is;
-    whole_blk = λ quiet blk has. shows_whole_blk s stands calm quiet plan valid blk has trace cast_is;
+    whole = λ quiet none serial has. whole_there none.serial (calm none) serial has quiet;
+    whole_net = λ quiet none net has. shows_whole_net s stands (calm none) quiet plan valid none net has trace cast_is;
+    whole_blk = λ quiet none blk has. shows_whole_blk s stands (calm none) quiet plan valid none blk has trace cast_is;
   }
 
 -- of each plan and trace of which it has the cast
@@ -127,6 +140,7 @@ same_cast plan trace s h is = record {
   parts = is.parts;
   whole = is.whole;
   whole_block = is.whole_block;
+  rogues = is.rogues;
   net = is.net;
   serial = is.serial;
   blk = is.blk;
@@ -142,6 +156,7 @@ named_cast plan trace s ns is = record {
   parts = is.parts;
   whole = is.whole;
   whole_block = is.whole_block;
+  rogues = is.rogues;
   net = is.net;
   serial = is.serial;
   blk = is.blk;

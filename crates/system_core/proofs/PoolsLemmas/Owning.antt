@@ -27,6 +27,8 @@ use Rattle.actor_set.specs.Laws.Kinds.{AllCalm, sheet, scene_of, hostiles}
 use Rattle.actor_set.specs.Rogues.{pages_in}
 use Rattle.std.proofs.Math.Nat.{mul_comm}
 use Rattle.cast_core.specs.Casts.{client_pools, net_place}
+use Rattle.cast_core.specs.Hostile.{HasNoRogue}
+use Rattle.cast_core.proofs.HostileLemmas.{calm_jobs}
 use Rattle.cast_core.specs.Sources.{pool_at, first_blk_pool}
 use Rattle.cast_core.proofs.Listing.{value_is}
 use Rattle.cast_core.proofs.Rooms.{pools_apart, has_pools}
@@ -142,9 +144,9 @@ module _ (plan : Plan) (valid : Valid plan) where
         is_false (is_at d.pool a) (λ too. off (2 + 2 * j) (2 + 2 * k) a (sends_below plan.net j v.0) (sends_below plan.net k u.0) (λ e. ne (omega (arith, e))) (subst (λ z. is_at z a ≡ true) (p ∙ first) here) (subst (λ z. is_at z a ≡ true) (q ∙ second) too));
   }
 
-module _ (plan : Plan) (trace : Trace) (s : Shown) (valid : Valid plan) (cast_is : IsCastOf plan trace s.setting) (stands : StandsLawful s) where
+module _ (plan : Plan) (trace : Trace) (s : Shown) (valid : Valid plan) (none : HasNoRogue plan) (cast_is : IsCastOf plan trace s.setting) (stands : StandsLawful s) where
   calm : AllCalm s.setting.cast
-  calm = cast_calm plan trace valid s.setting cast_is
+  calm = cast_calm plan trace valid none s.setting cast_is
 
   abbrev place : PoolPlace
   place = pool_place plan trace
@@ -181,7 +183,7 @@ module _ (plan : Plan) (trace : Trace) (s : Shown) (valid : Valid plan) (cast_is
 
   -- each part is that of a job
   ends_apart : (k : ℕ) (p : Part) → slice_get cast k ≡ Some p → AreApart (sheet scene p).ends
-  ends_apart k p at = let job = job_at plan trace s valid cast_is scene_is k p at in job_apart plan trace scene job.0 p job.2
+  ends_apart k p at = let job = job_at plan trace s valid cast_is scene_is k p at in job_apart plan trace scene job.0 p (sym (calm_jobs plan trace job.0 none) ∙ job.2)
 
   -- each may put only what was in its hand
   sender_is : (net : NetPlace) → net.first ≡ 0 → (p : SendPart) → IsOfNetwork net scene.frames (SendingPart p) → sender_at 0 net.most net.pools ≡ p

@@ -17,6 +17,7 @@ use Rattle.actor_set.specs.Laws.Kinds.{AllCalm, sheet, scene_of}
 use Rattle.cast_law.specs.Pools.Places.{PoolPlace, IsPlaced, HasPools, cast_naming, place_sizes}
 use Rattle.cast_law.specs.Pools.Pooling.{BeginsWith, HasOwners}
 use Rattle.cast_law.proofs.PoolsLemmas.Playing.{begins_anew, all_there}
+use Rattle.cast_core.specs.Hostile.{HasNoRogue}
 use Rattle.cast_law.specs.Places.{pool_place}
 use Rattle.cast_law.proofs.Pooled.{pooled}
 use Rattle.system_core.specs.Shows.{Shown}
@@ -37,9 +38,9 @@ line_from t first (p ∷ ps) (suc k) l at =
     let shift : first + 1 + k ≡ first + suc k = omega arith in
     (x.0, x.1, x.2 ∙ ap (λ n. line_of x.0 (census t n x.0.buffers)) shift)
 
-module _ (plan : Plan) (trace : Trace) (s : Shown) (valid : Valid plan) (cast_is : IsCastOf plan trace s.setting) (stands : StandsLawful s) where
+module _ (plan : Plan) (trace : Trace) (s : Shown) (valid : Valid plan) (none : HasNoRogue plan) (cast_is : IsCastOf plan trace s.setting) (stands : StandsLawful s) where
   calm : AllCalm s.setting.cast
-  calm = cast_calm plan trace valid s.setting cast_is
+  calm = cast_calm plan trace valid none s.setting cast_is
 
   abbrev place : PoolPlace
   place = pool_place plan trace
@@ -85,7 +86,7 @@ module _ (plan : Plan) (trace : Trace) (s : Shown) (valid : Valid plan) (cast_is
     table = owners.table;
     first = first_table;
     anew = first_anew;
-    owners = one_owner plan trace s valid cast_is stands;
+    owners = one_owner plan trace s valid none cast_is stands;
     lines = shows_lines;
     adds = lines_add;
     buffers = stands.told.buffers calm place here numbered;
