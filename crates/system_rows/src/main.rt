@@ -18,7 +18,6 @@ ghost use Rattle.std.specs.Prelude.{◌≡◌, ◌<◌, length};
 ghost use Rattle.sdf_check.specs.Valid.{Valid};
 ghost use Rattle.trace_text.specs.Events.{blk_clients};
 ghost use Rattle.trace_text.specs.Traces.{IsReadFor};
-ghost use Rattle.cast_core.specs.Hostile.{HasNoRogue};
 
 mod judging;
 mod naming;
@@ -27,7 +26,6 @@ mod numbering;
 mod playing;
 
 use cargo_core::{Memory, Reply};
-use cast_core::has_no_rogue;
 use expect_core::{Report, input_of, replies_of};
 use judging::judged;
 use network::print_network;
@@ -205,7 +203,6 @@ fn play(
 ) -> Result<String, Memory>
     requires valid { Valid plan.now }
     requires trace { IsReadFor plan.now trace.now }
-    requires friendly { HasNoRogue plan.now }
 {
     let layout = lay_out(alloc, plan)?;
     let seeds = seeds_of(alloc, seeds)?;
@@ -227,9 +224,6 @@ fn play_lines(
 ) -> Result<String, Memory>
     requires { Valid plan.now }
 {
-    if !has_no_rogue(plan) {
-        return Ok(String::from_str(alloc, "hostile\n")?);
-    }
     let text = trace_of(alloc, lines)?;
     match read_trace(alloc, text.as_str().as_bytes(), plan) {
         Ok(trace) => play(alloc, plan, &trace, seeds, steps),
