@@ -10,6 +10,7 @@ use Rattle.net_expect.specs.Expecting.{frames_for}
 use Rattle.net_law.specs.TxParts.Numbers.{NetPlace}
 use Rattle.net_quiet.specs.TxCast.Casting.{sends_at, wire_at}
 use Rattle.cast_core.specs.Casts.{net_place, blk_place}
+use Rattle.cast_core.specs.Hostile.{HasNoRogue}
 use Rattle.cast_core.specs.Sources.{first_serial}
 use Rattle.play_core.specs.Moved.{Moved}
 use Rattle.serial_law.specs.Serial.{ArrivesInPart}
@@ -86,29 +87,29 @@ pub record ShowsAllReplies (blk : BlkPlace) (s : State) : Type 0 where
 -- many plays it came to that journal, and whatever seeds picked its steps
 pub record IsSystemOf (plan : Plan) (trace : Trace) (s : Shown) : Type 0 where
   pub cast : IsCastOf plan trace s.setting
-  -- nobody is hostile
-  pub calm : AllCalm s.setting.cast
-  -- whoever counts, the whole journal is shorter than the budget
-  pub bounded : length s.journal < budget_of plan trace
+  -- where no client is hostile, no actor is
+  pub calm : HasNoRogue plan → AllCalm s.setting.cast
+  -- and whoever counts, the whole journal is shorter than the budget
+  pub bounded : HasNoRogue plan → length s.journal < budget_of plan trace
   pub stands : StandsLawful s
   -- each buffer has one owner at each moment, or its counted receivers
-  pub owners : TellsOwners plan (pool_place plan trace) s
-  pub arrives : (serial : Serial) → plan.serial ≡ Some serial → EachMoment (λ j.
+  pub owners : HasNoRogue plan → TellsOwners plan (pool_place plan trace) s
+  pub arrives : HasNoRogue plan → (serial : Serial) → plan.serial ≡ Some serial → EachMoment (λ j.
       ArrivesInPart (serial_class (first_serial plan) (length serial.client) trace)
       (moved_in s.setting j)) s.journal
-  pub shows : (serial : Serial) → plan.serial ≡ Some serial
+  pub shows : HasNoRogue plan → (serial : Serial) → plan.serial ≡ Some serial
       → ShowsInPart (length serial.client) trace s.state
   pub shows_net : (net : Net) → plan.net ≡ Some net
       → ShowsFrames (net_place plan trace) trace.frames (moved_in s.setting s.journal) s.state
   pub shows_blk : (blk : Blk) → plan.blk ≡ Some blk → ShowsReplies (blk_place plan trace) s.state
   -- where nobody is runnable, all bytes of the serial class arrived
-  pub whole : runnable_now s ≡ [] → (serial : Serial) → plan.serial ≡ Some serial
-      → ShowsWhole (length serial.client) trace s.state
+  pub whole : runnable_now s ≡ [] → HasNoRogue plan → (serial : Serial)
+      → plan.serial ≡ Some serial → ShowsWhole (length serial.client) trace s.state
   -- and all frames of the network
-  pub whole_net : runnable_now s ≡ [] → (net : Net) → plan.net ≡ Some net
+  pub whole_net : runnable_now s ≡ [] → HasNoRogue plan → (net : Net) → plan.net ≡ Some net
       → ShowsAllFrames (net_place plan trace) trace.frames s.state
   -- and all replies of the block class
-  pub whole_blk : runnable_now s ≡ [] → (blk : Blk) → plan.blk ≡ Some blk
+  pub whole_blk : runnable_now s ≡ [] → HasNoRogue plan → (blk : Blk) → plan.blk ≡ Some blk
       → ShowsAllReplies (blk_place plan trace) s.state
 
 -- of whatever valid plan and trace a system has the cast, it is a system of these
