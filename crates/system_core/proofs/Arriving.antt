@@ -1,5 +1,5 @@
 -- The serial class of a system: what arrives at its clients and on the line.
-use Rattle.std.proofs.Common.{◌≡◌, ℕ, Some, List, [], length, refl, subst, arith}
+use Rattle.std.proofs.Common.{◌≡◌, ℕ, Some, List, [], length, refl, sym, ◌∙◌, subst, arith}
 use Rattle.std.proofs.lemmas.List.{length-map}
 use Rattle.wire_core.specs.declared.names.QueueRow.{QueueRow}
 use Rattle.wire_core.specs.declared.names.Entry.{Entry}
@@ -23,7 +23,8 @@ use Rattle.serial_law.specs.Parts.{SerialPart, SerialDevice, SerialDriver, Seria
 use Rattle.serial_law.specs.Table.{serial_sheet}
 use Rattle.serial_law.specs.Serial.{SerialClass, IsSerial, ArrivesWhole}
 use Rattle.serial_law.specs.Beside.{Rogues, IsSerialBeside, ArrivesBeside}
-use Rattle.serial_law.proofs.Arrivals.{as_there, beside_there, RowAt}
+use Rattle.serial_law.proofs.Arrivals.{as_there, beside_there, said_calm, RowAt}
+use Rattle.cast_core.proofs.Seconds.{second_length}
 use Rattle.actor_set.specs.Laws.Kinds.{manner_of, serial_part, sheet}
 use Rattle.actor_set.specs.Laws.Scenes.{told_sheet}
 use Rattle.actor_set.proofs.LawsLemmas.Calm.{calm_at}
@@ -32,7 +33,7 @@ use Rattle.system_core.specs.Plays.{runnable_now}
 use Rattle.system_core.specs.Lawful.{StandsLawful}
 use Rattle.system_core.specs.Builds.{IsCastOf, serial_class}
 use Rattle.system_core.specs.GivesBack.{SerialGivesBack}
-use Rattle.system_core.specs.PlanPlays.{ShowsInPart, ShowsWhole}
+use Rattle.system_core.specs.PlanPlays.{ShowsInPart, ShowsWhole, serial_says}
 use Rattle.system_core.proofs.Scripts.{scripts_length}
 use Rattle.system_core.proofs.Casting.{HasSerial, has_serial}
 use Rattle.system_core.proofs.Begun.{There, serial_beside, serial_there, shows_in_part, shows_whole}
@@ -135,6 +136,9 @@ module _ (plan : Plan) (trace : Trace) (read : IsReadFor plan trace) (s : Shown)
 
   pub serial_shows : LawBeside → ShowsInPart plan trace serial (moved_in s.setting s.journal) s.state
   serial_shows law = shows_in_part plan serial trace s class_is says stands.told (arrives_now s stands class (is_serial_rogue plan) class_beside law)
+
+  pub serial_scripts : SerialGivesBack plan → serial_says plan trace serial (moved_in s.setting s.journal) ≡ trace.says
+  serial_scripts calm = said_calm (is_serial_rogue plan) (moved_in s.setting s.journal) calm 0 class.client_tx trace.says (second_length (first_serial plan + 5) (length serial.client) ∙ sym says)
 
   pub serial_whole : LawWhole → runnable_now s ≡ [] → SerialGivesBack plan → ShowsWhole (length serial.client) trace s.state
   serial_whole law quiet calm = shows_whole plan serial trace s class_is says stands.told calm (arrives_whole s stands class (class_there calm) law quiet)

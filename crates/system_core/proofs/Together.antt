@@ -1,23 +1,13 @@
-use Rattle.std.proofs.Common.{◌≡◌, ◌≤◌, ◌++◌, ℕ, Some, List, [], length, sym, ap, ◌∙◌, subst, arith, refl, Result, Ok, Err, IfOk}
-use Rattle.wire_core.specs.declared.names.QueueRow.{QueueRow}
-use Rattle.wire_core.specs.declared.names.Entry.{Entry}
+use Rattle.std.proofs.Common.{◌≡◌, ◌≤◌, ◌++◌, ℕ, List, [], length, sym, ap, ◌∙◌, subst, arith, refl, Result, Ok, Err, IfOk}
 use Rattle.wire_core.specs.Picks.{PickedFrom}
-use Rattle.wire_core.specs.Journal.{History, Hostiles, EachMoment, QueuesFlow}
+use Rattle.wire_core.specs.Journal.{History}
 use Rattle.sdf_plan.specs.declared.plan.Plan.{Plan}
-use Rattle.sdf_plan.specs.declared.plan.Serial.{Serial}
 use Rattle.sdf_check.specs.Valid.{Valid}
 use Rattle.trace_text.specs.declared.trace.Trace.{Trace}
 use Rattle.trace_text.specs.Traces.{IsReadFor}
-use Rattle.play_core.specs.Moved.{Moved, moved}
 use Rattle.play_core.specs.Names.{Noted}
-use Rattle.play_core.specs.Wants.{Needful}
-use Rattle.play_core.specs.Sheets.{needful}
-use Rattle.play_core.specs.Still.{IsStill, Plays}
-use Rattle.play_core.proofs.Moments.{last_moment, each_moment}
-use Rattle.play_core.proofs.Tables.{plays_there}
-use Rattle.actor_set.specs.Laws.Kinds.{AllCalm, serial_part, sheet}
-use Rattle.system_core.specs.Shows.{Setting, Shown, hostile_in, moved_in, runs, RowsStand}
-use Rattle.system_core.proofs.Telling.{rows_plain}
+use Rattle.actor_set.specs.Laws.Kinds.{AllCalm}
+use Rattle.system_core.specs.Shows.{Setting, Shown, runs}
 use Rattle.system_core.specs.Plays.{Played, IsSpent, runnable_now}
 use Rattle.system_core.specs.declared.system.Ending.{Ending}
 use Rattle.system_core.specs.declared.system.Ending.TheVariants as Ends
@@ -25,17 +15,15 @@ use Rattle.system_core.specs.Lawful.{StandsLawful}
 use Rattle.order_law.specs.ActorParts.Parting.{Apart}
 use Rattle.system_core.specs.Adopting.{IsAdopted}
 use Rattle.cast_core.specs.Hostile.{HasNoRogue}
-use Rattle.system_core.specs.Builds.{IsBuilt, IsCastOf, BeginsAnew, serial_class}
-use Rattle.system_core.specs.GivesBack.{SerialGivesBack}
-use Rattle.system_core.specs.PlanPlays.{ShowsInPart, ShowsWhole, IsSystemOf, IsOfItsPlan, StaysOfItsPlan, IsPlayed, IsPlayedOn, HasEnded}
-use Rattle.actor_set.proofs.LawsLemmas.Calm.{calm_actor, sheet_is}
+use Rattle.system_core.specs.Builds.{IsBuilt, IsCastOf, BeginsAnew}
+use Rattle.system_core.specs.PlanPlays.{IsSystemOf, IsOfItsPlan, StaysOfItsPlan, IsPlayed, IsPlayedOn, HasEnded}
 use Rattle.system_core.proofs.Networking.{sends_are, shows_frames}
 use Rattle.system_core.proofs.Quieting.{none_there, shows_whole_net, shows_whole_blk}
-use Rattle.system_core.proofs.Bounded.{row_as, bounded}
+use Rattle.system_core.proofs.Bounded.{bounded}
 use Rattle.system_core.proofs.Replying.{shows_replies}
 use Rattle.system_core.proofs.PoolsLemmas.Placing.{cast_calm}
 use Rattle.system_core.proofs.PoolsLemmas.Showing.{tells_owners}
-use Rattle.system_core.proofs.Arriving.{LawBeside, LawWhole, class_there, serial_arrives, serial_shows, serial_whole}
+use Rattle.system_core.proofs.Arriving.{LawBeside, LawWhole, class_there, serial_arrives, serial_scripts, serial_shows, serial_whole}
 
 -- a system of a plan and a trace, whatever its queues had before its journal begins
 module _ (plan : Plan) (trace : Trace) (valid : Valid plan) (read : IsReadFor plan trace) (s : Shown) (cast_is : IsCastOf plan trace s.setting) (stands : StandsLawful s) (beside : LawBeside) (whole : LawWhole) where
@@ -51,6 +39,7 @@ module _ (plan : Plan) (trace : Trace) (valid : Valid plan) (read : IsReadFor pl
     owners = tells_owners plan trace s valid cast_is stands;
     arrives = λ serial has. serial_arrives plan trace read s cast_is stands serial has beside;
     shows = λ serial has. serial_shows plan trace read s cast_is stands serial has beside;
+    scripts = λ gives serial has. serial_scripts plan trace read s cast_is stands serial has gives;
     shows_net = λ net has. shows_frames plan net trace s cast_is has stands.told;
     plain = λ gives net has. sends_are plan net trace s cast_is has stands.told (none_there plan trace s.setting valid gives net has cast_is);
     shows_blk = λ blk has. shows_replies plan blk trace s cast_is has stands.told;

@@ -116,6 +116,9 @@ pub record IsSystemOf (plan : Plan) (trace : Trace) (s : Shown) : Type 0 where
       s.journal
   pub shows : (serial : Serial) → plan.serial ≡ Some serial
       → ShowsInPart plan trace serial (moved_in s.setting s.journal) s.state
+  -- where no serial client is hostile, all say their scripts
+  pub scripts : SerialGivesBack plan → (serial : Serial) → plan.serial ≡ Some serial
+      → serial_says plan trace serial (moved_in s.setting s.journal) ≡ trace.says
   pub shows_net : (net : Net) → plan.net ≡ Some net
       → ShowsFrames (wild_by s.setting) (net_place plan trace) trace.frames stands.told.passed
       s.state
