@@ -13,7 +13,6 @@ use Rattle.net_expect.specs.Expecting.{frames_for}
 use Rattle.serial_switch.specs.Switching.{input_of}
 use Rattle.expect_core.specs.Expected.{client_asks, client_entry, replies_in}
 use Rattle.expect_core.specs.Isolation.{AreOfOne, IsRecordOf}
-use Rattle.cast_core.specs.Hostile.{HasNoRogue}
 use Rattle.cast_core.specs.Sources.{client_mac}
 use Rattle.cast_core.proofs.Listing.{value_at}
 use Rattle.system_core.specs.Shows.{Shown}
@@ -59,11 +58,11 @@ frames_of plan trace s c got h lt at =
       all = λ rests. (h.whole_net (still s rests.0) rests.1 has.0 has.1).records c (client_mac plan c) got mac at;
     }
 
-pub input_for : (plan : Plan) (trace : Trace) (s : Shown) (c : ℕ) (got : List ℕ) → IsSystemOf plan trace s → HasNoRogue plan → c < length (serial_clients plan) → slice_get s.state.serial c ≡ Some got → IsRecordIn (input_of (length (serial_clients plan)) c trace.input) (SerialRests plan s) got
-input_for plan trace s c got h none lt at =
+pub input_for : (plan : Plan) (trace : Trace) (s : Shown) (c : ℕ) (got : List ℕ) → IsSystemOf plan trace s → c < length (serial_clients plan) → slice_get s.state.serial c ≡ Some got → IsRecordIn (input_of (length (serial_clients plan)) c trace.input) (SerialRests plan s) got
+input_for plan trace s c got h lt at =
     let has = there_in (λ (serial : Serial). serial.client) plan.serial c lt in
     let own : IsRecordIn (input_of (length has.0.client) c trace.input) (SerialRests plan s) got = record {
-      begins = (h.shows none has.0 has.1).records c got at;
+      begins = (h.shows has.0 has.1).records c got at;
       all = λ rests. (h.whole (still s rests.0) rests.1 has.0 has.1).records c got at;
     } in
     let many : length (serial_clients plan) ≡ length has.0.client = ap (λ cs. length cs) (serials plan has.0 has.1) in

@@ -46,17 +46,17 @@ module _ (plan : Plan) (trace : Trace) (valid : Valid plan) (read : IsReadFor pl
   is_system = record {
     cast = cast_is;
     calm = calm;
-      bounded = λ none. bounded plan trace valid none s cast_is stands (λ serial has. class_there plan trace read s cast_is stands serial has none.serial);
-      stands = stands;
-      owners = tells_owners plan trace s valid cast_is stands;
-      arrives = λ serial has. serial_arrives plan trace read s cast_is stands serial has beside;
-      shows = λ serial has. serial_shows plan trace read s cast_is stands serial has beside;
-      shows_net = λ net has. shows_frames plan net trace s cast_is has stands.told;
-      plain = λ gives net has. sends_are plan net trace s cast_is has stands.told (none_there plan trace s.setting valid gives net has cast_is);
-      shows_blk = λ blk has. shows_replies plan blk trace s cast_is has stands.told;
-      whole = λ quiet calm serial has. serial_whole plan trace read s cast_is stands serial has whole quiet calm;
-      whole_net = λ quiet gives net has. shows_whole_net s stands quiet plan valid gives net has trace cast_is;
-      whole_blk = λ quiet gives blk has. shows_whole_blk s stands quiet plan valid gives blk has trace cast_is;
+    bounded = λ none. bounded plan trace valid none s cast_is stands (λ serial has. class_there plan trace read s cast_is stands serial has none.serial);
+    stands = stands;
+    owners = tells_owners plan trace s valid cast_is stands;
+    arrives = λ serial has. serial_arrives plan trace read s cast_is stands serial has beside;
+    shows = λ serial has. serial_shows plan trace read s cast_is stands serial has beside;
+    shows_net = λ net has. shows_frames plan net trace s cast_is has stands.told;
+    plain = λ gives net has. sends_are plan net trace s cast_is has stands.told (none_there plan trace s.setting valid gives net has cast_is);
+    shows_blk = λ blk has. shows_replies plan blk trace s cast_is has stands.told;
+    whole = λ quiet calm serial has. serial_whole plan trace read s cast_is stands serial has whole quiet calm;
+    whole_net = λ quiet gives net has. shows_whole_net s stands quiet plan valid gives net has trace cast_is;
+    whole_blk = λ quiet gives blk has. shows_whole_blk s stands quiet plan valid gives blk has trace cast_is;
   }
 
 -- of each plan and trace of which it has the cast

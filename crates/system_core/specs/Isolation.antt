@@ -10,8 +10,8 @@ use Rattle.net_expect.specs.Expecting.{frames_for}
 use Rattle.serial_switch.specs.Switching.{input_of}
 use Rattle.expect_core.specs.Expected.{client_asks, client_entry, replies_in}
 use Rattle.expect_core.specs.Isolation.{AgreeOnFrames, AgreeOnInput, AgreeOnPartition}
-use Rattle.cast_core.specs.Hostile.{HasNoRogue}
 use Rattle.cast_core.specs.Sources.{client_mac}
+use Rattle.system_core.specs.GivesBack.{BlkGivesBack, NetGivesBack, SerialGivesBack}
 use Rattle.system_core.specs.Shows.{Shown}
 use Rattle.system_core.specs.Reports.{report_of}
 
@@ -55,15 +55,15 @@ pub record AgreeOnBlk (plan : Plan) (trace : Trace) (c : ℕ) (other : Plan) (to
 
 -- a system is quiet, and the network's clients give back what they get
 abbrev pub NetRests : Plan → Shown → Type 0
-NetRests plan s = ((report_of s).quiet ≡ true) × HasNoRogue plan
+NetRests plan s = ((report_of s).quiet ≡ true) × NetGivesBack plan
 
 -- it is quiet, and the serial clients take what they get
 abbrev pub SerialRests : Plan → Shown → Type 0
-SerialRests plan s = ((report_of s).quiet ≡ true) × HasNoRogue plan
+SerialRests plan s = ((report_of s).quiet ≡ true) × SerialGivesBack plan
 
 -- it is quiet, and the block clients give back what they get
 abbrev pub BlkRests : Plan → Shown → Type 0
-BlkRests plan s = ((report_of s).quiet ≡ true) × HasNoRogue plan
+BlkRests plan s = ((report_of s).quiet ≡ true) × BlkGivesBack plan
 
 -- a record is a beginning of a list, and all of it where this holds
 pub record IsRecordIn {T : Type 0} (whole : List T) (Rests : Type 0) (got : List T) : Type 0 where

@@ -20,14 +20,14 @@ returns-clause-net k plan other trace told s t c d got seen h g same at to =
     (subst (λ (m : Mac). IsRecordIn (frames_for m told.frames) (NetRests other t) seen) (sym same.mac) (frames_of other told t d seen g same.there to))
 
 pub returns-clause-serial : goal.returns-clause-serial
-returns-clause-serial k plan other trace told s t c got seen h g none nobody same at to =
+returns-clause-serial k plan other trace told s t c got seen h g same at to =
     let lt = same.here in
     let below = subst (λ n. c < n) same.many lt in
     let many = length (serial_clients plan) in
     of_one (input_of many c trace.input) (input_of many c told.input) (SerialRests plan s) (SerialRests other t) got seen
     (λ quiet rests. k.isolation_law.ensures.serial many c trace.input told.input quiet rests got seen same.input)
-    (input_for plan trace s c got h none lt at)
-    (subst (λ n. IsRecordIn (input_of n c told.input) (SerialRests other t) seen) (sym same.many) (input_for other told t c seen g nobody below to))
+    (input_for plan trace s c got h lt at)
+    (subst (λ n. IsRecordIn (input_of n c told.input) (SerialRests other t) seen) (sym same.many) (input_for other told t c seen g below to))
 
 pub returns-clause-blk : goal.returns-clause-blk
 returns-clause-blk k plan other trace told s t c d got seen h g same at to =
