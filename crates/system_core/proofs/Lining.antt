@@ -1,6 +1,7 @@
 -- The lines of pools that a system reports are those of the table of owners, and nothing is bad.
 use Rattle.std.proofs.Common.{◌≡◌, ◌+◌, ◌-◌, ◌^◌, ◌≤◌, ℕ, zero, suc, min, Some, List, [], ◌∷◌, length, map, slice_get, sum_by, refl, sym, ap, ◌∙◌, subst, arith}
 use Rattle.std.proofs.lemmas.List.Sums.{sum_by-cons}
+use Rattle.wire_core.specs.declared.names.PoolRow.{PoolRow}
 use Rattle.wire_core.specs.Journal.{EachMoment, start_history}
 use Rattle.wire_core.proofs.BellTheorem.{queues_flow}
 use Rattle.cargo_core.specs.declared.census.Census.{Census}
