@@ -50,7 +50,7 @@ module _ (a : Inside) (i : IsSystem a) where
     frames = λ net whole. record {
       records = records_at (setting_of a).history a.rows.items a.names.items a.wires.world a.actors.items a.journal.items i.holds net whole a.net.clients;
       wire = wire_here (setting_of a).history a.rows.items a.names.items a.wires.world a.actors.items a.journal.items i.holds net whole a.net.device;
-      plain = λ calm. sends_plain (setting_of a).history a.rows.items a.names.items a.wires.world a.actors.items a.journal.items i.holds calm net whole;
+      plain = sends_plain (setting_of a).history a.rows.items a.names.items a.wires.world a.actors.items a.journal.items i.holds net whole;
     };
     net_silent = net_silent (setting_of a).history a.rows.items a.names.items a.wires.world a.actors.items a.journal.items i.holds a.net.clients;
     blk = length-map a.blk.clients (replies_from a.actors.items);

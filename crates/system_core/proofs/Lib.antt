@@ -20,6 +20,7 @@ pub mod Hearing
 pub mod Scripts
 pub mod Casting
 pub mod Begun
+pub mod Arriving
 pub mod Networking
 pub mod Bounded
 pub mod Replying

@@ -22,7 +22,7 @@ use Rattle.net_law.specs.Owners.Names.{ClientPools}
 use Rattle.owner_law.specs.Pools.Places.{PoolAt}
 use Rattle.net_law.specs.Parts.Numbers.{client_first, device_at, client_at}
 use Rattle.net_law.specs.TxParts.Numbers.{NetPlace}
-use Rattle.net_quiet.specs.TxCast.Casting.{sends_at, sends_beside, wire_beside}
+use Rattle.net_quiet.specs.TxCast.Casting.{NoneHostile, sends_at, sends_beside, wire_beside}
 use Rattle.play_core.specs.Moved.{Seat}
 use Rattle.play_core.specs.Rests.Showing.{HaveItems}
 use Rattle.play_core.specs.Sheets.{AreSeated, IsSeat}
@@ -108,7 +108,7 @@ wire_of s net passed = wire_beside (wild_by s.setting) net s.setting.scene.frame
 -- at a place of the network the record of a client that has buffers is a beginning of the frames
 -- for its address, a frame for each entry that it took; and what was sent on the device's wire is
 -- what the entries tell, a merge of beginnings of what the clients send, all by their programs
--- where nobody is hostile
+-- where none of them is hostile
 pub record TellsFrames (s : Shown) (passed : Passed) (net : NetPlace) : Type 0 where
   pub records : (c k j : ℕ) (program : Program) (mac : Mac) (pools : ClientPools)
       (got : List (List ℕ)) → slice_get s.setting.net.clients c ≡ Some k
@@ -122,7 +122,7 @@ pub record TellsFrames (s : Shown) (passed : Passed) (net : NetPlace) : Type 0 w
       ≡ Some (NetworkPart (device_at net.first s.setting.scene.frames))
       → (s.state.wire ≡ Some (wire_of s net passed))
       × PrefixMerge (sends_in s net passed) (wire_of s net passed)
-  pub plain : AllCalm s.setting.cast
+  pub plain : NoneHostile (wild_by s.setting) net
       → sends_in s net passed ≡ sends_at net.programs net.macs s.setting.scene.frames
 
 -- at a place of the block class a client's record is a beginning of what it must get, a reply for
@@ -149,8 +149,8 @@ pub record TellsBuffers (place : PoolPlace) (s : Shown) : Type 0 where
       → slice_get (part_pools p) j ≡ Some q → 1 ≤ q.buffers
       → counted (of_other_length (record { 0 = q.number }) q.size) s.state.bodies ≡ 0
 
--- a hostile client records nothing: where the actor at this place is one, the records of the clients
--- of this crew that it is are empty
+-- hostile clients record nothing: of the clients of this crew, each has an empty record whose actor
+-- is one
 abbrev pub IsSilent : {T : Type 0} → Shown → Crew → List (List T) → Type 0
 IsSilent {T} s crew records = (c k : ℕ) (p : RoguePart) (got : List T)
     → slice_get crew.clients c ≡ Some k → slice_get s.setting.cast k ≡ Some (HostilePart p)
