@@ -4,6 +4,7 @@ pub mod Parting
 pub mod Calming
 pub mod Apart
 pub mod Seated
+pub mod Senders
 pub mod Wired
 pub mod Rogued
 pub mod Pooled

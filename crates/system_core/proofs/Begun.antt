@@ -171,7 +171,7 @@ module _ (plan : Plan) (serial : Serial) (trace : Trace) (s : Shown) (h : HasSer
       (second_there (first + 4) clients c lt, sym (ap (λ o. option_map_or (record_by went) o []) is) ∙ client.2)
 
   -- a hostile client records nothing
-  nothing_is : (c : ℕ) (got : List ℕ) → is_serial_rogue plan c ≡ true → slice_get s.state.serial c ≡ Some got → got ≡ []
+  pub nothing_is : (c : ℕ) (got : List ℕ) → is_serial_rogue plan c ≡ true → slice_get s.state.serial c ≡ Some got → got ≡ []
   nothing_is c got rogue at =
       let client = seen c got at in
       sym client.2 ∙ ap (λ o. option_map_or (record_by went) o []) (h.hostile c client.0 rogue client.1)
@@ -184,7 +184,6 @@ module _ (plan : Plan) (serial : Serial) (trace : Trace) (s : Shown) (h : HasSer
   shows_in_part a = record {
     count_is = ap length told.serial ∙ (length-map s.setting.serial.clients (record_at s) ∙ (ap length h.clients_are ∙ length-map serial.client (λ (x : Client). number_named plan x.pd)));
     records = λ c got at. begins c got at (is_serial_rogue plan c) refl;
-    hostile = nothing_is;
     line = (bytes_in (went.taken (first + 1)), line_is, a.line);
   }
     where

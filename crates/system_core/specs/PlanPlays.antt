@@ -1,6 +1,6 @@
 -- What a system of a plan and a trace shows, however it was played, and what one play of it shows:
 -- all that a caller learns of it.
-use Rattle.std.specs.Prelude.{◌≡◌, ◌+◌, ◌<◌, ◌≤◌, ℕ, true, Some, List, [], length, slice_get}
+use Rattle.std.specs.Prelude.{◌≡◌, ◌+◌, ◌<◌, ◌≤◌, ℕ, Bool, true, Some, List, [], length, slice_get}
 use Rattle.cargo_core.specs.Lists.{IsPrefix, Merge, PrefixMerge}
 use Rattle.wire_core.specs.Picks.{PickedFrom}
 use Rattle.wire_core.specs.Journal.{EachMoment}
@@ -8,6 +8,7 @@ use Rattle.wire_core.specs.Lists.{Passed}
 use Rattle.serial_switch.specs.Switching.{input_of}
 use Rattle.frame_core.specs.declared.mac.Mac.{Mac}
 use Rattle.net_expect.specs.Expecting.{frames_for}
+use Rattle.net_law.specs.Parts.Numbers.{client_first}
 use Rattle.net_law.specs.TxParts.Numbers.{NetPlace}
 use Rattle.net_quiet.specs.TxCast.Casting.{sends_at, sends_beside, wire_beside}
 use Rattle.cast_core.specs.Casts.{net_place, blk_place}
@@ -26,7 +27,7 @@ use Rattle.blk_law.specs.Sheets.Numbers.{BlkPlace}
 use Rattle.sdf_plan.specs.declared.plan.Serial.{Serial}
 use Rattle.trace_text.specs.declared.trace.Trace.{Trace}
 use Rattle.trace_text.specs.Traces.{IsReadFor}
-use Rattle.trace_text.specs.Events.{is_serial_rogue}
+use Rattle.trace_text.specs.Events.{is_net_rogue, is_serial_rogue, is_blk_rogue}
 use Rattle.sdf_check.specs.Valid.{Valid}
 use Rattle.actor_set.specs.Laws.Kinds.{AllCalm}
 use Rattle.cast_law.specs.Places.{pool_place}
@@ -46,15 +47,13 @@ abbrev pub serial_says : Plan → Trace → Serial → Moved → List (List ℕ)
 serial_says plan trace serial m = said_beside (is_serial_rogue plan)
     (serial_class (first_serial plan) (length serial.client) trace) m
 
--- each serial client of a plan recorded a beginning of its part of the input, and a hostile one
--- nothing; and what was sent on the line is a merge of beginnings of what the clients say
+-- each serial client of a plan recorded a beginning of its part of the input, and what was sent on
+-- the line is a merge of beginnings of what the clients say
 pub record ShowsInPart (plan : Plan) (trace : Trace) (serial : Serial) (m : Moved) (s : State) :
     Type 0 where
   pub count_is : length s.serial ≡ length serial.client
   pub records : (c : ℕ) (got : List ℕ) → slice_get s.serial c ≡ Some got
       → IsPrefix got (input_of (length serial.client) c trace.input)
-  pub hostile : (c : ℕ) (got : List ℕ) → is_serial_rogue plan c ≡ true
-      → slice_get s.serial c ≡ Some got → got ≡ []
   pub line : (said : List ℕ) × (s.line ≡ Some said)
       × PrefixMerge (serial_says plan trace serial m) said
 
@@ -99,6 +98,11 @@ pub record ShowsAllReplies (blk : BlkPlace) (s : State) : Type 0 where
       → slice_get blk.entries c ≡ Some entry → slice_get blk.asks c ≡ Some asks
       → slice_get s.blk c ≡ Some got → got ≡ replies_of blk.image entry asks
 
+-- the records of a class's hostile clients are empty
+abbrev pub AreSilent : {T : Type 0} → (hostile : ℕ → Bool) → (records : List (List T)) → Type 0
+AreSilent {T} hostile records = (c : ℕ) (got : List T) → hostile c ≡ true
+    → slice_get records c ≡ Some got → got ≡ []
+
 -- a system of a plan and a trace, whatever its queues had before its journal begins, in however
 -- many plays it came to that journal, and whatever seeds picked its steps
 pub record IsSystemOf (plan : Plan) (trace : Trace) (s : Shown) : Type 0 where
@@ -122,11 +126,19 @@ pub record IsSystemOf (plan : Plan) (trace : Trace) (s : Shown) : Type 0 where
   pub shows_net : (net : Net) → plan.net ≡ Some net
       → ShowsFrames (wild_by s.setting) (net_place plan trace) trace.frames stands.told.passed
       s.state
+  -- of its clients' queues for sending those have a hostile end whose client is hostile
+  pub wild_net : (net : Net) → plan.net ≡ Some net → (c : ℕ) → c < length net.client
+      → wild_by s.setting (client_first 0 c + 4) ≡ is_net_rogue plan c
   -- where no client of the network is hostile, all send by their programs
   pub plain : NetGivesBack plan → (net : Net) → plan.net ≡ Some net
       → sends_beside (wild_by s.setting) (net_place plan trace) trace.frames stands.told.passed
       ≡ sends_at (net_place plan trace).programs (net_place plan trace).macs trace.frames
   pub shows_blk : (blk : Blk) → plan.blk ≡ Some blk → ShowsReplies (blk_place plan trace) s.state
+  -- a hostile client's own record is empty
+  pub silent : (serial : Serial) → plan.serial ≡ Some serial
+      → AreSilent (is_serial_rogue plan) s.state.serial
+  pub silent_net : (net : Net) → plan.net ≡ Some net → AreSilent (is_net_rogue plan) s.state.net
+  pub silent_blk : (blk : Blk) → plan.blk ≡ Some blk → AreSilent (is_blk_rogue plan) s.state.blk
   -- where nobody is runnable, all bytes of the serial class arrived, if none of its clients is
   -- hostile
   pub whole : runnable_now s ≡ [] → SerialGivesBack plan → (serial : Serial)
