@@ -14,7 +14,7 @@ use Rattle.net_law.specs.Owners.Names.{ClientPools}
 use Rattle.net_law.specs.Parts.Numbers.{client_first, device_at}
 use Rattle.net_law.proofs.WireLemmas.Telling.{told_long}
 use Rattle.net_law.specs.TxParts.Numbers.{NetPlace, own_pools}
-use Rattle.net_quiet.specs.TxCast.Casting.{sends_at, sends_beside, wire_beside}
+use Rattle.net_quiet.specs.TxCast.Casting.{NoneHostile, sends_at, sends_beside, wire_beside}
 use Rattle.layout_laws.specs.Jobs.Jobs as jobs
 use Rattle.wire_core.specs.Queues.{items_of}
 use Rattle.play_core.specs.Sheets.{Scene}
@@ -24,7 +24,6 @@ use Rattle.play_core.proofs.Merges.{prefix_merge_whole}
 use Rattle.play_core.proofs.OneQueue.{whole_prefix}
 use Rattle.net_quiet.specs.Still.{ArrivesAll, SendsAll}
 use Rattle.actor_set.specs.Parts.{NetworkPart, HostilePart}
-use Rattle.actor_set.specs.Laws.Kinds.{AllCalm}
 use Rattle.wired_law.specs.Wiring.{HasWholeIn}
 use Rattle.cast_core.specs.Casts.{calm_part, job_part, net_place, client_pools}
 use Rattle.cast_core.specs.Hostile.{acts_at, net_rogue_at}
@@ -118,9 +117,9 @@ module _ (plan : Plan) (net : Net) (trace : Trace) (s : Shown) (cast : IsCastOf 
       let w = tells.wire (eth_number plan).0 (ap (λ (c : Crew). c.device) who) (part ∙ ap (λ fs. Some (NetworkPart (device_at 0 fs))) (sym frames)) in
       subst (λ fs. (s.state.wire ≡ Some (wire_beside (wild_by s.setting) place fs told.passed)) × PrefixMerge (sends fs) (wire_beside (wild_by s.setting) place fs told.passed)) frames w
 
-  -- where nobody is hostile, all clients send by their programs
-  pub sends_are : AllCalm s.setting.cast → sends trace.frames ≡ sends_at place.programs place.macs trace.frames
-  sends_are calm = subst (λ fs. sends fs ≡ sends_at place.programs place.macs fs) frames (tells.plain calm)
+  -- where none of them is hostile, all clients send by their programs
+  pub sends_are : NoneHostile (wild_by s.setting) place → sends trace.frames ≡ sends_at place.programs place.macs trace.frames
+  sends_are none = subst (λ fs. sends fs ≡ sends_at place.programs place.macs fs) frames (tells.plain none)
 
   pub shows_frames : ShowsFrames (wild_by s.setting) place trace.frames told.passed s.state
   shows_frames = record {
@@ -130,8 +129,8 @@ module _ (plan : Plan) (net : Net) (trace : Trace) (s : Shown) (cast : IsCastOf 
     merges = wire_is.1;
   }
 
-  -- where nobody is hostile and all frames went through, all are seen
-  module _ (calm : AllCalm s.setting.cast) (gives : NetGivesBack plan) (arrives : ArrivesAll s.setting.scene place (moved_in s.setting s.journal)) (sends_all : SendsAll s.setting.scene place (moved_in s.setting s.journal)) where
+  -- where no client of the network is hostile and all frames went through, all are seen
+  module _ (none : NoneHostile (wild_by s.setting) place) (gives : NetGivesBack plan) (arrives : ArrivesAll s.setting.scene place (moved_in s.setting s.journal)) (sends_all : SendsAll s.setting.scene place (moved_in s.setting s.journal)) where
     record_whole : (c : ℕ) (mac : Mac) (got : List (List ℕ)) → slice_get place.macs c ≡ Some mac → slice_get s.state.net c ≡ Some got → got ≡ frames_for mac trace.frames
     record_whole c mac got address at =
         let is = calm_record c mac got (gives c) address at in
@@ -150,6 +149,6 @@ module _ (plan : Plan) (net : Net) (trace : Trace) (s : Shown) (cast : IsCastOf 
             let same = ap (λ fs. total (sends_at place.programs place.macs fs)) frames in
             let long : length sent ≡ length (items_of (told.passed.taken 2)) = told_long (map (λ (q : ClientPools). q.tx) place.pools) (sends trace.frames) [] (items_of (told.passed.taken 2)) in
             let took : length (items_of (told.passed.taken 2)) ≡ length ((moved_in s.setting s.journal).taken 2) = ap length (told.items.taken 2) in
-            prefix_merge_whole (sends_at place.programs place.macs trace.frames) sent (subst (λ l. PrefixMerge l sent) (sends_are calm) wire_is.1) (omega (arith, long, took, all, same))),
+            prefix_merge_whole (sends_at place.programs place.macs trace.frames) sent (subst (λ l. PrefixMerge l sent) (sends_are none) wire_is.1) (omega (arith, long, took, all, same))),
       );
     }

@@ -19,17 +19,16 @@ use Rattle.net_law.specs.Owners.Names.{ClientPools}
 use Rattle.owner_law.specs.Pools.Places.{PoolAt, own_pool}
 use Rattle.net_law.specs.Parts.Numbers.{client_first, device_at, client_at}
 use Rattle.net_law.specs.TxParts.Numbers.{NetPlace}
-use Rattle.net_quiet.specs.TxCast.Casting.{sends_at, sends_beside, wire_beside}
+use Rattle.net_quiet.specs.TxCast.Casting.{NoneHostile, sends_at, sends_beside, wire_beside}
 use Rattle.actor_set.specs.Parts.{Part, RoguePart, NetworkPart, BlockPart, HostilePart}
 use Rattle.actor_set.specs.Actors.{part_of}
 use Rattle.actor_set.specs.declared.actor.Actor.{Actor}
 use Rattle.actor_set.specs.declared.actor.Actor.TheVariants as Kinds
-use Rattle.actor_set.specs.Laws.Kinds.{AllCalm, hostiles, scene_of}
+use Rattle.actor_set.specs.Laws.Kinds.{hostiles, scene_of}
 use Rattle.actor_set.specs.Laws.Scenes.{ToldInTurn}
 use Rattle.actor_set.specs.Laws.Turning.{InTurn}
 use Rattle.actor_set.specs.Laws.Records.{frames_got, frames_by, replies_got, replies_by}
 use Rattle.actor_set.proofs.LawsLemmas.Rows.{frames_here, replies_here}
-use Rattle.actor_set.proofs.LawsLemmas.Told.{none_wild}
 use Rattle.client_programs.proofs.BlkLemmas.Asks.{replies_long}
 use Rattle.wired_law.specs.Wiring.{HasWhole, HasBlk, AreAtWork, IsOfNetwork}
 use Rattle.wired_law.proofs.Wiring.{recorded, sends_calm_here, sent_beside, told_beside}
@@ -133,9 +132,9 @@ module _ (history : History) (rows : List QueueRow) (names : List Noted) (w : Li
         subst (PrefixMerge (sends_beside wild net frames h.passed)) told (sent_beside (end_at w) rows actors h.passed net whole work h.sends k x.0 x.1 x.2),
       )
 
-  -- where nobody is hostile, each client sends by its program
-  pub sends_plain : AllCalm (map part_of actors) → (net : NetPlace) → HasWhole rows net (map part_of actors) → sends_beside wild net frames h.passed ≡ sends_at net.programs net.macs frames
-  sends_plain calm net whole = sends_calm_here (scene_of (map part_of actors)) (end_at w) rows actors h.passed work net whole (λ k below. none_wild (map part_of actors) calm rows (client_first net.first k + 4))
+  -- where no client of the network is hostile, each sends by its program
+  pub sends_plain : (net : NetPlace) → HasWhole rows net (map part_of actors) → NoneHostile wild net → sends_beside wild net frames h.passed ≡ sends_at net.programs net.macs frames
+  sends_plain net whole none = sends_calm_here (scene_of (map part_of actors)) (end_at w) rows actors h.passed work net whole none
 
   -- a hostile actor recorded nothing
   pub net_silent : (numbers : List ℕ) (c k : ℕ) (p : RoguePart) (got : List (List ℕ)) → slice_get numbers c ≡ Some k → slice_get (map part_of actors) k ≡ Some (HostilePart p) → slice_get (map (frames_from actors) numbers) c ≡ Some got → got ≡ []
