@@ -1,6 +1,6 @@
 -- A cast that has the whole block class, of whose queues none has a hostile end, has it among its
 -- actors; and where nobody else is runnable each client recorded all its replies.
-use Rattle.std.proofs.Common.{◌≡◌, ◌+◌, ◌*◌, ◌<◌, ℕ, suc, false, Option, Some, inl, inr, List, [], ◌∷◌, length, map, slice_get, refl, sym, ap, ◌∙◌, subst, arith}
+use Rattle.std.proofs.Common.{◌≡◌, ◌+◌, ◌*◌, ℕ, suc, false, Option, Some, inl, inr, List, [], ◌∷◌, length, map, slice_get, refl, sym, ap, ◌∙◌, subst, arith}
 use Rattle.std.proofs.lemmas.List.{length-map}
 use Rattle.cargo_core.specs.Lists.{IsPrefix}
 use Rattle.cargo_core.specs.declared.item.Ask.{Ask}
@@ -11,12 +11,10 @@ use Rattle.wire_core.specs.Deeds.{Cargo}
 use Rattle.wire_core.specs.Ends.{Role, End}
 use Rattle.wire_core.specs.Journal.{History, Hostiles}
 use Rattle.wire_core.specs.Lists.{Passed}
-use Rattle.play_core.specs.Manners.{Calm}
 use Rattle.play_core.specs.Moved.{Moved, moved}
 use Rattle.play_core.specs.Names.{Names, Wild, wild_in}
 use Rattle.play_core.specs.Sheets.{Scene, RowsHold, needful}
 use Rattle.play_core.specs.Still.{IsStill, Plays}
-use Rattle.play_core.specs.Wants.{Needful}
 use Rattle.play_core.proofs.OneQueue.{whole_prefix}
 use Rattle.play_core.proofs.Lists.{there_below}
 use Rattle.play_core.specs.Rests.Showing.{HaveItems}
@@ -33,7 +31,7 @@ use Rattle.blk_quiet.proofs.Answering.{answers_all}
 use Rattle.actor_set.specs.Parts.{Part, BlockPart}
 use Rattle.actor_set.specs.Actors.{part_of}
 use Rattle.actor_set.specs.declared.actor.Actor.{Actor}
-use Rattle.actor_set.specs.Laws.Kinds.{hostiles, manner_of, sheet}
+use Rattle.actor_set.specs.Laws.Kinds.{hostiles, sheet}
 use Rattle.actor_set.specs.Laws.Records.{replies_got, replies_by}
 use Rattle.actor_set.specs.Laws.Scenes.{NoneWild}
 use Rattle.actor_set.proofs.LawsLemmas.Rows.{replies_here}
