@@ -183,8 +183,7 @@ pub fn are_at_home(
     Ok(right)
 }
 
-// The requests to a queue that name a buffer of a pool stay in the partition of a client, where
-// partitions of two blocks follow each other from block 1 on in the order of the clients.
+// Whether the requests to a queue that name a buffer of a pool stay in the partition of a client.
 fn stay_within(journal: &[Entry], queue: QueueId, pool: &PoolRow, client: usize) -> bool {
     let mut right = true;
     for entry in journal {
@@ -195,7 +194,8 @@ fn stay_within(journal: &[Entry], queue: QueueId, pool: &PoolRow, client: usize)
     right
 }
 
-// Whether a request to the driver stays in the partition of a client.
+// Whether a request to the driver stays in the partition of a client, where partitions of two
+// blocks follow each other from block 1 on in the order of the clients.
 fn stays_within(item: &Option<Item>, client: usize) -> bool {
     let Some(Item::Req(request)) = item else {
         return false;
