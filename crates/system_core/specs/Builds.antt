@@ -9,8 +9,10 @@ use Rattle.region_layout.specs.Rows.{queues_of, actors_of, pools_of}
 use Rattle.serial_law.specs.Serial.{SerialClass}
 use Rattle.layout_laws.specs.Jobs.Jobs.{Job, HasJob}
 use Rattle.wired_law.specs.Wiring.{HasWholeIn, HasBlkIn}
-use Rattle.cast_core.specs.Casts.{calm_part, net_place, blk_place, scene_for}
+use Rattle.cast_core.specs.Casts.{job_part, net_place, blk_place, scene_for}
 use Rattle.cast_core.specs.Sources.{every_second}
+use Rattle.cast_law.specs.Places.{pool_place}
+use Rattle.cast_law.specs.Pools.Rogues.{HasRogues}
 use Rattle.system_core.specs.Shows.{Setting, Shown}
 use Rattle.system_core.specs.Crews.{net_crew, serial_crew, blk_crew}
 
@@ -36,14 +38,16 @@ pub record IsCastOf (plan : Plan) (trace : Trace) (s : Setting) : Type 0 where
   pub count : length s.cast ≡ length (actors_of plan)
   -- the scene in which their needs and rows are said
   pub scene : s.scene ≡ scene_for plan trace
-  -- the actor of each job has the part of that job, and none is hostile
+  -- the actor of each job has the part of that job: a hostile client's is what the trace has it do
   pub parts : (job : Job) (k : ℕ) → HasJob plan job k
-      → slice_get s.cast k ≡ calm_part plan trace job
+      → slice_get s.cast k ≡ job_part plan trace job
   -- the network class is there as a whole, and the block class
   pub whole : (net : Net) → plan.net ≡ Some net
       → HasWholeIn s.scene s.rows (net_place plan trace) s.cast
   pub whole_block : (blk : Blk) → plan.blk ≡ Some blk
       → HasBlkIn s.scene s.rows (blk_place plan trace) s.cast
+  -- and hostile clients stand at the queues of clients of theirs
+  pub rogues : HasRogues s.rows (pool_place plan trace).net (pool_place plan trace).blk s.cast
   -- the devices and the clients are those of the plan
   pub net : s.net ≡ net_crew plan
   pub serial : s.serial ≡ serial_crew plan

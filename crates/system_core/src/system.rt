@@ -10,7 +10,6 @@ ghost use Rattle.actor_set.specs.Actors.{actor_rests, part_of};
 ghost use Rattle.trace_text.specs.Traces.{IsReadFor};
 ghost use Rattle.region_layout.specs.Layouts.{layout_of};
 ghost use Rattle.sdf_check.specs.Valid.{Valid};
-ghost use Rattle.cast_core.specs.Hostile.{HasNoRogue};
 ghost use Rattle.actor_set.specs.Laws.Kinds.{manner_of, idles};
 ghost use Rattle.cast_law.specs.Pools.Places.{ArePooled};
 ghost use Rattle.system_core.specs.Shows.{NamesTell, runs};
@@ -290,8 +289,8 @@ impl System {
         let _made = self.journal.len();
     }
 
-    /// The system of a plan without hostile clients in its start state: the actors and queues of
-    /// its layout, with what a trace gives them.
+    /// The system of a plan in its start state: the actors and queues of its layout, with what a
+    /// trace gives them, hostile clients among them.
     pub fn build(
         alloc: Global,
         plan: &Plan,
@@ -301,7 +300,6 @@ impl System {
         requires valid { Valid plan.now }
         requires layout { layout.now ≡ layout_of plan.now }
         requires trace { IsReadFor plan.now trace.now }
-        requires friendly { HasNoRogue plan.now }
         ensures built { IfOk result (IsBuilt plan.now trace.now) }
         ensures system { IfOk result (IsSystemOf plan.now trace.now) }
         ensures stands { IfOk result StandsLawful }
@@ -419,8 +417,8 @@ impl System {
         }
     }
 
-    /// Builds the system of a plan without hostile clients and plays it by a seed until it is quiet
-    /// or so many steps were made.
+    /// Builds the system of a plan and plays it by a seed until it is quiet or so many steps were
+    /// made.
     pub fn played(
         alloc: Global,
         plan: &Plan,
@@ -432,7 +430,6 @@ impl System {
         requires valid { Valid plan.now }
         requires layout { layout.now ≡ layout_of plan.now }
         requires trace { IsReadFor plan.now trace.now }
-        requires friendly { HasNoRogue plan.now }
         ensures played { IfOk result (λ r. IsPlayed plan.now trace.now seed limit r.0) }
         ensures ended { IfOk result (λ r. HasEnded limit r.0 r.1) }
     {

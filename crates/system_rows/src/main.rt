@@ -28,7 +28,6 @@ ghost use Rattle.std.specs.Prelude.{◌≡◌, ◌<◌, length};
 ghost use Rattle.sdf_check.specs.Valid.{Valid};
 ghost use Rattle.trace_text.specs.Events.{blk_clients};
 ghost use Rattle.trace_text.specs.Traces.{IsReadFor};
-ghost use Rattle.cast_core.specs.Hostile.{HasNoRogue};
 
 mod hostile;
 mod judging;
@@ -41,7 +40,6 @@ mod scripts;
 mod watching;
 
 use cargo_core::{Memory, Reply};
-use cast_core::has_no_rogue;
 use expect_core::{Report, input_of, replies_of};
 use hostile::print_hostile;
 use judging::judged;
@@ -220,7 +218,6 @@ fn play(
 ) -> Result<String, Memory>
     requires valid { Valid plan.now }
     requires trace { IsReadFor plan.now trace.now }
-    requires friendly { HasNoRogue plan.now }
 {
     let layout = lay_out(alloc, plan)?;
     let seeds = seeds_of(alloc, seeds)?;
@@ -242,9 +239,6 @@ fn play_lines(
 ) -> Result<String, Memory>
     requires { Valid plan.now }
 {
-    if !has_no_rogue(plan) {
-        return Ok(String::from_str(alloc, "hostile\n")?);
-    }
     let text = trace_of(alloc, lines)?;
     match read_trace(alloc, text.as_str().as_bytes(), plan) {
         Ok(trace) => play(alloc, plan, &trace, seeds, steps),
