@@ -286,6 +286,5 @@ pub fn goes_right(
         clients: block_clients(plan),
         beside: 1,
     };
-    Ok(goes_to_driver(alloc, layout, journal, net)?
-        && goes_to_driver(alloc, layout, journal, blk)?)
+    Ok(goes_to_driver(alloc, layout, journal, net)? && goes_to_driver(alloc, layout, journal, blk)?)
 }
