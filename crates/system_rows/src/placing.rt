@@ -9,11 +9,14 @@ use std::alloc::Global;
 use trace_text::{is_blk_rogue, is_net_rogue};
 use wire_core::{Entry, Op, PoolRow, QueueId};
 
-/// A client of a class, by the class's name and its number there.
+/// What goes to the driver of a class: the queue to it, how many clients the class has, and how many
+/// entries may be none of a client.
 #[derive(Clone, Copy)]
-struct Owner<'a> {
+struct Driver<'a> {
     class: &'a str,
-    client: usize,
+    queue: &'a str,
+    clients: usize,
+    beside: u64,
 }
 
 // The number of the queue of a name.
@@ -180,57 +183,15 @@ pub fn are_at_home(
     Ok(right)
 }
 
-// Whether the buffers of a client go to the driver no more often than it put any.
-fn goes_as_put(
-    alloc: Global,
-    layout: &Layout,
-    journal: &[Entry],
-    owner: Owner<'_>,
-) -> Result<bool, Memory> {
-    let Owner { class, client } = owner;
-    let (pool, puts, to_driver) = if class == "net" {
-        (
-            format!(in alloc; "net.{client}.tx")?,
-            format!(in alloc; "net.{client}.tx.active")?,
-            "net.tx.active",
-        )
-    } else {
-        (
-            format!(in alloc; "blk.{client}")?,
-            format!(in alloc; "blk.{client}.req")?,
-            "blk.req",
-        )
-    };
-    let (Some(pool), Some(puts), Some(to_driver)) = (
-        pool_named(layout, pool.as_str()),
-        queue_named(layout, puts.as_str()),
-        queue_named(layout, to_driver),
-    ) else {
-        return Ok(false);
-    };
-    Ok(count_named(journal, to_driver, pool) <= count(journal, puts, Op::Put))
-}
-
-// The client of a class whose buffer a put names.
-fn owner_of(
-    alloc: Global,
-    layout: &Layout,
-    entry: &Entry,
-    class: &str,
-    clients: usize,
-) -> Result<Option<usize>, Memory> {
-    for client in 0..clients {
-        let name = match class {
-            "net" => format!(in alloc; "net.{client}.tx")?,
-            _ => format!(in alloc; "blk.{client}")?,
-        };
-        if let Some(pool) = pool_named(layout, name.as_str())
-            && names(entry, pool)
-        {
-            return Ok(Some(client));
+// Whether the requests to a queue that name a buffer of a pool stay in the partition of a client.
+fn stay_within(journal: &[Entry], queue: QueueId, pool: &PoolRow, client: usize) -> bool {
+    let mut right = true;
+    for entry in journal {
+        if puts(entry, queue) && names(entry, pool) {
+            right = stays_within(&entry.event.item, client) && right;
         }
     }
-    Ok(None)
+    right
 }
 
 // Whether a request to the driver stays in the partition of a client, where partitions of two
@@ -248,77 +209,82 @@ fn stays_within(item: &Option<Item>, client: usize) -> bool {
     }
 }
 
-// Whether each entry to the network's driver names a buffer of a client.
-fn sends_buffers(
+// How many entries to the driver name a buffer of a client; none where it put fewer, where its
+// requests leave its partition, or where there is no such client.
+fn count_right(
     alloc: Global,
     layout: &Layout,
     journal: &[Entry],
-    clients: usize,
-) -> Result<bool, Memory> {
-    let Some(queue) = queue_named(layout, "net.tx.active") else {
-        return Ok(true);
+    to_driver: QueueId,
+    class: &str,
+    client: usize,
+) -> Result<Option<u64>, Memory> {
+    let (pool, puts) = if class == "net" {
+        (
+            format!(in alloc; "net.{client}.tx")?,
+            format!(in alloc; "net.{client}.tx.active")?,
+        )
+    } else {
+        (
+            format!(in alloc; "blk.{client}")?,
+            format!(in alloc; "blk.{client}.req")?,
+        )
     };
-    let mut right = true;
-    for entry in journal {
-        if puts(entry, queue) {
-            let owner = owner_of(alloc, layout, entry, "net", clients)?;
-            right = owner.is_some() && right;
-        }
+    let (Some(pool), Some(puts)) = (
+        pool_named(layout, pool.as_str()),
+        queue_named(layout, puts.as_str()),
+    ) else {
+        return Ok(None);
+    };
+    let sent = count_named(journal, to_driver, pool);
+    let within = class == "net" || stay_within(journal, to_driver, pool, client);
+    if within && sent <= count(journal, puts, Op::Put) {
+        Ok(Some(sent))
+    } else {
+        Ok(None)
     }
-    Ok(right)
 }
 
-// Whether each request to the disk's driver, but for the first, which reads the table of
-// partitions, names a buffer of a client and stays in that client's partition.
-fn asks_within(
+// Whether what goes to a driver is right, where so many entries may name no buffer of a client.
+fn goes_to_driver(
     alloc: Global,
     layout: &Layout,
     journal: &[Entry],
-    clients: usize,
+    driver: Driver<'_>,
 ) -> Result<bool, Memory> {
-    let Some(queue) = queue_named(layout, "blk.req") else {
+    let Some(queue) = queue_named(layout, driver.queue) else {
         return Ok(true);
     };
-    let mut right = true;
-    let mut first = true;
-    for entry in journal {
-        if puts(entry, queue) {
-            right = match owner_of(alloc, layout, entry, "blk", clients)? {
-                Some(client) => stays_within(&entry.event.item, client) && right,
-                None => first && right,
-            };
-            first = false;
+    let mut named = driver.beside;
+    for client in 0..driver.clients {
+        match count_right(alloc, layout, journal, queue, driver.class, client)? {
+            Some(sent) => named = named.saturating_add(sent),
+            None => return Ok(false),
         }
     }
-    Ok(right)
+    Ok(count(journal, queue, Op::Put) <= named)
 }
 
 /// Whether what goes to the drivers of the network and of the disk is right: it names buffers of
-/// clients, those of each client that isn't hostile no more often than it put any, and asks of the
-/// disk stay in the partition of the client.
+/// clients, those of each client no more often than it put any, and what the disk is asked for is
+/// in the partition of the client. The first request to the disk is none of a client.
 pub fn goes_right(
     alloc: Global,
     plan: &Plan,
     layout: &Layout,
     journal: &[Entry],
 ) -> Result<bool, Memory> {
-    let net = network_clients(plan);
-    let blk = block_clients(plan);
-    let mut right = sends_buffers(alloc, layout, journal, net)?
-        && asks_within(alloc, layout, journal, blk)?;
-    for client in 0..net {
-        let owner = Owner {
-            class: "net",
-            client,
-        };
-        right = goes_as_put(alloc, layout, journal, owner)? && right;
-    }
-    for client in 0..blk {
-        let owner = Owner {
-            class: "blk",
-            client,
-        };
-        right = goes_as_put(alloc, layout, journal, owner)? && right;
-    }
-    Ok(right)
+    let net = Driver {
+        class: "net",
+        queue: "net.tx.active",
+        clients: network_clients(plan),
+        beside: 0,
+    };
+    let blk = Driver {
+        class: "blk",
+        queue: "blk.req",
+        clients: block_clients(plan),
+        beside: 1,
+    };
+    Ok(goes_to_driver(alloc, layout, journal, net)? && goes_to_driver(alloc, layout, journal, blk)?)
 }
