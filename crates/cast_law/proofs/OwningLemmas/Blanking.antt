@@ -77,8 +77,8 @@ module _ (off : ℕ → Bool) where
 
       none : (t u : Bool) → (page.pool.0 == pool.0) ≡ false → buffers_in pool (cond t Carried.Empty (Carried.Page page)) ≡ cond u 0 (buffers_in pool (Carried.Page page))
       none true true e = refl
-      none true false e = sym (ap (λ (z : Bool). if z then 1 else 0) e)
-      none false true e = ap (λ (z : Bool). if z then 1 else 0) e
+      none true false e = sym (ap (λ (z : Bool). cond {A = ℕ} z 1 0) e)
+      none false true e = ap (λ (z : Bool). cond {A = ℕ} z 1 0) e
       none false false e = refl
 
       by : ((eqb page.pool.0 pool.0 ≡ true) × (page.pool.0 ≡ pool.0)) ⊎ ((eqb page.pool.0 pool.0 ≡ false) × (page.pool.0 ≢ pool.0)) → buffers_in pool (cond (off page.pool.0) Carried.Empty (Carried.Page page)) ≡ cond (off pool.0) 0 (buffers_in pool (Carried.Page page))
@@ -137,12 +137,12 @@ none_count pool (c ∷ cs) none = omega (arith, buffers-cons pool c.1 (bodies_of
     here (Carried.Lease lease) each = refl
     here (Carried.Page page) each = by (eqb_tells page.pool.0 pool.0)
       where
-        by : ((eqb page.pool.0 pool.0 ≡ true) × (page.pool.0 ≡ pool.0)) ⊎ ((eqb page.pool.0 pool.0 ≡ false) × (page.pool.0 ≢ pool.0)) → (if page.pool.0 == pool.0 then 1 else 0) ≡ 0
+        by : ((eqb page.pool.0 pool.0 ≡ true) × (page.pool.0 ≡ pool.0)) ⊎ ((eqb page.pool.0 pool.0 ≡ false) × (page.pool.0 ≢ pool.0)) → buffers_in pool (Carried.Page page) ≡ 0
         by (inl e) =
             let mine : as_page (record { pool = pool.0; no = page.no }) (Carried.Page page) ≡ 0 = each (record { pool = pool.0; no = page.no }) refl in
             let one : bit (true && true) ≡ 0 = sym (rw (e.0, eq-eqb page.no page.no refl) refl) ∙ mine in
             absurd (omega (arith, one))
-        by (inr e) = ap (λ (z : Bool). if z then 1 else 0) e.0
+        by (inr e) = ap (λ (z : Bool). cond {A = ℕ} z 1 0) e.0
 
 -- all that passed, and what stands in the queues, without these pages
 module _ (off : ℕ → Bool) (wild : Wild) where
@@ -177,7 +177,7 @@ module _ (off : ℕ → Bool) (wild : Wild) where
 
   -- what came to an actor, and what went
   module _ (pool : PoolId) (passed : Passed) (taken_none : (n : ℕ) → wild n ≡ true → off pool.0 ≡ false → buffers_of pool (bodies_of (passed.taken n)) ≡ 0) (sent_none : (n : ℕ) → wild n ≡ true → off pool.0 ≡ false → buffers_of pool (bodies_of (passed.sent n)) ≡ 0) where
-    nothing : 0 ≡ cond (off pool.0) 0 0
+    nothing : 0 ≡ cond {A = ℕ} (off pool.0) 0 0
     nothing = by (off pool.0)
       where
         by : (t : Bool) → 0 ≡ cond {A = ℕ} t 0 0

@@ -195,24 +195,24 @@ module _ (history : History) (rows : List QueueRow) (pools : List PoolRow) (plac
   taken_none pool n is free = omega (arith, both_none pool n is free)
 
   -- entries carry what their items name
+  abbrev Says : (n k : ℕ) → Buffer → Bool → Cargo → Type 0
+  Says n k b t x = as_page b x.1 ≡ as_buffer b (thing_at (cond t NoBuffers (names_beside off (full n))) (requests_of (cond t NoBuffers (names_beside off (full n))) m) k x.0)
+
   bodies_here : (n k : ℕ) (c : Cargo) → slice_get (hidden_passed.sent n) k ≡ Some c → (b : Buffer) → as_page b c.1 ≡ as_buffer b (thing_at (nm n) (requests_of (nm n) m) k c.0)
   bodies_here n k c at b = by (w n) refl (off b.pool) refl
     where
       d : (x : Cargo) × (slice_get (passed.sent n) k ≡ Some x) × (blank off (w n) x ≡ c)
       d = blank_at off (w n) (passed.sent n) k c at
 
-      abbrev Says : Bool → Cargo → Type 0
-      Says t x = as_page b x.1 ≡ as_buffer b (thing_at (cond t NoBuffers (names_beside off (full n))) (requests_of (cond t NoBuffers (names_beside off (full n))) m) k x.0)
-
       by : (t : Bool) → w n ≡ t → (u : Bool) → off b.pool ≡ u → as_page b c.1 ≡ as_buffer b (thing_at (nm n) (requests_of (nm n) m) k c.0)
-      by true is u e = subst (λ t. Says t c) (sym is) (subst (Says true) (ap (λ t. blank off t d.0) (sym is) ∙ d.2) refl)
+      by true is u e = subst (λ t. Says n k b t c) (sym is) (subst (Says n k b true) (ap (λ t. blank off t d.0) (sym is) ∙ d.2) refl)
       by false is true e =
           let gone = gone_thing b (as_buffer b) (of_buffer b) off e (full n) (requests_of (names_beside off (full n)) m) k d.0.0 in
-          subst (λ t. Says t c) (sym is) (subst (Says false) (ap (λ t. blank off t d.0) (sym is) ∙ d.2) (hidden_page off b d.0.1 ∙ (ap (λ t. cond t 0 (as_page b d.0.1)) e ∙ sym gone)))
+          subst (λ t. Says n k b t c) (sym is) (subst (Says n k b false) (ap (λ t. blank off t d.0) (sym is) ∙ d.2) (hidden_page off b d.0.1 ∙ (ap (λ t. cond t 0 (as_page b d.0.1)) e ∙ sym gone)))
       by false is false e =
           let same = kept_thing b (as_buffer b) (of_buffer b) off e (full n) (names_apart rows place actors passed m a carry n) (requests_of (full n) m) k d.0.0 in
           let asked = ap (λ rs. as_buffer b (thing_at (names_beside off (full n)) rs k d.0.0)) (same_requests off (full n) m) in
-          subst (λ t. Says t c) (sym is) (subst (Says false) (ap (λ t. blank off t d.0) (sym is) ∙ d.2) (hidden_page off b d.0.1 ∙ (ap (λ t. cond t 0 (as_page b d.0.1)) e ∙ (carry.bodies n is k d.0 d.1 b ∙ (sym same ∙ sym asked)))))
+          subst (λ t. Says n k b t c) (sym is) (subst (Says n k b false) (ap (λ t. blank off t d.0) (sym is) ∙ d.2) (hidden_page off b d.0.1 ∙ (ap (λ t. cond t 0 (as_page b d.0.1)) e ∙ (carry.bodies n is k d.0 d.1 b ∙ (sym same ∙ sym asked)))))
 
   carries : CarryPages nm m hidden_passed
   carries = record {

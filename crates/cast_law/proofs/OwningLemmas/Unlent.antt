@@ -47,18 +47,15 @@ net_there : (w : Wild) (first from : ℕ) (qs : List ClientPools) (pool : ℕ) �
 net_there w first from [] pool is = cc
 net_there w first from (q ∷ qs) pool is = by (w (client_first first from + 4)) is (λ e. net_there w first (from + 1) qs pool e)
   where
-    abbrev Rest : Type 0
-    Rest = is_net_rogues w first (from + 1) qs pool ≡ true → There (pairs qs) pool
-
     more : There (pairs qs) pool → There (pairs (q ∷ qs)) pool
     more x = (suc (suc x.0), x.1, x.2, x.3)
 
-    one : ((eqb q.rx.number pool ≡ true) × (q.rx.number ≡ pool)) ⊎ ((eqb q.rx.number pool ≡ false) × (q.rx.number ≢ pool)) → ((eqb q.tx.number pool ≡ true) × (q.tx.number ≡ pool)) ⊎ ((eqb q.tx.number pool ≡ false) × (q.tx.number ≢ pool)) → ((q.rx.number == pool) || ((q.tx.number == pool) || is_net_rogues w first (from + 1) qs pool)) ≡ true → Rest → There (pairs (q ∷ qs)) pool
+    one : ((eqb q.rx.number pool ≡ true) × (q.rx.number ≡ pool)) ⊎ ((eqb q.rx.number pool ≡ false) × (q.rx.number ≢ pool)) → ((eqb q.tx.number pool ≡ true) × (q.tx.number ≡ pool)) ⊎ ((eqb q.tx.number pool ≡ false) × (q.tx.number ≢ pool)) → ((q.rx.number == pool) || ((q.tx.number == pool) || is_net_rogues w first (from + 1) qs pool)) ≡ true → (is_net_rogues w first (from + 1) qs pool ≡ true → There (pairs qs) pool) → There (pairs (q ∷ qs)) pool
     one (inl h) o e rest = (0, q.rx, refl, h.1)
     one (inr n) (inl h) e rest = (1, q.tx, refl, h.1)
     one (inr n) (inr l) e rest = more (rest (sym (ap₂ (λ s t. s || (t || is_net_rogues w first (from + 1) qs pool)) n.0 l.0) ∙ e))
 
-    by : (t : Bool) → cond t ((q.rx.number == pool) || ((q.tx.number == pool) || is_net_rogues w first (from + 1) qs pool)) (is_net_rogues w first (from + 1) qs pool) ≡ true → Rest → There (pairs (q ∷ qs)) pool
+    by : (t : Bool) → cond t ((q.rx.number == pool) || ((q.tx.number == pool) || is_net_rogues w first (from + 1) qs pool)) (is_net_rogues w first (from + 1) qs pool) ≡ true → (is_net_rogues w first (from + 1) qs pool ≡ true → There (pairs qs) pool) → There (pairs (q ∷ qs)) pool
     by true e rest = one (eqb_tells q.rx.number pool) (eqb_tells q.tx.number pool) e rest
     by false e rest = more (rest e)
 
@@ -66,17 +63,14 @@ blk_there : (w : Wild) (first from : ℕ) (qs : List PoolAt) (pool : ℕ) → is
 blk_there w first from [] pool is = cc
 blk_there w first from (q ∷ qs) pool is = by (w (first + 4 + 2 * from)) is (λ e. blk_there w first (from + 1) qs pool e)
   where
-    abbrev Rest : Type 0
-    Rest = is_blk_rogues w first (from + 1) qs pool ≡ true → There qs pool
-
     more : There qs pool → There (q ∷ qs) pool
     more x = (suc x.0, x.1, x.2, x.3)
 
-    one : ((eqb q.number pool ≡ true) × (q.number ≡ pool)) ⊎ ((eqb q.number pool ≡ false) × (q.number ≢ pool)) → ((q.number == pool) || is_blk_rogues w first (from + 1) qs pool) ≡ true → Rest → There (q ∷ qs) pool
+    one : ((eqb q.number pool ≡ true) × (q.number ≡ pool)) ⊎ ((eqb q.number pool ≡ false) × (q.number ≢ pool)) → ((q.number == pool) || is_blk_rogues w first (from + 1) qs pool) ≡ true → (is_blk_rogues w first (from + 1) qs pool ≡ true → There qs pool) → There (q ∷ qs) pool
     one (inl h) e rest = (0, q, refl, h.1)
     one (inr n) e rest = more (rest (sym (ap (λ s. s || is_blk_rogues w first (from + 1) qs pool) n.0) ∙ e))
 
-    by : (t : Bool) → cond t ((q.number == pool) || is_blk_rogues w first (from + 1) qs pool) (is_blk_rogues w first (from + 1) qs pool) ≡ true → Rest → There (q ∷ qs) pool
+    by : (t : Bool) → cond t ((q.number == pool) || is_blk_rogues w first (from + 1) qs pool) (is_blk_rogues w first (from + 1) qs pool) ≡ true → (is_blk_rogues w first (from + 1) qs pool ≡ true → There qs pool) → There (q ∷ qs) pool
     by true e rest = one (eqb_tells q.number pool) e rest
     by false e rest = more (rest e)
 
