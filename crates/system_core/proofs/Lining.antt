@@ -101,7 +101,7 @@ module _ (a : Inside) (i : IsSystem a) where
       let x = line_from 0 a.pools.items k l at in
       let plus : k ≡ 0 + k = omega arith in
       subst (λ (y : Census). y.queues + y.hands + y.lent ≡ y.buffers) (sym x.2)
-          (subst (λ n. (counted a.wires.world (holders_of a.actors.items) (record { 0 = n })).queues + (counted a.wires.world (holders_of a.actors.items) (record { 0 = n })).hands + (counted a.wires.world (holders_of a.actors.items) (record { 0 = n })).lent ≡ x.0.buffers) plus (add_up k x.0 x.1))
+      (subst (λ n. (counted a.wires.world (holders_of a.actors.items) (record { 0 = n })).queues + (counted a.wires.world (holders_of a.actors.items) (record { 0 = n })).hands + (counted a.wires.world (holders_of a.actors.items) (record { 0 = n })).lent ≡ x.0.buffers) plus (add_up k x.0 x.1))
 
   -- the buffers are those of the cast's pools, one by one
   pub buffers_told : (place : PoolPlace) → IsPlaced a.rows.items place cast → HasPools a.pools.items place → TellsBuffers place (shown_of a)
