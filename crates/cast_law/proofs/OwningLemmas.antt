@@ -6,3 +6,6 @@ pub mod Keeping
 pub mod Beginning
 pub mod Plain
 pub mod Past
+pub mod Blanking
+pub mod Lining
+pub mod Unlent

@@ -81,7 +81,7 @@ module _ (rows : List QueueRow) (place : PoolPlace) (actors : List Actor) (passe
   quiet = calmed rows place.net place.blk cast a.placed.net a.placed.blk a.placed.rogues a.seated
 
   -- an actor that isn't hostile plays the same part there
-  as_calm : (k : ℕ) (p : Part) → slice_get cast k ≡ Some p → manner_of p ≡ Calm → slice_get quiet.parts k ≡ Some p
+  pub as_calm : (k : ℕ) (p : Part) → slice_get cast k ≡ Some p → manner_of p ≡ Calm → slice_get quiet.parts k ≡ Some p
   as_calm k p at calm = let x = quiet.like k p at in by x.0 x.1 x.2
     where
       by : (q : Part) → slice_get quiet.parts k ≡ Some q → IsLike rows place.net place.blk p q → slice_get quiet.parts k ≡ Some p

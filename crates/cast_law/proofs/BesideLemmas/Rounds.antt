@@ -88,7 +88,7 @@ rogue_actor (Kinds.BlkVirt x) p e = absurd cc
 rogue_actor (Kinds.BlkClient x) p e = absurd cc
 rogue_actor (Kinds.Rogue x) p e = (x, refl, cc)
 
-or_none : (s t : Bool) → (s || t) ≡ false → (s ≡ false) × (t ≡ false)
+pub or_none : (s t : Bool) → (s || t) ≡ false → (s ≡ false) × (t ≡ false)
 or_none false false e = (refl, refl)
 or_none false true e = cc
 or_none true t e = cc

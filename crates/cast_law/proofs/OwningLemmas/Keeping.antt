@@ -72,7 +72,7 @@ pages_sum : (b : Buffer) (cs : List Cargo) → sum_by (λ (c : Cargo). as_page b
 pages_sum b [] = refl
 pages_sum b (c ∷ cs) = omega (arith, sum_by-cons (λ (d : Cargo). as_page b d.1) c cs, weighs_page b c.1, pages_sum b cs)
 
-nothing_out : (x y : ℕ) → y ≡ 0 → bit (nat_lt x y) ≡ 0
+pub nothing_out : (x y : ℕ) → y ≡ 0 → bit (nat_lt x y) ≡ 0
 nothing_out x y none = ap (λ t. bit t) (le-ltb x y (omega (arith, none)))
 
 is_calm_one : (mn : Manner) → is_hostile mn ≡ false → mn ≡ Calm
@@ -188,7 +188,7 @@ module _ (rows : List QueueRow) (place : PoolPlace) (actors : List Actor) (passe
       let has = subst (λ o. HasBlkAt rows o parts) here a.placed.blk in
       subst AreWindowsApart (disks_are blk.pool blk.first 0 blk.entries blk.pools has.0.pools_many) (disks_apart blk.pool (sharers_from blk.first 0 blk.entries blk.pools) has.1)
 
-  names_apart : (q : ℕ) → AreNamesApart (full q)
+  pub names_apart : (q : ℕ) → AreNamesApart (full q)
   names_apart = all_apart scene place.net place.blk dev_apart disk_apart
 
   -- of one buffer, by one count
@@ -215,7 +215,7 @@ module _ (rows : List QueueRow) (place : PoolPlace) (actors : List Actor) (passe
         here Consumer n = refl
         here Producer n = queue_kept free n (m.sent n)
 
-    took_kept : off b.pool ≡ false → (ends : List Seat) → sum_by f (all_taken nm m ends) ≡ sum_by f (all_taken full m ends)
+    pub took_kept : off b.pool ≡ false → (ends : List Seat) → sum_by f (all_taken nm m ends) ≡ sum_by f (all_taken full m ends)
     took_kept free [] = refl
     took_kept free (s ∷ ends) = omega (arith, sum_by-append f (things_in nm m s) (all_taken nm m ends), sum_by-append f (things_in full m s) (all_taken full m ends), here s.role s.queue, took_kept free ends)
       where
@@ -231,7 +231,7 @@ module _ (rows : List QueueRow) (place : PoolPlace) (actors : List Actor) (passe
         here Consumer n = refl
         here Producer n = queue_gone on n (m.sent n)
 
-    took_gone : off b.pool ≡ true → (ends : List Seat) → sum_by f (all_taken nm m ends) ≡ 0
+    pub took_gone : off b.pool ≡ true → (ends : List Seat) → sum_by f (all_taken nm m ends) ≡ 0
     took_gone on [] = refl
     took_gone on (s ∷ ends) = omega (arith, sum_by-append f (things_in nm m s) (all_taken nm m ends), here s.role s.queue, took_gone on ends)
       where

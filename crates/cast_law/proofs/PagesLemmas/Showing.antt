@@ -89,7 +89,7 @@ pool_many pool q = by (q.number == pool)
 one_many : (pool : ℕ) (q : PoolAt) → sum_by (pool_weighs (of_pool (record { 0 = pool }))) (q ∷ []) ≡ length (pool_hand q pool)
 one_many pool q = omega (arith, sum_by-cons (pool_weighs (of_pool (record { 0 = pool }))) q [], pool_many pool q)
 
-part_many : (pool : ℕ) (scene : Scene) (p : Part) → manner_of p ≡ Calm → part_weighs (of_pool (record { 0 = pool })) p ≡ length ((sheet scene p).hand pool)
+pub part_many : (pool : ℕ) (scene : Scene) (p : Part) → manner_of p ≡ Calm → part_weighs (of_pool (record { 0 = pool })) p ≡ length ((sheet scene p).hand pool)
 part_many pool scene (UartPart rx tx input) calm = refl
 part_many pool scene (DriverPart device_rx device_tx rx tx) calm = refl
 part_many pool scene (RxPart rx clients) calm = refl
@@ -192,7 +192,7 @@ module _ (rows : List QueueRow) (actors : List Actor) (passed : Passed) (world :
       by false e = refl
       by true e = absurd (aloof (serves_wild rows place.net place.blk cast placed.net placed.blk placed.rogues over.seated over.filled k p at calm 0 (intake n) end e))
 
-  kept_same : (f : Count) (k : ℕ) (x : Actor) → slice_get actors k ≡ Some x → counted f (actor_kept x passed) ≡ counted f (actor_lends x)
+  pub kept_same : (f : Count) (k : ℕ) (x : Actor) → slice_get actors k ≡ Some x → counted f (actor_kept x passed) ≡ counted f (actor_lends x)
   kept_same f k (Kinds.UartDevice x) at = input_none f k (part_of (Kinds.UartDevice x)) (map_get part_of actors k (Kinds.UartDevice x) at) refl aloof (part_names k (part_of (Kinds.UartDevice x)) (map_get part_of actors k (Kinds.UartDevice x) at) refl) x.terminal.input.queue.0 refl
     where
       aloof : Serves (part_of (Kinds.UartDevice x)) → ⊥
@@ -234,7 +234,7 @@ module _ (rows : List QueueRow) (actors : List Actor) (passed : Passed) (world :
       omega (arith, cast_whole rows actors passed world over f, same, all, queues, hands)
 
   -- lends are as they are told
-  lends_same : (pool : PoolId) (k : ℕ) (x : Actor) → slice_get actors k ≡ Some x → counted (of_pool pool) (actor_lends x) ≡ actor_lent x pool.0
+  pub lends_same : (pool : PoolId) (k : ℕ) (x : Actor) → slice_get actors k ≡ Some x → counted (of_pool pool) (actor_lends x) ≡ actor_lent x pool.0
   lends_same pool k (Kinds.UartDevice x) at = refl
   lends_same pool k (Kinds.UartDriver x) at = refl
   lends_same pool k (Kinds.SerialVirtRx x) at = refl

@@ -17,7 +17,7 @@ module _ (naming : Naming) (lender : ℕ) (hostile : Hostiles) (history : Histor
   abbrev t : Table
   t = replay naming history start journal
 
-  counts_are : (number buffers : ℕ) → sizes number ≡ buffers → counted world holders (record { 0 = number }) ≡ census t number buffers
+  pub counts_are : (number buffers : ℕ) → sizes number ≡ buffers → counted world holders (record { 0 = number }) ≡ census t number buffers
   counts_are number buffers sized =
       let pool : PoolId = record { 0 = number } in
       let three : counted world holders pool ≡ census t number (sizes number) =

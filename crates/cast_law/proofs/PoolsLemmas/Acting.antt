@@ -133,7 +133,7 @@ module _ (naming : Naming) (scene : Scene) (passed : Passed) (m : Moved) (items 
   actor_on order (Kinds.Rogue x) calm names net whole turn st = absurd cc
 
   module _ (sizes : ℕ → ℕ) where
-    lender_holds : (v : NetVirtRx) → NamesAt naming scene (part_of (Kinds.NetVirtRx v)) → IsSized sizes (part_of (Kinds.NetVirtRx v)) → IsWhole (Kinds.NetVirtRx v) → ReceivesInTurn scene.frames v passed → NetRxStandsFor v passed → HoldsIts naming sizes m passed (actor_holder scene (Kinds.NetVirtRx v))
+    pub lender_holds : (v : NetVirtRx) → NamesAt naming scene (part_of (Kinds.NetVirtRx v)) → IsSized sizes (part_of (Kinds.NetVirtRx v)) → IsWhole (Kinds.NetVirtRx v) → ReceivesInTurn scene.frames v passed → NetRxStandsFor v passed → HoldsIts naming sizes m passed (actor_holder scene (Kinds.NetVirtRx v))
     lender_holds v names sized whole turn st =
         let row = receiver_row v passed st in
         receiver_holds naming sizes scene v passed m names (items_at (net_sheet scene (receiver_part v)).ends passed m items) turn.takes st (none_of v.work.stray (sym row.strayed ∙ turn.in_turn row)) whole.to_each whole.from_each sized

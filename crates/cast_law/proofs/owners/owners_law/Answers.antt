@@ -15,6 +15,7 @@ use Rattle.cast_law.specs.Pools.Pooling.{AreOverQueues}
 use Rattle.cast_law.proofs.BesideLemmas.Around.{Around}
 use Rattle.cast_law.proofs.OwningLemmas.Beginning.{begins_beside, owned_beside, pools_beside}
 use Rattle.cast_law.proofs.OwningLemmas.Keeping.{kept_at}
+use Rattle.cast_law.proofs.OwningLemmas.Lining.{line_beside}
 use Rattle.cast_law.proofs.OwningLemmas.Past.{past_beside}
 use Rattle.cast_law.proofs.OwningLemmas.Plain.{plain_keepers, plain_naming}
 use Rattle.cast_law.proofs.owners.owners_law.Goals as goal
@@ -50,6 +51,9 @@ returns-clause-owned c = owned_beside
 
 pub returns-clause-owners : goal.returns-clause-owners
 returns-clause-owners c = λ history rows place actors start journal passed world over legal kept begin. owners_hold (owner_naming rows place (map part_of actors)) begin.lender (hostiles (map part_of actors)) history rows (owner_keepers rows place (map part_of actors)) start journal (owned_beside history rows place actors start journal passed world over legal kept begin)
+
+pub returns-clause-lines : goal.returns-clause-lines
+returns-clause-lines c = λ history rows pools place actors start journal passed world placed has over told items carry legal kept begin k row at free. line_beside history rows pools place actors start journal passed world has over (around rows place actors passed world (moved history journal) placed over told items) carry legal kept begin k row at free
 
 pub returns-clause-plain : goal.returns-clause-plain
 returns-clause-plain c = λ rows place cast calm. (plain_naming rows place cast calm, plain_keepers rows place cast calm)
