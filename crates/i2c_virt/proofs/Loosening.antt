@@ -158,9 +158,9 @@ module _ (ps : List Post) (ns : List Bool) where
   rest_on l place next x y p n le rest at need is loose few between =
       let on : suc place ≡ place + 1 = omega arith in
       let one : unsettled_from x place (drop place ps) (drop place ns) ≡ unsettled_from y (place + 1) (drop (place + 1) ps) (drop (place + 1) ns) =
-          past_one x place place ps ns p n at need
-          ∙ (ap (λ j. unsettled_from (lower_if (not (is_settled p.state n)) x (record { queue = p.queue; place = place })) (place + 1) (drop j ps) (drop j ns)) on
-          ∙ ap (λ z. unsettled_from z (place + 1) (drop (place + 1) ps) (drop (place + 1) ns)) (sym is)) in
+      past_one x place place ps ns p n at need
+      ∙ (ap (λ j. unsettled_from (lower_if (not (is_settled p.state n)) x (record { queue = p.queue; place = place })) (place + 1) (drop j ps) (drop j ns)) on
+      ∙ ap (λ z. unsettled_from z (place + 1) (drop (place + 1) ps) (drop (place + 1) ns)) (sym is)) in
       sym (skipped l (place + 1) next y le few loose between) ∙ (sym one ∙ rest)
 
   pub rest_last : (x : Option Stand) (place : ℕ) → length ps ≤ place → Rest x place → x ≡ unsettled_from None 0 ps ns
@@ -213,7 +213,6 @@ need_in v a = need_of (is_none v.work.stray) (is_owing v.work) (wants_at v.work)
 
 module _ (v w : I2cVirt) (same : SameVirt v.ends w.ends) (at : VirtEnd) (there : IsThere v.ends at) (e : Event) (client : ℕ) (moved : Bool) (still : moved ≡ false → WorkIsStill v.work w.work) (rises : RisesOnlyAt client v.work w.work)
     (t : PostedAt (virt_posts v.ends) (place_of v.ends at) (need_in v at) e (virt_posts w.ends)) (loose : w.loose ≡ v.loose) (known : AreLoose v.loose (i2c_virt_round v)) where
-
   -- an end that isn't touched stays settled
   pub left_settled : (k : ℕ) → k < 64 → IsLeft w at moved client k → IsSettledEnd (i2c_virt_round w) k
   left_settled k lt l p need hp hn = by moved refl
@@ -256,7 +255,7 @@ module _ (v w : I2cVirt) (same : SameVirt v.ends w.ends) (at : VirtEnd) (there :
           let place : place_of w.ends at ≡ place_of v.ends at = same_place v.ends w.ends same at in
           let needed : need ≡ need_in v at = some_eq (sym hn ∙ (ap (λ ns. slice_get ns k) (needs_still v w same (still m)) ∙ (ap (slice_get (i2c_virt_round v).needs) (is ∙ place) ∙ need_there v.ends (is_none v.work.stray) (is_owing v.work) (wants_at v.work) (gives_at v.work) at there))) in
           let first : is_settled t.post.state (need_in v at) ≡ true = known k lt (ap (λ (x : Loose). bit_at x.bits k) (sym loose) ∙ clear) t.post (need_in v at) (ap (slice_get (virt_posts v.ends)) (is ∙ place) ∙ t.there)
-              (ap (slice_get (i2c_virt_round v).needs) (is ∙ place) ∙ need_there v.ends (is_none v.work.stray) (is_owing v.work) (wants_at v.work) (gives_at v.work) at there) in
+          (ap (slice_get (i2c_virt_round v).needs) (is ∙ place) ∙ need_there v.ends (is_none v.work.stray) (is_owing v.work) (wants_at v.work) (gives_at v.work) at there) in
           ap (is_settled p.state) (needed ∙ sym (same_need v.work w.work (still m) at)) ∙ (sym (after p (ap (slice_get (virt_posts w.ends)) (sym is) ∙ hp)) ∙ (before t.post t.there ∙ first))
 
       by : (k ≡ place_of w.ends at) ⊎ (k ≡ place_of w.ends at → ⊥) → is_settled p.state need ≡ true
@@ -297,7 +296,7 @@ looked_on v at l l' place next count x y settled queue many few lt is there le h
     let queued : queue ≡ p.queue = on p (ap (slice_get ps) is ∙ post) in
     let loose : AreLoose l' (i2c_virt_round v) = loose_on l.bits l'.bits place settled ps ns so.0 (λ q m a b. here q (ap (slice_get ps) is ∙ a) ∙ ap (is_settled q.state) (some_eq (sym need ∙ b))) less in
     let now : y ≡ lower_if (not (is_settled p.state (need_in v at))) x (record { queue = p.queue; place = place }) =
-        counted ∙ (ap (λ b. lower_if (not b) x (record { queue = queue; place = place })) same ∙ ap (λ q. lower_if (not (is_settled p.state (need_in v at))) x (record { queue = q; place = place })) queued) in
+    counted ∙ (ap (λ b. lower_if (not b) x (record { queue = queue; place = place })) same ∙ ap (λ q. lower_if (not (is_settled p.state (need_in v at))) x (record { queue = q; place = place })) queued) in
     (loose, rest_on ps ns l'.bits place next x y p (need_in v at) le so.1 post need now loose (omega (arith, long, many, few)) between)
 
 -- no entry was moved

@@ -545,8 +545,10 @@ impl I2cVirt {
         requires left { (k : ℕ) → k < 64 → IsLeft self.old at moved client k
             → IsSettledEnd (i2c_virt_round self.old) k }
         ensures knows { KnowsLowest self.new }
-        ensures others { self.new ≡ record self.old { lowest = self.new.lowest;
-            loose = self.new.loose } }
+        ensures others { self.new ≡ record self.old {
+          lowest = self.new.lowest;
+          loose = self.new.loose;
+        } }
     {
         if same {
             return;

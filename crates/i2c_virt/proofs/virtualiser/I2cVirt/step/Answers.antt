@@ -11,8 +11,8 @@ use Rattle.i2c_virt.proofs.Loosening.{left_settled, loose_kept, no_item}
 use Rattle.i2c_virt.proofs.Turning.{virt_turned, looked_fits, looked_same, turned_fits}
 use Rattle.i2c_virt.proofs.virtualiser.I2cVirt.step.Goals as goal
 
-pub step_at-requires-clause-fits : goal.step_at-requires-clause-fits
-step_at-requires-clause-fits g c = turned_fits _ c.args.self.now c.choose-at.new.self _ c.choose-at.ensures.after c.requires
+pub step_at-client-requires-clause-fits : goal.step_at-client-requires-clause-fits
+step_at-client-requires-clause-fits g c = turned_fits _ c.args.self.now c.choose-at.new.self _ c.choose-at.ensures.after c.requires
 
 pub look-requires-clause-same : goal.look-requires-clause-same
 look-requires-clause-same g c = λ same.
