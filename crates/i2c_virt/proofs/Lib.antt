@@ -8,6 +8,7 @@ pub mod Due
 pub mod Stepping
 pub mod Turning
 pub mod Lowest
+pub mod Loosening
 pub mod Rows
 pub mod Starting
 pub mod I2cKit

@@ -26,13 +26,13 @@ use Rattle.i2c_virt.specs.Works.{WorkIsStill, is_owing, wants_at, gives_at}
 use Rattle.i2c_virt.specs.Virtualising.{i2c_virt_round, lowest_of}
 
 -- there are as many ends of the clients as queues
-from_long : (v : VirtEnds) → length (intake_posts v.from_clients) ≡ length (from_queues v)
+pub from_long : (v : VirtEnds) → length (intake_posts v.from_clients) ≡ length (from_queues v)
 from_long v =
     let a = length-map v.from_clients.ends.items intake_post in
     let b = length-map v.from_clients.ends.items (λ (i : Intake). i.queue) in
     omega (arith, a, b)
 
-to_long : (v : VirtEnds) → length (outlet_posts v.to_clients) ≡ length (to_queues v)
+pub to_long : (v : VirtEnds) → length (outlet_posts v.to_clients) ≡ length (to_queues v)
 to_long v =
     let a = length-map v.to_clients.ends.items outlet_post in
     let b = length-map v.to_clients.ends.items (λ (o : Outlet). o.queue) in
@@ -130,7 +130,7 @@ unsettled_set x place (r ∷ ps) (m ∷ ns) zero p q n at need e s =
 unsettled_set x place (r ∷ ps) (m ∷ ns) (suc k) p q n at need e s = unsettled_set (lower_if (not (is_settled r.state m)) x (record { queue = r.queue; place = place })) (place + 1) ps ns k p q n at need e s
 
 -- what is needed or loaded stays
-needs_still : (v w : I2cVirt) → SameVirt v.ends w.ends → WorkIsStill v.work w.work → (i2c_virt_round w).needs ≡ (i2c_virt_round v).needs
+pub needs_still : (v w : I2cVirt) → SameVirt v.ends w.ends → WorkIsStill v.work w.work → (i2c_virt_round w).needs ≡ (i2c_virt_round v).needs
 needs_still v w same h =
     let fs = from_queues w.ends in
     let ts = to_queues w.ends in
@@ -146,7 +146,7 @@ no_queue : QueueId
 no_queue = record { 0 = 0 }
 
 -- an end that is there has its need
-need_there : (v : VirtEnds) (need owed : Bool) (needs loads : ℕ → Bool) (at : VirtEnd) → IsThere v at → slice_get (virt_needs v need owed needs loads) (place_of v at) ≡ Some (need_of need owed needs loads at)
+pub need_there : (v : VirtEnds) (need owed : Bool) (needs loads : ℕ → Bool) (at : VirtEnd) → IsThere v at → slice_get (virt_needs v need owed needs loads) (place_of v at) ≡ Some (need_of need owed needs loads at)
 need_there v need owed needs loads At.Input there = refl
 need_there v need owed needs loads At.Output there = refl
 need_there v need owed needs loads (At.FromClient k) there =
@@ -160,10 +160,10 @@ need_there v need owed needs loads (At.ToClient k) there =
 
 -- what stands at the place of a client's end
 
-from_post : (v : VirtEnds) (k : ℕ) (i : Intake) (p : Post) → slice_get v.from_clients.ends.items k ≡ Some i → slice_get (virt_posts v) (2 + k) ≡ Some p → intake_post i ≡ p
+pub from_post : (v : VirtEnds) (k : ℕ) (i : Intake) (p : Post) → slice_get v.from_clients.ends.items k ≡ Some i → slice_get (virt_posts v) (2 + k) ≡ Some p → intake_post i ≡ p
 from_post v k i p at h = some_eq (sym (ap (slice_get (virt_posts v)) (two_on k) ∙ get_front (intake_posts v.from_clients) (outlet_posts v.to_clients) k (intake_post i) (get_map intake_post v.from_clients.ends.items k i at)) ∙ h)
 
-to_post : (v : VirtEnds) (k : ℕ) (o : Outlet) (p : Post) → slice_get v.to_clients.ends.items k ≡ Some o → slice_get (virt_posts v) (2 + length (from_queues v) + k) ≡ Some p → outlet_post o ≡ p
+pub to_post : (v : VirtEnds) (k : ℕ) (o : Outlet) (p : Post) → slice_get v.to_clients.ends.items k ≡ Some o → slice_get (virt_posts v) (2 + length (from_queues v) + k) ≡ Some p → outlet_post o ≡ p
 to_post v k o p at h =
     let long = from_long v in
     some_eq (sym (ap (slice_get (virt_posts v)) (two_past (length (from_queues v)) k) ∙ (ap (λ n. slice_get (intake_posts v.from_clients ++ outlet_posts v.to_clients) (n + k)) (sym long) ∙ (get_behind (intake_posts v.from_clients) (outlet_posts v.to_clients) k ∙ get_map outlet_post v.to_clients.ends.items k o at))) ∙ h)
@@ -194,13 +194,13 @@ pub to_settled : (v : I2cVirt) (at : VirtEnd) (k : ℕ) (o : Outlet) (b g : Bool
 to_settled v at k o b g is there gives settled = subst (λ (a : VirtEnd). IsSettledAt v a b) (sym is) (λ p h. settled ∙ (ap (λ (q : Post). is_settled q.state g) (to_post v.ends k o p there h) ∙ ap (is_settled p.state) gives))
 
 -- where a client's end stands, and what is needed there, is the same
-same_place : (v w : VirtEnds) → SameVirt v w → (at : VirtEnd) → place_of w at ≡ place_of v at
+pub same_place : (v w : VirtEnds) → SameVirt v w → (at : VirtEnd) → place_of w at ≡ place_of v at
 same_place v w same At.Input = refl
 same_place v w same At.Output = refl
 same_place v w same (At.FromClient k) = refl
 same_place v w same (At.ToClient k) = ap (λ (qs : List QueueId). 2 + length qs + k) same.from_clients
 
-same_need : (v w : Work) → WorkIsStill v w → (at : VirtEnd) → need_of (is_none w.stray) (is_owing w) (wants_at w) (gives_at w) at ≡ need_of (is_none v.stray) (is_owing v) (wants_at v) (gives_at v) at
+pub same_need : (v w : Work) → WorkIsStill v w → (at : VirtEnd) → need_of (is_none w.stray) (is_owing w) (wants_at w) (gives_at w) at ≡ need_of (is_none v.stray) (is_owing v) (wants_at v) (gives_at v) at
 same_need v w h At.Input = h.free
 same_need v w h At.Output = h.owing
 same_need v w h (At.FromClient k) = h.wants k
@@ -297,3 +297,14 @@ unsettled_woken x place (r ∷ ps) (m ∷ ns) (suc k) p q n h at need =
     ap (λ y. unsettled_from (lower_if (not y) x (record { queue = r.queue; place = place })) (place + 1) (slice_set ps k q) ns) b.0
     ∙ (unsettled_woken x (place + 1) ps ns k p q n b.1 at need
     ∙ ap (λ j. lower_if (not (is_settled q.state n)) x (record { queue = q.queue; place = j })) (omega arith))
+
+-- the queue of a client's end
+
+abbrev pub IsQueueAt : I2cVirt → VirtEnd → ℕ → Type 0
+IsQueueAt v at q = (p : Post) → slice_get (virt_posts v.ends) (place_of v.ends at) ≡ Some p → q ≡ p.queue
+
+pub from_queue : (v : I2cVirt) (at : VirtEnd) (k : ℕ) (i : Intake) → at ≡ At.FromClient k → slice_get v.ends.from_clients.ends.items k ≡ Some i → IsQueueAt v at i.queue.0
+from_queue v at k i is there = subst (λ (a : VirtEnd). IsQueueAt v a i.queue.0) (sym is) (λ p h. ap (λ (q : Post). q.queue) (from_post v.ends k i p there h))
+
+pub to_queue : (v : I2cVirt) (at : VirtEnd) (k : ℕ) (o : Outlet) → at ≡ At.ToClient k → slice_get v.ends.to_clients.ends.items k ≡ Some o → IsQueueAt v at o.queue.0
+to_queue v at k o is there = subst (λ (a : VirtEnd). IsQueueAt v a o.queue.0) (sym is) (λ p h. ap (λ (q : Post). q.queue) (to_post v.ends k o p there h))

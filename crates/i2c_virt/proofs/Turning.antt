@@ -55,7 +55,7 @@ turned_fits ends v mid last after f =
     })
 
 -- only the lowest end was looked for
-pub looked_fits : (ends : Role → ℕ → End) (w new : I2cVirt) → new ≡ record w { lowest = new.lowest } → FitsEnds ends w → KnowsLowest new → FitsI2cVirt ends new
+pub looked_fits : (ends : Role → ℕ → End) (w new : I2cVirt) → new ≡ record w { lowest = new.lowest; loose = new.loose } → FitsEnds ends w → KnowsLowest new → FitsI2cVirt ends new
 looked_fits ends w new others f knows = record {
   ends_fit = subst (λ (x : I2cVirt). FitsVirt ends x.ends) (sym others) f.ends_fit;
   work = subst (λ (x : I2cVirt). IsWork x.work) (sym others) f.work;
@@ -64,7 +64,7 @@ looked_fits ends w new others f knows = record {
   knows = knows;
 }
 
-pub looked_same : (v mid w new : I2cVirt) (last : ℕ) → mid ≡ record v { ends = record v.ends { turn = record { last = last } } } → new ≡ record w { lowest = new.lowest } → SameI2cVirt mid w → SameI2cVirt v new
+pub looked_same : (v mid w new : I2cVirt) (last : ℕ) → mid ≡ record v { ends = record v.ends { turn = record { last = last } } } → new ≡ record w { lowest = new.lowest; loose = new.loose } → SameI2cVirt mid w → SameI2cVirt v new
 looked_same v mid w new last after others s = record {
   ends = record {
     input = ap (λ (x : I2cVirt). x.ends.input.queue) others ∙ (s.ends.input ∙ ap (λ (x : I2cVirt). x.ends.input.queue) after);

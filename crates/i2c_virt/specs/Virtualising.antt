@@ -2,6 +2,7 @@
 use Rattle.std.specs.Prelude.{◌≡◌, ◌+◌, ◌≤◌, ◌<◌, ◌==◌, ℕ, Bool, true, false, is_some, is_none}
 use Rattle.std.specs.Prelude.{if◌then◌else◌, Option, Some, None, List, [], ◌∷◌, ◌++◌, All, length}
 use Rattle.std.specs.Prelude.{map, replicate, slice_get}
+use Rattle.std.specs.Int.{bit_at}
 use Rattle.std.specs.List.{flat_map}
 use Rattle.std.specs.Option.{ForSome, option_to_list}
 use Rattle.cargo_core.specs.Lists.{IsPrefix}
@@ -13,15 +14,18 @@ use Rattle.wire_core.specs.declared.names.QueueId.{QueueId}
 use Rattle.wire_core.specs.Deeds.{Cargo}
 use Rattle.wire_core.specs.Ends.{Role, End}
 use Rattle.wire_core.specs.Lists.{Passed}
-use Rattle.turn_kit.specs.Turns.{Round, unsettled_from}
+use Rattle.turn_kit.specs.Table.{is_settled}
+use Rattle.turn_kit.specs.Turns.{Post, Round, unsettled_from}
 use Rattle.turn_kit.specs.Lowests.{found}
 use Rattle.turn_kit.specs.declared.turns.Stand.{Stand}
 use Rattle.buffer_kit.specs.Clients.{queue_at}
 use Rattle.buffer_kit.specs.Virtualising.{FitsVirt, SameVirt, IsNewVirt, virt_round, from_queues}
-use Rattle.buffer_kit.specs.Virtualising.{to_queues}
+use Rattle.buffer_kit.specs.Virtualising.{to_queues, place_of}
+use Rattle.buffer_kit.specs.declared.virt_ends.VirtEnd.{VirtEnd}
 use Rattle.i2c_virt.specs.I2cKit.Entries.{is_own_request}
 use Rattle.i2c_virt.specs.I2cKit.Pages.{status_in}
 use Rattle.i2c_virt.specs.declared.desk.Desk.{Desk}
+use Rattle.i2c_virt.specs.declared.loose.Loose.{Loose}
 use Rattle.i2c_virt.specs.declared.virtualiser.I2cVirt.{I2cVirt}
 use Rattle.i2c_virt.specs.declared.work.From.{From}
 use Rattle.i2c_virt.specs.declared.work.From.TheVariants as Source
@@ -126,9 +130,33 @@ i2c_virt_round v = virt_round v.ends (is_none v.work.stray) (is_owing v.work) (w
 abbrev pub lowest_of : I2cVirt → Option Stand
 lowest_of v = unsettled_from None 0 (i2c_virt_round v).posts (i2c_virt_round v).needs
 
--- it keeps which this is
-abbrev pub KnowsLowest : I2cVirt → Type 0
-KnowsLowest v = found v.lowest ≡ lowest_of v
+-- the end at a place, if there is one, is settled
+abbrev pub IsSettledEnd : Round → ℕ → Type 0
+IsSettledEnd r k = (p : Post) (need : Bool) → slice_get r.posts k ≡ Some p
+    → slice_get r.needs k ≡ Some need → is_settled p.state need ≡ true
+
+-- among these are all of the first 64 ends that aren't settled
+abbrev pub AreLoose : Loose → Round → Type 0
+AreLoose l r = (k : ℕ) → k < 64 → bit_at l.bits k ≡ 0 → IsSettledEnd r k
+
+-- it keeps which is the lowest, and which ends may be unsettled
+pub record KnowsLowest (v : I2cVirt) : Type 0 where
+  pub is : found v.lowest ≡ lowest_of v
+  pub loose : AreLoose v.loose (i2c_virt_round v)
+
+-- a place is none of the driver's ends', and none of those of a client
+pub record IsBesides (v : I2cVirt) (client k : ℕ) : Type 0 where
+  pub input : k ≡ 0 → ⊥
+  pub output : k ≡ 1 → ⊥
+  pub from : k ≡ 2 + client → ⊥
+  pub to : k ≡ 2 + length (from_queues v.ends) + client → ⊥
+
+-- an end wasn't loose and stays so after a call at another end, where that moved no entry, or one
+-- that matters to the driver's ends and those of one client alone
+pub record IsLeft (v : I2cVirt) (at : VirtEnd) (moved : Bool) (client k : ℕ) : Type 0 where
+  pub clear : bit_at v.loose.bits k ≡ 0
+  pub another : k ≡ place_of v.ends at → ⊥
+  pub besides : moved ≡ true → IsBesides v client k
 
 -- it fits its ends, and keeps which is the lowest of those that aren't settled
 pub record FitsI2cVirt (ends : Role → ℕ → End) (v : I2cVirt) : Type 0 where

@@ -173,3 +173,8 @@ pub record WorkIsStill (old new : Work) : Type 0 where
   pub gives : (k : ℕ) → gives_at new k ≡ gives_at old k
   pub owing : is_owing new ≡ is_owing old
   pub free : is_none new.stray ≡ is_none old.stray
+
+-- what is needed of a client, or is to go to it, comes up of this client alone
+pub record RisesOnlyAt (client : ℕ) (old new : Work) : Type 0 where
+  pub wants : (k : ℕ) → (k ≡ client → ⊥) → wants_at new k ≡ true → wants_at old k ≡ true
+  pub gives : (k : ℕ) → (k ≡ client → ⊥) → gives_at new k ≡ true → gives_at old k ≡ true

@@ -9,6 +9,7 @@ mod desk;
 mod driver;
 pub mod i2c_client;
 pub mod i2c_kit;
+mod loose;
 mod owners;
 mod virtualiser;
 mod work;
@@ -21,6 +22,7 @@ pub use i2c_kit::{
     BUFFER_BYTES, BUFFERS, Device, Head, Operation, Request, granted_to, owner_after, read_request,
     read_status, replies_alone, replies_by, write_answer, write_request,
 };
+pub use loose::Loose;
 pub use owners::Owners;
 pub use virtualiser::{I2cVirt, virt_law};
 pub use work::{From, Giving, Stray, Wanting, Work};

@@ -2,6 +2,7 @@
 ghost use Rattle.std.specs.Prelude.{◌≡◌, ◌==◌, ◌↔◌, ◌+◌, ◌<◌, ◌^◌, ◌++◌, ℕ, [], IfOk, IsSome};
 ghost use Rattle.std.specs.Prelude.{is_none, is_some, length, replicate, slice_get, Some, None};
 ghost use Rattle.std.specs.Prelude.{true, false};
+ghost use Rattle.std.specs.Int.{bit_at};
 ghost use Rattle.std.specs.Option.{ForSome, option_to_list};
 ghost use Rattle.cargo_core.specs.declared.item.QueueKind.TheVariants as Kind;
 ghost use Rattle.cargo_core.specs.Items.{kind_of};
@@ -18,28 +19,31 @@ ghost use Rattle.buffer_kit.specs.Virtualising.{FitsVirt, SameVirt, from_queues,
 ghost use Rattle.buffer_kit.specs.Virtualising.{virt_posts, place_of, IsThere, need_of};
 ghost use Rattle.i2c_virt.specs.declared.virtualiser.I2cVirt.{I2cVirt};
 ghost use Rattle.i2c_virt.specs.Desks.{new_desk};
-ghost use Rattle.i2c_virt.specs.Works.{IsWork, WorkIsStill, is_owing, wants_at, gives_at};
+ghost use Rattle.i2c_virt.specs.Works.{IsWork, WorkIsStill, RisesOnlyAt, is_owing, wants_at};
+ghost use Rattle.i2c_virt.specs.Works.{gives_at};
 ghost use Rattle.i2c_virt.specs.Virtualising.{FitsI2cVirt, I2cVirtStandsFor, VirtRow, SameI2cVirt};
 ghost use Rattle.i2c_virt.specs.Virtualising.{i2c_virt_round, IsNewI2cVirt, FitsEnds, KnowsLowest};
-ghost use Rattle.i2c_virt.specs.Virtualising.{lowest_of};
+ghost use Rattle.i2c_virt.specs.Virtualising.{lowest_of, AreLoose, IsLeft, IsSettledEnd};
 
 use crate::calls::{pull, pull_at, push, push_at};
-use crate::{Desk, Giving, Owners, Wanting, Work};
+use crate::{Desk, Giving, Loose, Owners, Wanting, Work};
 use buffer_kit::{NetCargo, VirtEnd, VirtEnds};
 use cargo_core::{Body, Item, Memory};
 use std::alloc::Global;
 use turn_kit::Lowest;
-use wire_core::{Answer, Event, Op, QueueId, Wires};
+use wire_core::{Event, Op, QueueId, Wires};
 
 /// The virtualiser of the bus. It answers claims and the transfers at addresses that their client
 /// hasn't, and hands the others on to the driver, of each client one at a time. `lowest` is the
-/// lowest of its ends that aren't settled. It is kept up to date, so that only a step that changes
-/// what is needed, or whether its end is settled, looks at all ends.
+/// lowest of its ends that aren't settled, and all of these are among `loose`. Both are kept up to
+/// date, so that only a step that moves an entry, or changes whether its end is settled, looks at
+/// ends, and only at those that are loose.
 #[derive(Drop)]
 pub struct I2cVirt {
     pub ends: VirtEnds,
     pub work: Work,
     pub lowest: Lowest,
+    pub loose: Loose,
 }
 
 // So many clients of which nothing came.
@@ -167,17 +171,6 @@ fn step_to<W: Wires>(
     push_at(&mut ends.to_clients, wires, place, load, event);
 }
 
-// Whether a call is one after which its actor may need something else.
-fn is_mark(op: Op, answer: Answer) -> bool
-    ensures { result ≡ is_mark op answer }
-{
-    match op {
-        Op::Take | Op::Put => true,
-        Op::Wake(_) => answer == Answer::Yes,
-        _ => false,
-    }
-}
-
 // The end at a place.
 fn end_at(ends: &VirtEnds, place: usize) -> VirtEnd
     requires few { length (from_queues ends.now) < 2 ^ 32 }
@@ -191,6 +184,21 @@ fn end_at(ends: &VirtEnds, place: usize) -> VirtEnd
         1 => VirtEnd::Output,
         _ if place < 2 + clients => VirtEnd::FromClient(place - 2),
         _ => VirtEnd::ToClient(place - 2 - clients),
+    }
+}
+
+// The place of an end.
+fn place_at(ends: &VirtEnds, at: VirtEnd) -> usize
+    requires few { length (from_queues ends.now) < 2 ^ 32 }
+    requires to_few { length (to_queues ends.now) < 2 ^ 32 }
+    requires there { IsThere ends.now at }
+    ensures { result ≡ place_of ends.now at }
+{
+    match at {
+        VirtEnd::Input => 0,
+        VirtEnd::Output => 1,
+        VirtEnd::FromClient(place) => 2 + place,
+        VirtEnd::ToClient(place) => 2 + ends.from_clients.len() + place,
     }
 }
 
@@ -221,6 +229,7 @@ impl I2cVirt {
             ends,
             work,
             lowest: Lowest::none(),
+            loose: Loose::all(),
         };
         virt.lowest = virt.unsettled();
         Ok(virt)
@@ -248,8 +257,8 @@ impl I2cVirt {
         self.ends.output.settled(self.is_owing())
     }
 
-    // The next call where responses come.
-    fn step_response<W: Wires>(&mut self, wires: &mut W, event: &mut Event)
+    // The next call where responses come. It gives the client for which one came.
+    fn step_response<W: Wires>(&mut self, wires: &mut W, event: &mut Event) -> usize
         requires { FitsEnds (W.ends wires.old) self.old }
         ensures fits { FitsEnds (W.ends wires.new) self.new }
         ensures same { SameI2cVirt self.old self.new }
@@ -263,12 +272,16 @@ impl I2cVirt {
         ensures kept { event.new.item ≡ None → WorkIsStill self.old.work self.new.work }
         ensures turn { self.new.ends.turn ≡ self.old.ends.turn }
         ensures lowest { self.new.lowest ≡ self.old.lowest }
+        ensures loose { self.new.loose ≡ self.old.loose }
+        ensures rises { RisesOnlyAt result self.old.work self.new.work }
+        ensures within { result < 2 ^ 16 }
     {
         let free = self.work.stray.is_none();
         let mut got = None;
         step_input(&mut self.ends, wires, free, &mut got, event);
-        if let Some(entry) = got {
-            self.work.respond(entry);
+        match got {
+            Some(entry) => self.work.respond(entry),
+            None => 0,
         }
     }
 
@@ -287,6 +300,8 @@ impl I2cVirt {
         ensures kept { event.new.item ≡ None → WorkIsStill self.old.work self.new.work }
         ensures turn { self.new.ends.turn ≡ self.old.ends.turn }
         ensures lowest { self.new.lowest ≡ self.old.lowest }
+        ensures loose { self.new.loose ≡ self.old.loose }
+        ensures rises { RisesOnlyAt place self.old.work self.new.work }
     {
         let wants = self.work.wants(place);
         let mut got = None;
@@ -296,8 +311,8 @@ impl I2cVirt {
         }
     }
 
-    // The next call where requests go to the driver.
-    fn step_driver<W: Wires>(&mut self, wires: &mut W, event: &mut Event)
+    // The next call where requests go to the driver. It gives the client whose request went.
+    fn step_driver<W: Wires>(&mut self, wires: &mut W, event: &mut Event) -> usize
         requires { FitsEnds (W.ends wires.old) self.old }
         ensures fits { FitsEnds (W.ends wires.new) self.new }
         ensures same { SameI2cVirt self.old self.new }
@@ -310,15 +325,20 @@ impl I2cVirt {
         ensures kept { event.new.item ≡ None → WorkIsStill self.old.work self.new.work }
         ensures turn { self.new.ends.turn ≡ self.old.ends.turn }
         ensures lowest { self.new.lowest ≡ self.old.lowest }
+        ensures loose { self.new.loose ≡ self.old.loose }
+        ensures rises { RisesOnlyAt result self.old.work self.new.work }
+        ensures within { result < 2 ^ 16 }
     {
         match self.work.leaver() {
             None => {
                 let mut nothing = None;
                 step_output(&mut self.ends, wires, &mut nothing, event);
+                0
             }
             Some(place) => {
                 let desk = &mut self.work.desks[place];
                 step_output(&mut self.ends, wires, &mut desk.leaving, event);
+                place
             }
         }
     }
@@ -340,6 +360,8 @@ impl I2cVirt {
         ensures kept { event.new.item ≡ None → WorkIsStill self.old.work self.new.work }
         ensures turn { self.new.ends.turn ≡ self.old.ends.turn }
         ensures lowest { self.new.lowest ≡ self.old.lowest }
+        ensures loose { self.new.loose ≡ self.old.loose }
+        ensures rises { RisesOnlyAt place self.old.work self.new.work }
     {
         if !self.work.gives(place) {
             let mut nothing = None;
@@ -428,16 +450,37 @@ impl I2cVirt {
         }
     }
 
-    // Whether a call at an end left what is needed, and whether that end is settled.
-    fn is_same_at(&self, at: VirtEnd, settled: bool, event: &Event) -> bool
+    // The queue of an end.
+    #[inline(always)]
+    fn queue_at(&self, at: VirtEnd) -> QueueId
         requires { IsThere self.now.ends at }
-        ensures mark { result ≡ true → is_mark event.now.op event.now.answer ≡ false }
+        ensures { (p : Post) → slice_get (virt_posts self.now.ends) (place_of self.now.ends at)
+            ≡ Some p → result.0 ≡ p.queue }
+    {
+        match at {
+            VirtEnd::Input => self.ends.input.queue,
+            VirtEnd::Output => self.ends.output.queue,
+            VirtEnd::FromClient(place) => {
+                let end = &self.ends.from_clients.ends[place];
+                end.queue
+            }
+            VirtEnd::ToClient(place) => {
+                let end = &self.ends.to_clients.ends[place];
+                end.queue
+            }
+        }
+    }
+
+    // Whether a call at an end moved no entry, and left whether that end is settled.
+    fn is_same_at(&self, at: VirtEnd, settled: bool, moved: bool) -> bool
+        requires { IsThere self.now.ends at }
+        ensures still { result ≡ true → moved ≡ false }
         ensures settled { result ≡ true → (p : Post) → slice_get (virt_posts self.now.ends)
             (place_of self.now.ends at) ≡ Some p → settled ≡ is_settled p.state (need_of
             (is_none self.now.work.stray) (is_owing self.now.work) (wants_at self.now.work)
             (gives_at self.now.work) at) }
     {
-        if is_mark(event.op, event.answer) {
+        if moved {
             return false;
         }
         if self.is_settled_at(at) {
@@ -447,21 +490,78 @@ impl I2cVirt {
         }
     }
 
-    // Looks for the lowest end again, unless it is the same.
-    fn look(&mut self, same: bool)
-        requires from_clients { length (from_queues self.old.ends) < 2 ^ 32 }
-        requires to_clients { length (to_queues self.old.ends) < 2 ^ 32 }
-        requires same { same ≡ true → KnowsLowest self.old }
-        ensures knows { KnowsLowest self.new }
-        ensures others { self.new ≡ record self.old { lowest = self.new.lowest } }
+    // The ends that may be unsettled after a call at an end. Where it moved an entry, the driver's
+    // ends and those of one client may be.
+    fn loosened(&self, at: VirtEnd, moved: bool, client: usize) -> Loose
+        requires from_clients { length (from_queues self.now.ends) < 2 ^ 32 }
+        requires to_clients { length (to_queues self.now.ends) < 2 ^ 32 }
+        requires there { IsThere self.now.ends at }
+        requires client { client < 2 ^ 32 }
+        ensures { (k : ℕ) → k < 64 → bit_at result.bits k ≡ 0
+            → IsLeft self.now at moved client k }
     {
-        if !same {
-            self.lowest = self.unsettled();
+        let touched = self.loose.with(place_at(&self.ends, at));
+        if !moved {
+            return touched;
         }
+        let clients = self.ends.from_clients.len();
+        let driver = touched.with(0).with(1);
+        driver.with(2 + client).with(2 + clients + client)
     }
 
-    // The next call at an end.
-    fn step_at<W: Wires>(&mut self, wires: &mut W, at: VirtEnd, event: &mut Event)
+    // The lowest of the ends that aren't settled, and which may be unsettled. It looks at none
+    // that is known to be settled.
+    fn find(&self) -> (Lowest, Loose)
+        requires from_clients { length (from_queues self.now.ends) < 2 ^ 32 }
+        requires to_clients { length (to_queues self.now.ends) < 2 ^ 32 }
+        requires loose { AreLoose self.now.loose (i2c_virt_round self.now) }
+        ensures lowest { found result.0 ≡ lowest_of self.now }
+        ensures loose { AreLoose result.1 (i2c_virt_round self.now) }
+    {
+        let count = 2 + self.ends.from_clients.len() + self.ends.to_clients.len();
+        if 63 < count {
+            return (self.unsettled(), self.loose);
+        }
+        let mut lowest = Lowest::none();
+        let mut loose = self.loose;
+        let mut place = loose.next(0);
+        while place < count {
+            let at = end_at(&self.ends, place);
+            let settled = self.is_settled_at(at);
+            lowest = lowest.unless_settled(place, self.queue_at(at), settled);
+            loose = loose.unless_settled(place, settled);
+            place = loose.next(place + 1);
+        }
+        (lowest, loose)
+    }
+
+    // Looks for the lowest end again, unless it is the same.
+    fn look(&mut self, at: VirtEnd, moved: bool, client: usize, same: bool)
+        requires from_clients { length (from_queues self.old.ends) < 2 ^ 32 }
+        requires to_clients { length (to_queues self.old.ends) < 2 ^ 32 }
+        requires there { IsThere self.old.ends at }
+        requires client { client < 2 ^ 32 }
+        requires same { same ≡ true → KnowsLowest self.old }
+        requires left { (k : ℕ) → k < 64 → IsLeft self.old at moved client k
+            → IsSettledEnd (i2c_virt_round self.old) k }
+        ensures knows { KnowsLowest self.new }
+        ensures others { self.new ≡ record self.old {
+          lowest = self.new.lowest;
+          loose = self.new.loose;
+        } }
+    {
+        if same {
+            return;
+        }
+        self.loose = self.loosened(at, moved, client);
+        let (lowest, loose) = self.find();
+        self.lowest = lowest;
+        self.loose = loose;
+    }
+
+    // The next call at an end. It gives the one client, if any, of which something may be needed
+    // only now.
+    fn step_at<W: Wires>(&mut self, wires: &mut W, at: VirtEnd, event: &mut Event) -> usize
         requires fits { FitsEnds (W.ends wires.old) self.old }
         requires there { IsThere self.old.ends at }
         ensures fits { FitsEnds (W.ends wires.new) self.new }
@@ -476,12 +576,21 @@ impl I2cVirt {
         ensures kept { event.new.item ≡ None → WorkIsStill self.old.work self.new.work }
         ensures turn { self.new.ends.turn ≡ self.old.ends.turn }
         ensures lowest { self.new.lowest ≡ self.old.lowest }
+        ensures loose { self.new.loose ≡ self.old.loose }
+        ensures rises { RisesOnlyAt result self.old.work self.new.work }
+        ensures within { result < 2 ^ 16 }
     {
         match at {
             VirtEnd::Input => self.step_response(wires, event),
             VirtEnd::Output => self.step_driver(wires, event),
-            VirtEnd::FromClient(place) => self.step_request(wires, place, event),
-            VirtEnd::ToClient(place) => self.step_answer(wires, place, event),
+            VirtEnd::FromClient(place) => {
+                self.step_request(wires, place, event);
+                place
+            }
+            VirtEnd::ToClient(place) => {
+                self.step_answer(wires, place, event);
+                place
+            }
         }
     }
 
@@ -496,9 +605,10 @@ impl I2cVirt {
     {
         let at = self.choose();
         let settled = self.is_settled_at(at);
-        self.step_at(wires, at, event);
-        let same = self.is_same_at(at, settled, event);
-        self.look(same);
+        let client = self.step_at(wires, at, event);
+        let moved = event.item.is_some();
+        let same = self.is_same_at(at, settled, moved);
+        self.look(at, moved, client, same);
     }
 }
 

@@ -7,7 +7,7 @@ ghost use Rattle.buffer_kit.specs.Clients.{is_so, entry_in};
 ghost use Rattle.i2c_virt.specs.I2cKit.Entries.{is_own_request};
 ghost use Rattle.i2c_virt.specs.declared.desk.Desk.{Desk};
 ghost use Rattle.i2c_virt.specs.Works.{IsWork, SameWork, wants_at, gives_at, is_owing, is_due};
-ghost use Rattle.i2c_virt.specs.Works.{TookFrom, TookBack};
+ghost use Rattle.i2c_virt.specs.Works.{TookFrom, TookBack, RisesOnlyAt};
 ghost use Rattle.i2c_virt.specs.Desks.{is_away_in};
 
 use crate::i2c_kit::{is_own_request, is_reply_in, read_head, shared_place};
@@ -130,6 +130,7 @@ impl Work {
         ensures work { IsWork self.new }
         ensures same { SameWork self.old self.new }
         ensures asked { TookFrom self.old place entry self.new }
+        ensures rises { RisesOnlyAt place self.old self.new }
     {
         let (_, body) = entry;
         match body {
@@ -152,6 +153,7 @@ impl Work {
         ensures work { IsWork self.new }
         ensures same { SameWork self.old self.new }
         ensures asked { TookFrom self.old place entry self.new }
+        ensures rises { RisesOnlyAt place self.old self.new }
     {
         if is_own_request(PoolId(place as u16), &entry) {
             self.ask(place, entry);
@@ -185,40 +187,47 @@ impl Work {
         self.is_away(page) && is_reply_in(page.pool(), page.no(), place, entry)
     }
 
-    // The response to a request came.
-    fn take_back(&mut self, entry: (Item, Body))
+    // The response to a request came. It gives the request's client.
+    fn take_back(&mut self, entry: (Item, Body)) -> usize
         requires work { IsWork self.old }
         requires free { self.old.stray ≡ None }
         requires due { is_due self.old entry ≡ true }
         ensures work { IsWork self.new }
         ensures same { SameWork self.old self.new }
         ensures answered { TookBack self.old entry self.new }
+        ensures rises { RisesOnlyAt result self.old self.new }
+        ensures within { result < 2 ^ 16 }
     {
         let (_, body) = entry;
         match body {
             Body::Page(page) => {
-                let desk = &mut self.desks[usize::from(page.pool().0)];
+                let client = usize::from(page.pool().0);
+                let desk = &mut self.desks[client];
                 desk.take_back(page);
+                client
             }
             Body::Empty | Body::Lease(_) => unreachable!(),
         }
     }
 
-    /// An entry of the driver came. One that is no response in turn is kept as it is.
-    pub fn respond(&mut self, entry: (Item, Body))
+    /// An entry of the driver came. One that is no response in turn is kept as it is. It gives the
+    /// one client, if any, of which something may be needed only now.
+    pub fn respond(&mut self, entry: (Item, Body)) -> usize
         requires work { IsWork self.old }
         requires free { self.old.stray ≡ None }
         ensures work { IsWork self.new }
         ensures same { SameWork self.old self.new }
         ensures answered { TookBack self.old entry self.new }
+        ensures rises { RisesOnlyAt result self.old self.new }
+        ensures within { result < 2 ^ 16 }
     {
         if self.is_due(&entry) {
-            self.take_back(entry);
-        } else {
-            self.stray = Some(Stray {
-                from: From::Driver,
-                entry,
-            });
+            return self.take_back(entry);
         }
+        self.stray = Some(Stray {
+            from: From::Driver,
+            entry,
+        });
+        0
     }
 }

@@ -6,4 +6,4 @@ use Rattle.i2c_virt.proofs.virtualiser.I2cVirt.at_rest.Goals as goal
 pub returns : goal.returns
 returns c =
     let r = i2c_virt_round c.args.self.now in
-    none_by c.stand.result c.is_none.result c.is_none.ensures ∙ (ap is_none (c.stand.ensures ∙ c.requires) ∙ sym (rest_is 0 r.posts r.needs))
+    none_by c.stand.result c.is_none.result c.is_none.ensures ∙ (ap is_none (c.stand.ensures ∙ c.requires.is) ∙ sym (rest_is 0 r.posts r.needs))

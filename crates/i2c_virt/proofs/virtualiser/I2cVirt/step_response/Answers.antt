@@ -9,8 +9,8 @@ use Rattle.i2c_virt.proofs.Ordering.{order_still, beside_takes_none}
 use Rattle.i2c_virt.proofs.Stepping.{still, moved, response_in, is_free}
 use Rattle.i2c_virt.proofs.virtualiser.I2cVirt.step_response.Goals as goal
 
-pub returns-in_default-clause-stepped : goal.returns-in_default-clause-stepped
-returns-in_default-clause-stepped g c =
+pub returns-in-None-clause-stepped : goal.returns-in-None-clause-stepped
+returns-in-None-clause-stepped g c =
     let v = c.args.self.now in
     let e = c.step_input.new.event in
     let fit = c.requires.ends_fit in
@@ -19,7 +19,7 @@ returns-in_default-clause-stepped g c =
       happened = c.step_input.ensures.did;
       kept = λ passed h. moved v.ends c.step_input.new.ends c.step_input.ensures.same v.work (with_deed passed (deed_of e c.step_input.new.got))
           (still v.ends.input.queue.0 v.ends.output.queue.0 (from_queues v.ends) (to_queues v.ends) v.work v.work passed _ _ _ h
-          (λ n. c.step_input.ensures.takes n ∙ (ap (λ (o : Option Cargo). if_there (v.ends.input.queue.0 == n) (option_to_list o)) c.in_default.is ∙ none_if (v.ends.input.queue.0 == n))) c.step_input.ensures.puts
+          (λ n. c.step_input.ensures.takes n ∙ (ap (λ (o : Option Cargo). if_there (v.ends.input.queue.0 == n) (option_to_list o)) c.in-None.is ∙ none_if (v.ends.input.queue.0 == n))) c.step_input.ensures.puts
           (order_still (from_queues v.ends) passed.calls e (beside_takes_none (from_queues v.ends) e (λ k q at same. fit.inputs_apart k q at (ap (λ (r : QueueId). r.0) (sym c.step_input.ensures.on) ∙ sym same)))));
     }
 

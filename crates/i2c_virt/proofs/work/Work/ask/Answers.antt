@@ -2,6 +2,7 @@ use Rattle.std.proofs.Common.{◌≡◌, Some, length, drop, refl, sym, ap, ◌�
 use Rattle.std.proofs.lemmas.Option.{slice_get_within}
 use Rattle.i2c_virt.specs.I2cKit.Pages.{head_in, asked}
 use Rattle.i2c_virt.proofs.Working.{head_below, head_spells, wanted_there, asks_there, asks_open, request_parts, asked_work, asked_log, ask_turn}
+use Rattle.i2c_virt.proofs.Loosening.{rises_at}
 use Rattle.i2c_virt.proofs.work.Work.ask.Goals as goal
 
 pub judge-answer-requires-clause-within : goal.judge-answer-requires-clause-within
@@ -42,3 +43,6 @@ returns-clause-asked c =
       stands = asked_log w _ k x c.ask.new.self (asks_there w k x c.requires.needed c.index_mut-desk.ensures.value) refl c.requires.work p c.judge-answer.result c.ask.ensures (asks_open w k x c.requires.needed c.index_mut-desk.ensures.value) r.own r.within ask (head_spells p.bytes head h)
           (λ rs. c.judge-answer.ensures.verdict rs (drop 4 p.bytes)) (λ rs. c.judge-answer.ensures.knows rs (drop 4 p.bytes));
     })
+
+pub returns-clause-rises : goal.returns-clause-rises
+returns-clause-rises c = rises_at c.args.self.now _ c.args.place c.ask.new.self refl refl
