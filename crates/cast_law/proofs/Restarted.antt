@@ -100,11 +100,15 @@ rogue_or r (BlockPart p) = r
 
 rogue_same : (p : RoguePart) (q : Part) → disarmed q ≡ disarmed (HostilePart p) → (r : RoguePart) × (q ≡ HostilePart r) × IsRogueAlike p r
 unfolding rogue_or
-rogue_same p (HostilePart q) same = (q, refl, record {
-  inputs = ap (λ (z : Part). (rogue_or p z).inputs) same;
-  outputs = ap (λ (z : Part). (rogue_or p z).outputs) same;
-  pages = ap (λ (z : Part). (rogue_or p z).pages) same;
-})
+rogue_same p (HostilePart q) same = (
+  q,
+  refl,
+  record {
+    inputs = ap (λ (z : Part). (rogue_or p z).inputs) same;
+    outputs = ap (λ (z : Part). (rogue_or p z).outputs) same;
+    pages = ap (λ (z : Part). (rogue_or p z).pages) same;
+  },
+)
 rogue_same p (UartPart rx tx input) same = cc
 rogue_same p (DriverPart device_rx device_tx rx tx) same = cc
 rogue_same p (RxPart rx clients) same = cc

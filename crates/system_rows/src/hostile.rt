@@ -113,13 +113,15 @@ fn is_right(
 {
     let report = system.report()?;
     let journal = system.journal();
-    Ok(report.steps <= limit
-        && do_add_up(&report)
-        && is_network_right(alloc, plan, trace, &report)?
-        && is_serial_right(alloc, plan, trace, &report)?
-        && is_block_right(alloc, plan, trace, &report)?
-        && goes_right(alloc, plan, layout, journal)?
-        && (!report.quiet || are_at_home(alloc, plan, layout, &report, journal)?))
+    Ok(
+        report.steps <= limit
+            && do_add_up(&report)
+            && is_network_right(alloc, plan, trace, &report)?
+            && is_serial_right(alloc, plan, trace, &report)?
+            && is_block_right(alloc, plan, trace, &report)?
+            && goes_right(alloc, plan, layout, journal)?
+            && (!report.quiet || are_at_home(alloc, plan, layout, &report, journal)?),
+    )
 }
 
 impl Tally {
@@ -132,7 +134,9 @@ impl Tally {
         }
         if limit_of(number) == AMPLE {
             self.ample = self.ample.saturating_add(1);
-            self.quiet = self.quiet.saturating_add(u64::from(ending == Ending::Quiet));
+            self.quiet = self
+                .quiet
+                .saturating_add(u64::from(ending == Ending::Quiet));
         }
     }
 }

@@ -307,11 +307,17 @@ pub fn goes_right(
     let mut right = sends_buffers(alloc, layout, journal, net)?
         && asks_within(alloc, layout, journal, blk)?;
     for client in 0..net {
-        let owner = Owner { class: "net", client };
+        let owner = Owner {
+            class: "net",
+            client,
+        };
         right = goes_as_put(alloc, layout, journal, owner)? && right;
     }
     for client in 0..blk {
-        let owner = Owner { class: "blk", client };
+        let owner = Owner {
+            class: "blk",
+            client,
+        };
         right = goes_as_put(alloc, layout, journal, owner)? && right;
     }
     Ok(right)

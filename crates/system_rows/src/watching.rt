@@ -92,10 +92,8 @@ fn is_net_right(
         return Ok(record.is_empty());
     }
     let wanted = to_record(alloc, net, trace, client)?;
-    let (Some(mac), Some(wire)) = (
-        read_mac(net.client.get(client).mac.as_str()),
-        &report.wire,
-    ) else {
+    let (Some(mac), Some(wire)) = (read_mac(net.client.get(client).mac.as_str()), &report.wire)
+    else {
         return Ok(false);
     };
     let sent = frames_from(alloc, wire, mac)?;
@@ -151,8 +149,7 @@ fn is_client_right(
     let wanted = input_of(alloc, trace, clients, number)?;
     let says = trace.says.get(client).as_slice();
     let said = bytes_among(alloc, line, says)?;
-    Ok(begin_bytes(record.as_slice(), wanted.as_slice(), whole)
-        && begin_bytes(&said, says, whole))
+    Ok(begin_bytes(record.as_slice(), wanted.as_slice(), whole) && begin_bytes(&said, says, whole))
 }
 
 /// Whether what each serial client recorded and said is right. No byte is said by two of them, and
