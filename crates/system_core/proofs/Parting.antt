@@ -54,8 +54,8 @@ module _ (rows : List QueueRow) (world : List Queue) (actors : List Actor) (name
       λ i. λ r n. end_of (nat_lt n (long i)) ((kept n).0 i) ((kept n).1 i) r
 
 module _ (a : Inside) (i : IsSystem a) (anew : (setting_of a).history ≡ start_history a.rows.items) (none : a.journal.items ≡ []) where
-  holds : Holds (start_history a.rows.items) a.rows.items a.names.items a.wires.world a.actors.items []
-  holds = subst (Holds (start_history a.rows.items) a.rows.items a.names.items a.wires.world a.actors.items) none (subst (λ (h : History). Holds h a.rows.items a.names.items a.wires.world a.actors.items a.journal.items) anew i.holds)
+  holds : Holds (start_history a.rows.items) a.rows.items (setting_of a).names a.wires.world a.actors.items []
+  holds = subst (Holds (start_history a.rows.items) a.rows.items (setting_of a).names a.wires.world a.actors.items) none (subst (λ (h : History). Holds h a.rows.items (setting_of a).names a.wires.world a.actors.items a.journal.items) anew i.holds)
 
   whole : (k : ℕ) (x : Actor) → slice_get a.actors.items k ≡ Some x → IsWhole x
   whole k x at = fits_whole (end_at a.wires.world) x (i.holds.fits k x at)
@@ -64,8 +64,8 @@ module _ (a : Inside) (i : IsSystem a) (anew : (setting_of a).history ≡ start_
   pub are_ready : AllCalm (map part_of a.actors.items) → AreReady a.rows.items a.actors.items
   are_ready calm = record {
     calm = λ k x at. calm k (part_of x) (map_get part_of a.actors.items k x at);
-    fits = λ k x at. subst (λ (e : Role → ℕ → End). FitsActor e x) (start_ends a.rows.items a.wires.world a.actors.items a.names.items holds) (holds.fits k x at);
-    stands = λ k x at. stands_beside holds.passed nothing_passed x (whole k x at) (λ n e. sym (none_taken a.rows.items a.wires.world a.actors.items a.names.items holds n)) (λ n e. sym (none_sent a.rows.items a.wires.world a.actors.items a.names.items holds n)) (holds.stands k x at);
+    fits = λ k x at. subst (λ (e : Role → ℕ → End). FitsActor e x) (start_ends a.rows.items a.wires.world a.actors.items (setting_of a).names holds) (holds.fits k x at);
+    stands = λ k x at. stands_beside holds.passed nothing_passed x (whole k x at) (λ n e. sym (none_taken a.rows.items a.wires.world a.actors.items (setting_of a).names holds n)) (λ n e. sym (none_sent a.rows.items a.wires.world a.actors.items (setting_of a).names holds n)) (holds.stands k x at);
     owners = λ k x at r n own.
         let e = end_seat (scene_of (map part_of a.actors.items)) (part_of x) r n (to_part x r n (whole k x at) own) in
         i.fitted.seated k (part_of x) (map_get part_of a.actors.items k x at) e.0 (record { queue = n; role = r }) e.1;
