@@ -116,9 +116,10 @@ together old new seed limit played plan trace built system = record {
   played = played_on old new seed limit built.journal played plan trace system;
 }
 
--- so a system that goes on from what actors left has the cast that these came from
-pub adopted_cast : (plan : Plan) (trace : Trace) (s : Setting) (parts : List Apart) (t : Shown) → IsCastOf plan trace s → IsAdopted s parts t → IsCastOf plan trace t.setting
-adopted_cast plan trace s parts t cast adopted = subst (IsCastOf plan trace) (sym adopted.setting) (same_cast plan trace s t.setting.history cast)
+-- so a system that goes on from what actors left has the cast that these came from, where nobody is
+-- hostile
+pub adopted_cast : (plan : Plan) (trace : Trace) → Valid plan → HasNoRogue plan → (s : Setting) (parts : List Apart) (t : Shown) → IsCastOf plan trace s → IsAdopted s parts t → IsCastOf plan trace t.setting
+adopted_cast plan trace valid none s parts t cast adopted = subst (IsCastOf plan trace) (sym (adopted.calm (cast_calm plan trace valid none s cast))) (same_cast plan trace s t.setting.history cast)
 
 -- what follows from two facts of a value, where there is one
 pub both_ok : {X Y : Type 0} (r : Result X Y) (P Q R : X → Type 0) → ((x : X) → P x → Q x → R x) → IfOk r P → IfOk r Q → IfOk r R
