@@ -128,6 +128,10 @@ calm_anew : (actors : List Actor) → AllCalm (map part_of actors) → map part_
 calm_anew [] calm = refl
 calm_anew (x ∷ xs) calm = λ i. anew_is x (calm 0 (part_of x) refl) i ∷ calm_anew xs (λ k p at. calm (suc k) p at) i
 
+pub apart_disarmed : (parts : List Apart) → map disarmed (map (λ (p : Apart). part_anew p.actor) parts) ≡ map disarmed (map (λ (p : Apart). part_of p.actor) parts)
+apart_disarmed [] = refl
+apart_disarmed (p ∷ ps) = λ i. anew_disarmed p.actor i ∷ apart_disarmed ps i
+
 -- a hostile client that forgot its look begins its act anew
 forgot_rogue : (x : Actor) (r : Rogue) → Forgot x (Kinds.Rogue r) → left_at_start r ≡ left_of r
 forgot_rogue (Kinds.Rogue x) r h = h.start

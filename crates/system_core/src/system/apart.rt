@@ -7,7 +7,6 @@ ghost use Rattle.order_law.specs.ActorParts.Given.{Kept, apart_of};
 ghost use Rattle.order_law.specs.ActorParts.Opened.{HaveNothing, AreAsOpened};
 ghost use Rattle.order_law.specs.ActorParts.Parting.{AreApart};
 ghost use Rattle.order_law.specs.ActorParts.Opening.{IsForgotten};
-ghost use Rattle.cast_core.specs.Hostile.{HasNoRogue};
 ghost use Rattle.sdf_check.specs.Valid.{Valid};
 ghost use Rattle.trace_text.specs.declared.trace.Trace.{Trace as TraceIs};
 ghost use Rattle.trace_text.specs.Traces.{IsReadFor};
@@ -90,7 +89,7 @@ impl System {
             → IsCastOf plan.now trace s
             → HaveComeFrom s parts.rings.items (map apart_of parts.actors.items)
             → IsAdopted s (map apart_of parts.actors.items) t) }
-        ensures system { IfOk result (λ t. HasNoRogue plan.now → (trace : TraceIs) (s : Setting)
+        ensures system { IfOk result (λ t. (trace : TraceIs) (s : Setting)
             → IsReadFor plan.now trace → IsCastOf plan.now trace s
             → HaveComeFrom s parts.rings.items (map apart_of parts.actors.items)
             → IsSystemOf plan.now trace t) }

@@ -50,5 +50,5 @@ returns-clause-adopted c =
 pub returns-clause-system : goal.returns-clause-system
 returns-clause-system c =
     both_ok c.begin.result _ _ _
-    (λ t is of none trace s read cast come. of c.args.plan.now trace c.requires.valid read (adopted_cast c.args.plan.now trace c.requires.valid none s (map apart_of c.args.parts.actors.items) t cast (is trace s cast come)))
+    (λ t is of trace s read cast come. of c.args.plan.now trace c.requires.valid read (adopted_cast c.args.plan.now trace s (map apart_of c.args.parts.actors.items) t cast (is trace s cast come)))
     (returns-clause-adopted c) c.begin.ensures.of_plan
