@@ -17,6 +17,13 @@ use Rattle.actor_set.specs.Laws.Kinds.{frames_of, hostiles, image_of, manner_of,
 use Rattle.wired_law.specs.Wiring.{HasPart, HasWholeIn, HasNoNetwork, HasBlkIn, HasNoBlock, IsWiredIn}
 use Rattle.cast_law.specs.Pools.Places.{PoolPlace, HasNetAt, HasBlkAt, IsPlaced, ArePooled, IsInPlace}
 use Rattle.cast_law.specs.Pools.Rogues.{IsNetRogue, IsBlkRogue, IsBareRogue, IsRogueOf, HasRogues}
+use Rattle.std.specs.Option.{option_map, option_map_or}
+use Rattle.play_core.proofs.Lists.{some_is}
+use Rattle.sdf_plan.specs.declared.plan.Plan.{Plan}
+use Rattle.trace_text.specs.declared.trace.Trace.{Trace}
+use Rattle.layout_laws.specs.Jobs.Jobs.{Job, HasJob}
+use Rattle.cast_core.specs.Casts.{job_part}
+use Rattle.cast_law.specs.Jobs.{PlayJobs}
 use Rattle.cast_law.specs.Restarting.{AreAlike, disarmed}
 
 -- one part
@@ -117,6 +124,37 @@ rogue_same p (ClientPart rx tx script) same = cc
 rogue_same p (NetworkPart q) same = cc
 rogue_same p (SendingPart q) same = cc
 rogue_same p (BlockPart q) same = cc
+
+-- whether one is hostile that is there, or isn't
+pub sort_same : (o : Option Part) → is_hostile (option_map_or manner_of (option_map disarmed o) Calm) ≡ is_hostile (option_map_or manner_of o Calm)
+sort_same None = refl
+sort_same (Some p) = hostile_same p
+
+slice_disarmed : (cast : List Part) (k : ℕ) → slice_get (map disarmed cast) k ≡ option_map disarmed (slice_get cast k)
+slice_disarmed [] k = refl
+slice_disarmed (p ∷ cast) zero = refl
+slice_disarmed (p ∷ cast) (suc k) = slice_disarmed cast k
+
+-- what plays a job, by the job's part
+there_disarmed : (o : Option Part) (p : Part) → option_map disarmed o ≡ Some (disarmed p) → (q : Part) × (o ≡ Some q) × (disarmed q ≡ disarmed p)
+there_disarmed None p same = cc
+there_disarmed (Some q) p same = (q, refl, some_is same)
+
+module _ (plan : Plan) (trace : Trace) (cast : List Part) (plays : PlayJobs plan trace cast) (job : Job) (k : ℕ) (has : HasJob plan job k) where
+  pub plays_calm : (p : Part) → job_part plan trace job ≡ Some p → is_hostile (manner_of p) ≡ false → slice_get cast k ≡ Some p
+  plays_calm p is calm =
+      let q = there_disarmed (slice_get cast k) p (plays job k has ∙ ap (option_map disarmed) is) in
+      q.1 ∙ ap Some (calm_same p q.0 calm q.2)
+
+  pub plays_rogue : (p : RoguePart) → job_part plan trace job ≡ Some (HostilePart p) → (r : RoguePart) × (slice_get cast k ≡ Some (HostilePart r)) × IsRogueAlike p r
+  plays_rogue p is =
+      let q = there_disarmed (slice_get cast k) (HostilePart p) (plays job k has ∙ ap (option_map disarmed) is) in
+      let r = rogue_same p q.0 q.2 in
+      (r.0, q.1 ∙ ap Some r.1, r.2)
+
+  -- and the part of its job, by what plays it
+  pub played : (p : Part) → slice_get cast k ≡ Some p → (q : Part) × (job_part plan trace job ≡ Some q) × (disarmed q ≡ disarmed p)
+  played p at = there_disarmed (job_part plan trace job) p (sym (plays job k has) ∙ ap (option_map disarmed) at)
 
 -- who of a cast is hostile, and its scene
 hosts_at : (cast : List Part) (k : ℕ) → hostiles (map disarmed cast) k ≡ hostiles cast k
@@ -285,3 +323,6 @@ module _ (olds news : List Part) (alike : AreAlike olds news) where
     filled = subst (λ (s : Scene). AreFilled (sheet s) rows news) (sym (scene_alike olds news alike)) (filled_alike (scene_of olds) rows is.filled);
     pooled = pooled_alike rows pools is.pooled;
   }
+
+  pub plays_alike : (plan : Plan) (trace : Trace) → PlayJobs plan trace olds → PlayJobs plan trace news
+  plays_alike plan trace plays job k has = sym (slice_disarmed news k) ∙ (ap (λ (c : List Part). slice_get c k) alike ∙ (slice_disarmed olds k ∙ plays job k has))

@@ -1,13 +1,15 @@
 -- A cast by the jobs of its plan.
 use Rattle.std.specs.Prelude.{◌≡◌, ℕ, List, slice_get}
+use Rattle.std.specs.Option.{option_map}
 use Rattle.sdf_plan.specs.declared.plan.Plan.{Plan}
 use Rattle.trace_text.specs.declared.trace.Trace.{Trace}
 use Rattle.layout_laws.specs.Jobs.Jobs.{Job, HasJob}
 use Rattle.actor_set.specs.Parts.{Part}
 use Rattle.cast_core.specs.Casts.{job_part}
+use Rattle.cast_law.specs.Restarting.{disarmed}
 
--- each actor to which the plan gives a job plays the job's part, that of a hostile client with its
--- acts
+-- each actor to which the plan gives a job plays the job's part, whatever it has yet to do where it
+-- is a hostile client's
 abbrev pub PlayJobs : Plan → Trace → List Part → Type 0
 PlayJobs plan trace cast = (job : Job) (k : ℕ) → HasJob plan job k
-    → slice_get cast k ≡ job_part plan trace job
+    → option_map disarmed (slice_get cast k) ≡ option_map disarmed (job_part plan trace job)

@@ -4,7 +4,6 @@ ghost use Rattle.std.specs.Prelude.{◌≡◌, IfOk};
 ghost use Rattle.sdf_check.specs.Valid.{Valid};
 ghost use Rattle.trace_text.specs.Traces.{IsReadFor};
 ghost use Rattle.region_layout.specs.Layouts.{layout_of};
-ghost use Rattle.cast_core.specs.Hostile.{HasNoRogue};
 ghost use Rattle.system_core.specs.PlanPlays.{HasEnded};
 ghost use Rattle.sddf_top.specs.SystemRun.Ran.{IsRan};
 
@@ -18,10 +17,9 @@ use std::thread::Threads;
 use system_core::{Ending, System};
 use trace_text::Trace;
 
-/// Builds the system of a plan without hostile clients and runs each of its actors in a thread of
-/// its own, until all are at rest or one has made `limit` steps; then it takes over what the threads
-/// left and plays it by seed 0, until it is quiet or as many steps were made. Each step in a thread
-/// passes the gate.
+/// Builds the system of a plan and runs each of its actors in a thread of its own, until all are at
+/// rest or one has made `limit` steps; then it takes over what the threads left and plays it by seed
+/// 0, until it is quiet or as many steps were made. Each step in a thread passes the gate.
 pub fn ran<R: Threads + Wait + Sync, G: Gate + Sync>(
     rt: &R,
     alloc: Global,
@@ -34,7 +32,6 @@ pub fn ran<R: Threads + Wait + Sync, G: Gate + Sync>(
     requires valid { Valid plan.now }
     requires layout { layout.now ≡ layout_of plan.now }
     requires trace { IsReadFor plan.now trace.now }
-    requires friendly { HasNoRogue plan.now }
     ensures ran { IfOk result (λ r. IsRan plan.now trace.now limit r.0) }
     ensures ended { IfOk result (λ r. HasEnded limit r.0 r.1) }
 {

@@ -174,7 +174,7 @@ module _ (plan : Plan) (serial : Serial) (trace : Trace) (s : Shown) (h : HasSer
   pub nothing_is : (c : ℕ) (got : List ℕ) → is_serial_rogue plan c ≡ true → slice_get s.state.serial c ≡ Some got → got ≡ []
   nothing_is c got rogue at =
       let client = seen c got at in
-      sym client.2 ∙ ap (λ o. option_map_or (record_by went) o []) (h.hostile c client.0 rogue client.1)
+      sym client.2 ∙ ap (λ o. option_map_or (record_by went) o []) (h.hostile c client.0 rogue client.1).1
 
   line_is : s.state.line ≡ Some (bytes_in (went.taken (first + 1)))
   line_is =

@@ -24,6 +24,8 @@ use Rattle.cast_law.specs.Places.{pool_place}
 use Rattle.cast_law.specs.Pools.Places.{ArePooled}
 use Rattle.cast_law.specs.Pools.Rogues.{HasRogues}
 use Rattle.system_core.specs.Shows.{Crew}
+use Rattle.cast_law.specs.Restarting.{disarmed}
+use Rattle.std.specs.Option.{option_map}
 use Rattle.system_core.specs.States.{started}
 use Rattle.system_core.specs.Crews.{net_crew, serial_crew, blk_crew}
 use Rattle.system_core.specs.Builds.{IsBuilt}
@@ -51,7 +53,7 @@ module _ (plan : Plan) (valid : Valid plan) (trace : Trace) (read : IsReadFor pl
       pools = pools_are;
       count = length-map actors part_of ∙ cast.count_is;
       scene = scene_of_plan plan trace actors valid cast;
-      parts = part_there (job_part plan trace) plan actors valid cast;
+      parts = λ job k has. ap (option_map disarmed) (part_there (job_part plan trace) plan actors valid cast job k has);
       whole = λ n has. subst (λ rs. HasWhole rs (net_place plan trace) (map part_of actors)) (sym rows_are) (whole_network plan trace actors valid read cast n has);
       whole_block = λ b has. subst (λ rs. HasBlk rs (blk_place plan trace) (map part_of actors)) (sym rows_are) (whole_block plan trace actors valid read cast b has);
       rogues = subst (λ rs. HasRogues rs (pool_place plan trace).net (pool_place plan trace).blk (map part_of actors)) (sym rows_are) (rogues_are plan trace actors valid read cast);
@@ -59,6 +61,7 @@ module _ (plan : Plan) (valid : Valid plan) (trace : Trace) (read : IsReadFor pl
       serial = serial_is;
       blk = blk_is;
     };
+    acts = part_there (job_part plan trace) plan actors valid cast;
     begins = refl;
     journal = refl;
   }

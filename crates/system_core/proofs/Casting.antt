@@ -7,7 +7,7 @@ use Rattle.trace_text.specs.declared.trace.Trace.{Trace}
 use Rattle.region_layout.specs.Rows.{uart_number}
 use Rattle.serial_law.specs.Parts.{SerialPart, SerialDevice, SerialDriver, SerialReceiver, SerialSender, SerialClient}
 use Rattle.layout_laws.specs.Jobs.Jobs as jobs
-use Rattle.actor_set.specs.Parts.{Part, RxPart, TxPart, ClientPart, HostilePart}
+use Rattle.actor_set.specs.Parts.{Part, RxPart, TxPart, ClientPart, HostilePart, RoguePart}
 use Rattle.actor_set.specs.Laws.Kinds.{serial_part}
 use Rattle.trace_text.specs.Events.{is_serial_rogue}
 use Rattle.cast_core.specs.Casts.{calm_part}
@@ -17,6 +17,7 @@ use Rattle.layout_laws.proofs.SeatsLemmas.Naming.{serial_named}
 use Rattle.system_core.specs.Shows.{Crew, Setting}
 use Rattle.system_core.specs.States.{crew_of, nobody}
 use Rattle.system_core.specs.Crews.{number_named}
+use Rattle.cast_law.proofs.Restarted.{IsRogueAlike, plays_calm, plays_rogue}
 use Rattle.system_core.specs.Builds.{IsCastOf}
 use Rattle.system_core.proofs.Scripts.{serials}
 
@@ -33,7 +34,7 @@ pub record HasSerial (first : ℕ) (plan : Plan) (serial : Serial) (trace : Trac
   pub receiver : IsPart s (number_named plan serial.rx_virt) (SerialReceiver (first + 2) (every_second (first + 4) (length serial.client)))
   pub sender : IsPart s (number_named plan serial.tx_virt) (SerialSender (first + 3) (every_second (first + 5) (length serial.client)))
   pub client : (c : ℕ) (client : Client) (script : List ℕ) → is_serial_rogue plan c ≡ false → slice_get serial.client c ≡ Some client → slice_get trace.says c ≡ Some script → IsPart s (number_named plan client.pd) (SerialClient (first + 4 + 2 * c) (first + 5 + 2 * c) script)
-  pub hostile : (c : ℕ) (client : Client) → is_serial_rogue plan c ≡ true → slice_get serial.client c ≡ Some client → slice_get s.cast (number_named plan client.pd) ≡ Some (HostilePart (serial_rogue_at first c (acts_at trace.serial_acts c)))
+  pub hostile : (c : ℕ) (client : Client) → is_serial_rogue plan c ≡ true → slice_get serial.client c ≡ Some client → (r : RoguePart) × (slice_get s.cast (number_named plan client.pd) ≡ Some (HostilePart r)) × IsRogueAlike (serial_rogue_at first c (acts_at trace.serial_acts c)) r
 
 pub has_serial : (plan : Plan) (trace : Trace) (s : Setting) → IsCastOf plan trace s → (serial : Serial) → plan.serial ≡ Some serial → HasSerial (first_serial plan) plan serial trace s
 has_serial plan trace s cast serial has =
@@ -45,10 +46,10 @@ has_serial plan trace s cast serial has =
     record {
       device_is = ap (λ (c : Crew). c.device) who;
       clients_are = ap (λ (c : Crew). c.clients) who;
-      device = cast.parts jobs.UartDevice _ named.device;
-      driver = cast.parts jobs.UartDriver _ named.driver;
-      receiver = cast.parts jobs.SerialReceiver _ named.receiver ∙ ap (λ (cs : List Client). Some (RxPart (first + 2) (every_second (first + 4) (length cs)))) clients;
-      sender = cast.parts jobs.SerialSender _ named.sender ∙ ap (λ (cs : List Client). Some (TxPart (first + 3) (every_second (first + 5) (length cs)))) clients;
-      client = λ c client script calm at said. cast.parts (jobs.SerialClient c) _ (named.client c client at) ∙ (ap (λ b. if b then Some (HostilePart (serial_rogue_at first c (acts_at trace.serial_acts c))) else calm_part plan trace (jobs.SerialClient c)) calm ∙ ap (λ o. Some (ClientPart (first + 4 + 2 * c) (first + 5 + 2 * c) (unwrap_or o []))) said);
-      hostile = λ c client rogue at. cast.parts (jobs.SerialClient c) _ (named.client c client at) ∙ ap (λ b. if b then Some (HostilePart (serial_rogue_at first c (acts_at trace.serial_acts c))) else calm_part plan trace (jobs.SerialClient c)) rogue;
+      device = plays_calm plan trace s.cast cast.parts jobs.UartDevice _ named.device _ refl refl;
+      driver = plays_calm plan trace s.cast cast.parts jobs.UartDriver _ named.driver _ refl refl;
+      receiver = plays_calm plan trace s.cast cast.parts jobs.SerialReceiver _ named.receiver _ refl refl ∙ ap (λ (cs : List Client). Some (RxPart (first + 2) (every_second (first + 4) (length cs)))) clients;
+      sender = plays_calm plan trace s.cast cast.parts jobs.SerialSender _ named.sender _ refl refl ∙ ap (λ (cs : List Client). Some (TxPart (first + 3) (every_second (first + 5) (length cs)))) clients;
+      client = λ c client script calm at said. plays_calm plan trace s.cast cast.parts (jobs.SerialClient c) _ (named.client c client at) _ (ap (λ b. if b then Some (HostilePart (serial_rogue_at first c (acts_at trace.serial_acts c))) else calm_part plan trace (jobs.SerialClient c)) calm ∙ ap (λ o. Some (ClientPart (first + 4 + 2 * c) (first + 5 + 2 * c) (unwrap_or o []))) said) refl;
+      hostile = λ c client rogue at. plays_rogue plan trace s.cast cast.parts (jobs.SerialClient c) _ (named.client c client at) _ (ap (λ b. if b then Some (HostilePart (serial_rogue_at first c (acts_at trace.serial_acts c))) else calm_part plan trace (jobs.SerialClient c)) rogue);
     }

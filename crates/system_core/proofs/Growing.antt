@@ -1,5 +1,5 @@
 -- What is said by the names that are kept stays said as more of them are kept.
-use Rattle.std.proofs.Common.{◌≡◌, ◌≤◌, List, slice_get, length, length-append, refl, sym, ap, ◌∙◌, arith}
+use Rattle.std.proofs.Common.{◌≡◌, ◌≤◌, ℕ, Some, List, [], slice_get, length, length-append, refl, sym, ap, ◌∙◌, subst, arith}
 use Rattle.cargo_core.specs.Lists.{IsPrefix}
 use Rattle.wire_core.specs.declared.names.Entry.{Entry}
 use Rattle.wire_core.specs.declared.names.QueueRow.{QueueRow}
@@ -13,10 +13,12 @@ use Rattle.play_core.proofs.Staying.{runs_same, rows_stay}
 use Rattle.blk_law.specs.Sheets.Parts.{BlkPart, DiskDevice, BlkDriver, BlkVirt, BlkClient}
 use Rattle.blk_law.specs.VirtScene.Table as block
 use Rattle.actor_set.specs.Parts.{Part, UartPart, DriverPart, RxPart, TxPart, ClientPart, NetworkPart, SendingPart, BlockPart, HostilePart}
-use Rattle.actor_set.specs.Laws.Kinds.{sheet}
+use Rattle.play_core.specs.Wants.{all_settled}
+use Rattle.actor_set.specs.Laws.Kinds.{manner_of, sheet}
 use Rattle.actor_set.specs.Laws.Scenes.{LiesWithin, told_sheet}
 use Rattle.actor_set.proofs.LawsLemmas.Told.{told_stays}
-use Rattle.system_core.specs.Shows.{KeepsSetting, NamesTell, RowsStand, Setting, hostile_in, manner_in, moved_in, runs}
+use Rattle.system_core.specs.Shows.{KeepsSetting, NamesTell, RowsStand, Setting, hostile_in, manner_in, moved_in, runs, sheet_in}
+use Rattle.system_core.specs.Adopting.{AllRest, rests_by}
 
 -- the ends of a part are the same by whatever names
 block_ends : (scene : Scene) (wild : Wild) (names : Names) (p : BlkPart) → (told_sheet scene wild names (BlockPart p)).ends ≡ (sheet scene (BlockPart p)).ends
@@ -88,3 +90,11 @@ module _ (s : Setting) (ns : List Noted) (begins : IsPrefix s.names ns) where
 -- so it is of a setting that stays but for its names
 pub told_runs : (s t : Setting) → KeepsSetting s t → (journal : List Entry) → NamesTell s journal → runs s journal ≡ runs t journal
 told_runs s t keeps journal tell = runs_on s t.names keeps.names journal tell ∙ sym (ap (λ (z : Setting). runs z journal) keeps.stays)
+
+-- and all rest where the journal begins
+pub keeps_rests : (s t : Setting) → NamesTell s [] → KeepsSetting s t → AllRest s → AllRest t
+keeps_rests s t tell keeps rest =
+    let wild : Wild = wild_in (hostile_in s) s.rows in
+    let same : (k : ℕ) (p : Part) → slice_get s.cast k ≡ Some p → (sheet_in s p).wants (moved_in s []) ≡ (sheet_in (record s { names = t.names }) p).wants (moved_in s []) =
+    (λ k p at. (told_stays s.scene wild).wants (told_by s.names) (told_by t.names) (notes_grow s.names t.names keeps.names) p (moved_in s []) (tell k p at)) in
+    subst AllRest (sym keeps.stays) (λ k p at. ap (rests_by (manner_of p)) (ap (all_settled s.history []) (sym (same k p at))) ∙ rest k p at)

@@ -37,31 +37,31 @@ module _ (history : History) (rows : List QueueRow) (names : List Noted) (w : Li
 
 module _ (a : Inside) (i : IsSystem a) where
   heard : (k : ℕ) → record_from a.actors.items k ≡ record_at (shown_of a) k
-  heard k = same_heard (setting_of a).history a.rows.items a.names.items a.wires.world a.actors.items a.journal.items i.holds k
+  heard k = same_heard (setting_of a).history a.rows.items (setting_of a).names a.wires.world a.actors.items a.journal.items i.holds k
 
   told : IsTold (shown_of a)
   told = record {
     passed = i.holds.passed;
-    items = items_here (setting_of a).history a.rows.items a.names.items a.wires.world a.actors.items a.journal.items i.holds;
+    items = items_here (setting_of a).history a.rows.items (setting_of a).names a.wires.world a.actors.items a.journal.items i.holds;
     line = line a.serial.device;
     serial = map_alike (record_from a.actors.items) (record_at (shown_of a)) a.serial.clients (λ c k at. heard k);
     wire = wire a.net.device;
     net = length-map a.net.clients (frames_from a.actors.items);
     frames = λ net whole. record {
-      records = records_at (setting_of a).history a.rows.items a.names.items a.wires.world a.actors.items a.journal.items i.holds net whole a.net.clients;
-      wire = wire_here (setting_of a).history a.rows.items a.names.items a.wires.world a.actors.items a.journal.items i.holds net whole a.net.device;
-      plain = sends_plain (setting_of a).history a.rows.items a.names.items a.wires.world a.actors.items a.journal.items i.holds net whole;
+      records = records_at (setting_of a).history a.rows.items (setting_of a).names a.wires.world a.actors.items a.journal.items i.holds net whole a.net.clients;
+      wire = wire_here (setting_of a).history a.rows.items (setting_of a).names a.wires.world a.actors.items a.journal.items i.holds net whole a.net.device;
+      plain = sends_plain (setting_of a).history a.rows.items (setting_of a).names a.wires.world a.actors.items a.journal.items i.holds net whole;
     };
-    net_silent = net_silent (setting_of a).history a.rows.items a.names.items a.wires.world a.actors.items a.journal.items i.holds a.net.clients;
+    net_silent = net_silent (setting_of a).history a.rows.items (setting_of a).names a.wires.world a.actors.items a.journal.items i.holds a.net.clients;
     blk = length-map a.blk.clients (replies_from a.actors.items);
-    replies = λ blk whole. replies_at (setting_of a).history a.rows.items a.names.items a.wires.world a.actors.items a.journal.items i.holds blk whole a.blk.clients;
-    blk_silent = blk_silent (setting_of a).history a.rows.items a.names.items a.wires.world a.actors.items a.journal.items i.holds a.blk.clients;
+    replies = λ blk whole. replies_at (setting_of a).history a.rows.items (setting_of a).names a.wires.world a.actors.items a.journal.items i.holds blk whole a.blk.clients;
+    blk_silent = blk_silent (setting_of a).history a.rows.items (setting_of a).names a.wires.world a.actors.items a.journal.items i.holds a.blk.clients;
     pools = pool_lines a i;
     pools_anew = pool_lines_anew a i;
     no_pools = without_pools a i;
     adds = lines_add a i;
     buffers = buffers_told a i;
-    bad = bad_ones_told (scene_of (map part_of a.actors.items)) (wild_in (hostiles (map part_of a.actors.items)) a.rows.items) (told_by a.names.items) a.actors.items i.holds.passed i.holds.in_turn i.holds.stands;
+    bad = bad_ones_told (scene_of (map part_of a.actors.items)) (wild_in (hostiles (map part_of a.actors.items)) a.rows.items) (told_by (setting_of a).names) a.actors.items i.holds.passed i.holds.in_turn i.holds.stands;
     none_bad = nothing_bad a i;
   }
     where
@@ -76,7 +76,7 @@ module _ (a : Inside) (i : IsSystem a) where
   -- a runnable actor is one of its actors
   pub runner_there : (place k : ℕ) → slice_get a.running.list place ≡ Some k → k < length a.actors.items
   runner_there place k at =
-      let below = runs_below (setting_of a).history a.rows.items a.names.items (map part_of a.actors.items) a.journal.items place k (rw i.running at at) in
+      let below = runs_below (setting_of a).history a.rows.items (setting_of a).names (map part_of a.actors.items) a.journal.items place k (rw i.running at at) in
       let size = length-map a.actors.items part_of in
       omega (arith, below, size)
 

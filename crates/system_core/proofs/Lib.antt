@@ -30,5 +30,6 @@ pub mod Quieting
 pub mod PoolsLemmas
 pub mod Together
 pub mod Parting
+pub mod PastNames
 pub mod Adopting
 pub mod Isolating

@@ -53,10 +53,10 @@ module _ (a : Inside) (i : IsSystem a) where
 
   -- it is a cast over its queues
   over : AreOverQueues a.rows.items a.actors.items i.holds.passed a.wires.world
-  over = over_queues (setting_of a).history a.rows.items a.names.items a.wires.world a.actors.items a.journal.items i.holds a.pools.items in_place
+  over = over_queues (setting_of a).history a.rows.items (setting_of a).names a.wires.world a.actors.items a.journal.items i.holds a.pools.items in_place
 
   items : HaveItems i.holds.passed (moved (setting_of a).history a.journal.items)
-  items = items_here (setting_of a).history a.rows.items a.names.items a.wires.world a.actors.items a.journal.items i.holds
+  items = items_here (setting_of a).history a.rows.items (setting_of a).names a.wires.world a.actors.items a.journal.items i.holds
 
   -- its queues have what is of their kind
   pub kinds_hold : EachMoment (AreKindly (setting_of a).history a.rows.items) a.journal.items
@@ -79,7 +79,7 @@ module _ (a : Inside) (i : IsSystem a) where
 
   -- the numbers of each line are all buffers of its pool
   pub add_up : AddUp a.wires.world (holders_of a.actors.items) a.pools.items
-  add_up = all_added (setting_of a).history a.rows.items a.names.items a.wires.world a.actors.items a.journal.items i.holds a.pools.items in_place
+  add_up = all_added (setting_of a).history a.rows.items (setting_of a).names a.wires.world a.actors.items a.journal.items i.holds a.pools.items in_place
 
   -- so no more buffers of a pool are shown than it has
   pub no_more : HoldNoMore a.wires.world (holders_of a.actors.items) a.pools.items
@@ -125,7 +125,7 @@ module _ (a : Inside) (i : IsSystem a) where
   -- where nobody is hostile
   module _ (calm : AllCalm cast) where
     turns : (k : ℕ) (x : Actor) → slice_get a.actors.items k ≡ Some x → InTurn (scene_of cast) x i.holds.passed
-    turns = calm_turn (setting_of a).history a.rows.items a.names.items a.wires.world a.actors.items a.journal.items i.holds calm
+    turns = calm_turn (setting_of a).history a.rows.items (setting_of a).names a.wires.world a.actors.items a.journal.items i.holds calm
 
     -- it is a cast at play
     at_play : AreAtPlay (setting_of a).history a.rows.items a.actors.items a.journal.items i.holds.passed a.wires.world

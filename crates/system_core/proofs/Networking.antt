@@ -16,6 +16,8 @@ use Rattle.net_law.proofs.WireLemmas.Telling.{told_long}
 use Rattle.net_law.specs.TxParts.Numbers.{NetPlace, own_pools}
 use Rattle.net_quiet.specs.TxCast.Casting.{NoneHostile, sends_at, sends_beside, wire_beside}
 use Rattle.layout_laws.specs.Jobs.Jobs as jobs
+use Rattle.layout_laws.specs.Jobs.Jobs.{HasJob}
+use Rattle.cast_law.proofs.Restarted.{plays_calm, plays_rogue}
 use Rattle.wire_core.specs.Queues.{items_of}
 use Rattle.play_core.specs.Sheets.{Scene}
 use Rattle.play_core.specs.Totals.{total}
@@ -76,12 +78,12 @@ module _ (plan : Plan) (net : Net) (trace : Trace) (s : Shown) (cast : IsCastOf 
       subst (λ rs. wild_in (hostile_in s.setting) rs (client_first 0 c + 4) ≡ is_net_rogue plan c) (sym cast.rows) (client_wild plan trace s.setting.cast cast.parts net has c client.0 client.1)
 
   -- the client of a number, and its actor
-  client_is : (c : ℕ) → c < length (net_clients plan) → (k : ℕ) × (slice_get s.setting.net.clients c ≡ Some k) × (slice_get s.setting.cast k ≡ job_part plan trace (jobs.NetClient c))
+  client_is : (c : ℕ) → c < length (net_clients plan) → (k : ℕ) × (slice_get s.setting.net.clients c ≡ Some k) × HasJob plan (jobs.NetClient c) k
   client_is c below =
       let client = there_is net.client c (omega (arith, below, many)) in (
         number_named plan client.0.pd,
         ap (λ (k : Crew). slice_get k.clients c) who ∙ map_get (λ (k : Client). number_named plan k.pd) net.client c client.0 client.1,
-        cast.parts (jobs.NetClient c) (number_named plan client.0.pd) (named.client c client.0 client.1),
+        named.client c client.0 client.1,
       )
 
   -- one that isn't hostile recorded a beginning of the frames for its address
@@ -90,7 +92,7 @@ module _ (plan : Plan) (net : Net) (trace : Trace) (s : Shown) (cast : IsCastOf 
       let a = value_is (length (net_clients plan)) (client_mac plan) c mac address in
       let below : c < length (net_clients plan) = a.0 in
       let client = client_is c below in
-      let part : slice_get s.setting.cast client.0 ≡ calm_part plan trace (jobs.NetClient c) = client.2 ∙ calm_client c calm in
+      let part : slice_get s.setting.cast client.0 ≡ calm_part plan trace (jobs.NetClient c) = plays_calm plan trace s.setting.cast cast.parts (jobs.NetClient c) client.0 client.2 _ (calm_client c calm) refl in
       let some = whole.some c (client_pools plan c) (value_at (length (net_clients plan)) (client_pools plan) c below) in
       let is = tells.records c client.0 c (client_program plan trace c) (client_mac plan c) (own_pools (client_pools plan c)) got client.1 part some (value_at (length (net_clients plan)) (client_mac plan) c below) at in
       (subst (λ m. IsPrefix got (frames_for m trace.frames)) (sym a.1) (subst (λ fs. IsPrefix got (frames_for (client_mac plan c) fs)) frames is.0), is.1)
@@ -103,7 +105,8 @@ module _ (plan : Plan) (net : Net) (trace : Trace) (s : Shown) (cast : IsCastOf 
   silent c got hostile at =
       let lt = there_below s.state.net c got at in
       let client = client_is c (omega (arith, lt, count_is, value_count (length (net_clients plan)) (client_mac plan))) in
-      told.net_silent c client.0 (net_rogue_at 0 c (client_pools plan c) (acts_at trace.net_acts c)) got client.1 (client.2 ∙ hostile_client c hostile) at
+      let rogue = plays_rogue plan trace s.setting.cast cast.parts (jobs.NetClient c) client.0 client.2 _ (hostile_client c hostile) in
+      told.net_silent c client.0 rogue.0 got client.1 rogue.1 at
     where
       hostile_client : (c : ℕ) → is_net_rogue plan c ≡ true → job_part plan trace (jobs.NetClient c) ≡ Some (HostilePart (net_rogue_at 0 c (client_pools plan c) (acts_at trace.net_acts c)))
       hostile_client c hostile = rw hostile refl
@@ -124,7 +127,7 @@ module _ (plan : Plan) (net : Net) (trace : Trace) (s : Shown) (cast : IsCastOf 
 
   wire_is : (s.state.wire ≡ Some sent) × PrefixMerge (sends trace.frames) sent
   wire_is =
-      let part = cast.parts jobs.EthDevice (eth_number plan).0 named.device in
+      let part = plays_calm plan trace s.setting.cast cast.parts jobs.EthDevice (eth_number plan).0 named.device _ refl refl in
       let w = tells.wire (eth_number plan).0 (ap (λ (c : Crew). c.device) who) (part ∙ ap (λ fs. Some (NetworkPart (device_at 0 fs))) (sym frames)) in
       subst (λ fs. (s.state.wire ≡ Some (wire_beside (wild_by s.setting) place fs told.passed)) × PrefixMerge (sends fs) (wire_beside (wild_by s.setting) place fs told.passed)) frames w
 

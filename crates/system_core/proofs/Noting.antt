@@ -66,8 +66,8 @@ may_here a i place k x at here = by (calm_or_rogue x)
         let part : slice_get (map part_of a.actors.items) k ≡ Some (part_of (Kinds.Rogue r)) = map_get part_of a.actors.items k (Kinds.Rogue r) there in
         let cast = map part_of a.actors.items in
         let history = (setting_of a).history in
-        let wants = (told history a.rows.items a.names.items cast (part_of (Kinds.Rogue r))).wants (moved history a.journal.items) in
-        let flag : is_runnable (manner_of (part_of (Kinds.Rogue r))) k wants history a.rows.items a.journal.items ≡ true = run_flag history a.rows.items a.names.items cast a.journal.items place k (part_of (Kinds.Rogue r)) part (rw i.running at at) in
+        let wants = (told history a.rows.items (setting_of a).names cast (part_of (Kinds.Rogue r))).wants (moved history a.journal.items) in
+        let flag : is_runnable (manner_of (part_of (Kinds.Rogue r))) k wants history a.rows.items a.journal.items ≡ true = run_flag history a.rows.items (setting_of a).names cast a.journal.items place k (part_of (Kinds.Rogue r)) part (rw i.running at at) in
         let done : is_done (left_of r) ≡ false = not_done (is_done (left_of r)) (sym (acts_run k r a.journal.items wants history a.rows.items (i.holds.acts k r there)) ∙ flag) in
         let fits : FitsRogue (end_at a.wires.world) r = i.holds.fits k (Kinds.Rogue r) there in
         (done, All-append (λ (q : QueueId). q.0 < length a.wires.world) r.inputs.items r.outputs.items (λ m d lt. ltb-true _ _ (fits.inputs m d lt).owned) (λ m d lt. ltb-true _ _ (fits.outputs m d lt).0.owned))

@@ -13,6 +13,8 @@ use Rattle.region_layout.specs.Rows.{disk_number}
 use Rattle.blk_expect.specs.Replies.{replies_of}
 use Rattle.blk_law.specs.Sheets.Numbers.{BlkPlace, blk_client_at}
 use Rattle.layout_laws.specs.Jobs.Jobs as jobs
+use Rattle.layout_laws.specs.Jobs.Jobs.{HasJob}
+use Rattle.cast_law.proofs.Restarted.{plays_calm, plays_rogue}
 use Rattle.play_core.proofs.Lists.{map_get, there_below, there_is}
 use Rattle.actor_set.specs.Parts.{BlockPart, HostilePart}
 use Rattle.cast_core.specs.Casts.{blk_place, calm_part, client_pool, job_part}
@@ -53,12 +55,12 @@ module _ (plan : Plan) (blk : Blk) (trace : Trace) (s : Shown) (cast : IsCastOf 
   count_is = told.blk ∙ (ap (λ (c : Crew). length c.clients) who ∙ (length-map blk.client (λ (k : Client). number_named plan k.pd) ∙ (sym many ∙ sym (value_count (length (blk_clients plan)) (client_entry plan)))))
 
   -- the client of a number, and its actor
-  client_is : (c : ℕ) → c < length (blk_clients plan) → (k : ℕ) × (slice_get s.setting.blk.clients c ≡ Some k) × (slice_get s.setting.cast k ≡ job_part plan trace (jobs.BlkClient c))
+  client_is : (c : ℕ) → c < length (blk_clients plan) → (k : ℕ) × (slice_get s.setting.blk.clients c ≡ Some k) × HasJob plan (jobs.BlkClient c) k
   client_is c below =
       let client = there_is blk.client c (omega (arith, below, many)) in (
         number_named plan client.0.pd,
         ap (λ (k : Crew). slice_get k.clients c) who ∙ map_get (λ (k : Client). number_named plan k.pd) blk.client c client.0 client.1,
-        cast.parts (jobs.BlkClient c) (number_named plan client.0.pd) (named.client c client.0 client.1),
+        named.client c client.0 client.1,
       )
 
   -- one that isn't hostile recorded a beginning of its replies
@@ -67,7 +69,7 @@ module _ (plan : Plan) (blk : Blk) (trace : Trace) (s : Shown) (cast : IsCastOf 
   calm_record c entry asks got calm of its at =
       let a = value_is (length (blk_clients plan)) (client_asks trace) c asks its in
       let client = client_is c a.0 in
-      tells c client.0 c asks (client_pool plan c) entry got client.1 (client.2 ∙ (calm_client c calm ∙ ap (λ xs. Some (BlockPart (blk_client_at place.first c xs (client_pool plan c)))) (sym a.1))) of its at
+      tells c client.0 c asks (client_pool plan c) entry got client.1 (plays_calm plan trace s.setting.cast cast.parts (jobs.BlkClient c) client.0 client.2 _ (calm_client c calm ∙ ap (λ xs. Some (BlockPart (blk_client_at place.first c xs (client_pool plan c)))) (sym a.1)) refl) of its at
     where
       calm_client : (c : ℕ) → is_blk_rogue plan c ≡ false → job_part plan trace (jobs.BlkClient c) ≡ calm_part plan trace (jobs.BlkClient c)
       calm_client c calm = rw calm refl
@@ -77,7 +79,8 @@ module _ (plan : Plan) (blk : Blk) (trace : Trace) (s : Shown) (cast : IsCastOf 
   silent c got hostile at =
       let lt = there_below s.state.blk c got at in
       let client = client_is c (omega (arith, lt, count_is, value_count (length (blk_clients plan)) (client_entry plan))) in
-      told.blk_silent c client.0 (blk_rogue_at (first_blk plan) c (client_pool plan c) (acts_at trace.blk_acts c)) got client.1 (client.2 ∙ hostile_client c hostile) at
+      let rogue = plays_rogue plan trace s.setting.cast cast.parts (jobs.BlkClient c) client.0 client.2 _ (hostile_client c hostile) in
+      told.blk_silent c client.0 rogue.0 got client.1 rogue.1 at
     where
       hostile_client : (c : ℕ) → is_blk_rogue plan c ≡ true → job_part plan trace (jobs.BlkClient c) ≡ Some (HostilePart (blk_rogue_at (first_blk plan) c (client_pool plan c) (acts_at trace.blk_acts c)))
       hostile_client c hostile = rw hostile refl

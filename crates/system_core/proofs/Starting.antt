@@ -11,7 +11,7 @@ use Rattle.turn_kit.specs.Pace.{pendings}
 use Rattle.turn_kit.proofs.Pacing.{paced_anew}
 use Rattle.actor_set.specs.Actors.{actor_round, actor_rests, part_of}
 use Rattle.actor_set.specs.declared.actor.Actor.{Actor}
-use Rattle.play_core.specs.Names.{Wild, told_by, wild_in}
+use Rattle.play_core.specs.Names.{Noted, Wild, told_by, wild_in}
 use Rattle.play_core.specs.Runs.{is_runnable, flags_from}
 use Rattle.play_core.specs.Moved.{moved}
 use Rattle.play_core.specs.Wants.{Needful, Want}
@@ -73,15 +73,15 @@ module _ (rows : List QueueRow) (pools : List PoolRow) (actors : List Actor) (in
   }
 
 -- with what the actors want before the first call
-module _ (history : History) (rows : List QueueRow) (actors : List Actor) where
+module _ (history : History) (rows : List QueueRow) (names : List Noted) (actors : List Actor) where
   abbrev pub cast : List Part
   cast = map part_of actors
 
   abbrev wants : Part → List Want
-  wants p = (told_sheet (scene_of cast) (wild_in (hostiles cast) rows) (told_by []) p).wants (moved history [])
+  wants p = (told_sheet (scene_of cast) (wild_in (hostiles cast) rows) (told_by names) p).wants (moved history [])
 
   abbrev pub wanted : Needful
-  wanted = needful (told_sheet (scene_of cast) (wild_in (hostiles cast) rows) (told_by [])) cast (moved history [])
+  wanted = needful (told_sheet (scene_of cast) (wild_in (hostiles cast) rows) (told_by names)) cast (moved history [])
 
   abbrev pub flags : List Bool
   flags = flags_from (manners cast) 0 history rows wanted []
@@ -90,9 +90,9 @@ module _ (history : History) (rows : List QueueRow) (actors : List Actor) where
   flags_many = flags_length (manners cast) 0 history rows wanted [] ∙ simp length-map
 
   -- whether an actor is runnable then
-  pub flag_start : (world : List Queue) (k : ℕ) (x : Actor) (idle : Bool) → Holds history rows [] world actors [] → k < length actors → x ≡ slice_index_or actors k x → idle ≡ idles (manner_of (part_of x)) (actor_rests x) (is_pending k world) → slice_get flags k ≡ Some (not idle)
+  pub flag_start : (world : List Queue) (k : ℕ) (x : Actor) (idle : Bool) → Holds history rows names world actors [] → k < length actors → x ≡ slice_index_or actors k x → idle ≡ idles (manner_of (part_of x)) (actor_rests x) (is_pending k world) → slice_get flags k ≡ Some (not idle)
   flag_start world k x idle holds lt at is =
       let here : slice_get actors k ≡ Some x = slice_get_read actors _ k x refl lt at in
       let runs : Manner → Bool = λ m. is_runnable m k (wants (part_of x)) history rows [] in
-      let said : idle ≡ not (runs (manner_of (part_of x))) = is ∙ idle_here cast history rows [] world actors [] holds refl k x here in
+      let said : idle ≡ not (runs (manner_of (part_of x))) = is ∙ idle_here cast history rows names world actors [] holds refl k x here in
       flag_at (manners cast) 0 history rows wanted [] k k (wants (part_of x)) (omega arith) (map_get wants cast k (part_of x) (map_get part_of actors k x here)) ∙ ap Some (ap runs (manner_at cast k (part_of x) (map_get part_of actors k x here)) ∙ (not_not (runs (manner_of (part_of x))) ∙ ap not (sym said)))

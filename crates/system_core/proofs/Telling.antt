@@ -7,13 +7,12 @@ use Rattle.play_core.specs.Moved.{Moved}
 use Rattle.play_core.specs.Names.{told_by, wild_in}
 use Rattle.play_core.specs.Runs.{runnable}
 use Rattle.play_core.specs.Sheets.{RowsHold, needful}
-use Rattle.play_core.specs.Wants.{all_settled}
 use Rattle.play_core.proofs.Lists.{prefix_trans}
 use Rattle.play_core.proofs.Moments.{each_moment}
 use Rattle.actor_set.specs.Parts.{Part}
 use Rattle.actor_set.specs.Laws.Kinds.{AllCalm, sheet}
 use Rattle.actor_set.proofs.LawsLemmas.Told.{calm_row, calm_wants, none_hostile, row_calm, runs_calm}
-use Rattle.system_core.specs.Adopting.{AllRest, OneSpent, rests_first}
+use Rattle.system_core.specs.Adopting.{OneSpent}
 use Rattle.system_core.specs.Shows.{Setting, KeepsSetting, RowsStand, hostile_in, manner_in, moved_in, runs, sheet_in}
 
 -- who is runnable, without names
@@ -61,13 +60,6 @@ keeps_runs s t calm keeps journal = runs_plain s calm journal ∙ (sym (ap (λ (
 
 pub wants_plain : (s : Setting) → AllCalm s.cast → (p : Part) (m : Moved) → (sheet_in s p).wants m ≡ (sheet s.scene p).wants m
 wants_plain s calm p m = calm_wants s.scene (wild_in (hostile_in s) s.rows) (told_by s.names) p m (none_hostile s.cast calm s.rows p)
-
--- and so of the moment at which the journal begins
-rests_plain : (s : Setting) → AllCalm s.cast → (p : Part) → rests_first s p ≡ all_settled s.history [] ((sheet s.scene p).wants (moved_in s []))
-rests_plain s calm p = ap (all_settled s.history []) (wants_plain s calm p (moved_in s []))
-
-pub keeps_rests : (s t : Setting) → AllCalm s.cast → KeepsSetting s t → AllRest s → AllRest t
-keeps_rests s t calm keeps rest = subst AllRest (sym keeps.stays) (λ k p at. rests_plain (record s { names = t.names }) calm p ∙ (sym (rests_plain s calm p) ∙ rest k p at))
 
 pub keeps_spent : (s t : Setting) (limit : ℕ) → KeepsSetting s t → OneSpent s limit → OneSpent t limit
 keeps_spent s t limit keeps spent = subst (λ (z : Setting). OneSpent z limit) (sym keeps.stays) (spent.0, spent.1, spent.2)

@@ -13,7 +13,13 @@ use Rattle.system_core.specs.declared.system.Ending.{Ending}
 use Rattle.system_core.specs.declared.system.Ending.TheVariants as Ends
 use Rattle.system_core.specs.Lawful.{StandsLawful}
 use Rattle.order_law.specs.ActorParts.Parting.{Apart}
+use Rattle.cast_core.specs.Casts.{net_place, blk_place}
+use Rattle.actor_set.specs.Parts.{Part}
+use Rattle.cast_law.specs.Places.{pool_place}
+use Rattle.cast_law.specs.Restarting.{AreAlike, disarmed}
+use Rattle.cast_law.proofs.Restarted.{as_many, blk_alike, plays_alike, rogues_alike, whole_alike}
 use Rattle.system_core.specs.Adopting.{IsAdopted}
+use Rattle.system_core.proofs.Adopting.{apart_disarmed}
 use Rattle.cast_core.specs.Hostile.{HasNoRogue}
 use Rattle.system_core.specs.Builds.{IsBuilt, IsCastOf, BeginsAnew}
 use Rattle.system_core.specs.PlanPlays.{IsSystemOf, IsOfItsPlan, StaysOfItsPlan, IsPlayed, IsPlayedOn, HasEnded}
@@ -109,9 +115,27 @@ together old new seed limit played plan trace built system = record {
   played = played_on old new seed limit built.journal played plan trace system;
 }
 
+-- nor on what its hostile clients have yet to do
+restarted : (plan : Plan) (trace : Trace) (s : Setting) (h : History) (c : List Part) (ns : List Noted) → AreAlike s.cast c → IsCastOf plan trace s → IsCastOf plan trace (record s { history = h; cast = c; names = ns })
+restarted plan trace s h c ns alike is = record {
+  rows = is.rows;
+  pools = is.pools;
+  count = as_many s.cast c alike ∙ is.count;
+  scene = is.scene;
+  parts = plays_alike s.cast c alike plan trace is.parts;
+  whole = λ net has. whole_alike s.cast c alike s.scene s.rows (net_place plan trace) (is.whole net has);
+  whole_block = λ blk has. blk_alike s.cast c alike s.scene s.rows (blk_place plan trace) (is.whole_block blk has);
+  rogues = rogues_alike s.cast c alike s.rows (pool_place plan trace).net (pool_place plan trace).blk is.rogues;
+  net = is.net;
+  serial = is.serial;
+  blk = is.blk;
+}
+
 -- so a system that goes on from what actors left has the cast that these came from
 pub adopted_cast : (plan : Plan) (trace : Trace) (s : Setting) (parts : List Apart) (t : Shown) → IsCastOf plan trace s → IsAdopted s parts t → IsCastOf plan trace t.setting
-adopted_cast plan trace s parts t cast adopted = subst (IsCastOf plan trace) (sym adopted.setting) (same_cast plan trace s t.setting.history cast)
+adopted_cast plan trace s parts t cast adopted =
+    let alike : AreAlike s.cast t.setting.cast = ap (map disarmed) adopted.cast ∙ (apart_disarmed parts ∙ ap (map disarmed) adopted.was) in
+    subst (IsCastOf plan trace) (sym adopted.setting) (restarted plan trace s t.setting.history t.setting.cast t.setting.names alike cast)
 
 -- what follows from two facts of a value, where there is one
 pub both_ok : {X Y : Type 0} (r : Result X Y) (P Q R : X → Type 0) → ((x : X) → P x → Q x → R x) → IfOk r P → IfOk r Q → IfOk r R

@@ -7,15 +7,18 @@ use Rattle.wire_core.specs.Ends.{Consumer, Producer}
 use Rattle.wire_core.specs.Journal.{Track, history_at}
 use Rattle.wire_core.specs.Marks.{sum_below}
 use Rattle.spsc_queue.specs.Known.Ends.{EndIs, RingIs}
+use Rattle.play_core.specs.Manners.{Manner, Calm, Hostile}
+use Rattle.play_core.specs.Names.{names_of, told_by, wild_in}
 use Rattle.play_core.specs.Wants.{all_settled}
-use Rattle.actor_set.specs.Actors.{part_of, actor_rests}
+use Rattle.actor_set.specs.Actors.{part_anew, part_of, actor_rests}
+use Rattle.actor_set.specs.Laws.Kinds.{AllCalm, manner_of}
 use Rattle.actor_set.specs.Parts.{Part}
 use Rattle.order_law.specs.ActorParts.Parting.{Apart, AreApart}
 use Rattle.order_law.specs.ActorParts.Opened.{HaveNothing}
 use Rattle.order_law.specs.ActorParts.Going.{HasGone}
 use Rattle.order_law.specs.ActorParts.Finished.{OwnEnd}
 use Rattle.order_law.specs.Ended.Tracks.{TellsEnds}
-use Rattle.system_core.specs.Shows.{Setting, Shown, sheet_in, moved_in}
+use Rattle.system_core.specs.Shows.{Setting, Shown, hostile_in, sheet_in, moved_in}
 use Rattle.system_core.specs.Lawful.{IsFitted}
 use Rattle.system_core.specs.Builds.{BeginsAnew}
 
@@ -32,21 +35,40 @@ pub record HaveComeFrom (s : Setting) (rings : List RingIs) (parts : List Apart)
   pub gone : (k : ℕ) (old new : Apart) → slice_get olds k ≡ Some old → slice_get parts k ≡ Some new
       → HasGone rings old new
 
--- an actor is at rest where the journal begins: all that it needs is settled
+-- a calm actor is at rest where all that it needs is settled, and a hostile one where it is done
+-- before its first call
+abbrev pub rests_by : Manner → (settled : Bool) → Bool
+rests_by Calm settled = settled
+rests_by (Hostile done) settled = done []
+
+-- so an actor is at rest where the journal begins
 abbrev pub rests_first : Setting → Part → Bool
-rests_first s p = all_settled s.history [] ((sheet_in s p).wants (moved_in s []))
+rests_first s p = rests_by (manner_of p)
+    (all_settled s.history [] ((sheet_in s p).wants (moved_in s [])))
 
 -- the system goes on from what actors apart left: their lists, bells, noes and steps are its
--- history, and each is at rest as it was; all else stayed, and nothing happened since
+-- history, a hostile client has yet to do what it had left, and the names that are kept tell of all
+-- that was put to queues with a hostile end; each actor is at rest as it was; all else stayed, and
+-- nothing happened since
 pub record IsAdopted (s : Setting) (parts : List Apart) (t : Shown) : Type 0 where
-  pub setting : t.setting ≡ record s { history = t.setting.history }
+  pub setting : t.setting ≡ record s {
+    history = t.setting.history;
+    cast = t.setting.cast;
+    names = t.setting.names;
+  }
   pub journal : t.journal ≡ []
-  pub cast : map (λ (p : Apart). part_of p.actor) parts ≡ s.cast
+  pub was : map (λ (p : Apart). part_of p.actor) parts ≡ s.cast
+  pub cast : t.setting.cast ≡ map (λ (p : Apart). part_anew p.actor) parts
+  -- where nobody is hostile that is the history alone
+  pub calm : AllCalm s.cast → t.setting ≡ record s { history = t.setting.history }
+  pub named : (n : ℕ) (row : QueueRow) → slice_get s.rows n ≡ Some row
+      → wild_in (hostile_in s) s.rows n ≡ true → (p : EndIs) → OwnEnd parts row Producer n p
+      → told_by t.setting.names n ≡ names_of p.knows.entries
   pub keeps : (n : ℕ) (row : QueueRow) → slice_get s.rows n ≡ Some row → (p c : EndIs)
       → OwnEnd parts row Producer n p → OwnEnd parts row Consumer n c
       → TellsEnds p.knows c.knows (history_at t.setting.history n)
   pub rests : (k : ℕ) (p : Apart) → slice_get parts k ≡ Some p
-      → rests_first t.setting (part_of p.actor) ≡ actor_rests p.actor
+      → rests_first t.setting (part_anew p.actor) ≡ actor_rests p.actor
 
 -- the word steps that an actor's ends of a queue made before the journal begins
 abbrev pub own_steps : (actor : ℕ) → Option QueueRow → Track → ℕ

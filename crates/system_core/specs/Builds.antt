@@ -11,6 +11,7 @@ use Rattle.layout_laws.specs.Jobs.Jobs.{Job, HasJob}
 use Rattle.wired_law.specs.Wiring.{HasWholeIn, HasBlkIn}
 use Rattle.cast_core.specs.Casts.{job_part, net_place, blk_place, scene_for}
 use Rattle.cast_core.specs.Sources.{every_second}
+use Rattle.cast_law.specs.Jobs.{PlayJobs}
 use Rattle.cast_law.specs.Places.{pool_place}
 use Rattle.cast_law.specs.Pools.Rogues.{HasRogues}
 use Rattle.system_core.specs.Shows.{Setting, Shown}
@@ -38,9 +39,8 @@ pub record IsCastOf (plan : Plan) (trace : Trace) (s : Setting) : Type 0 where
   pub count : length s.cast ≡ length (actors_of plan)
   -- the scene in which their needs and rows are said
   pub scene : s.scene ≡ scene_for plan trace
-  -- the actor of each job has the part of that job: a hostile client's is what the trace has it do
-  pub parts : (job : Job) (k : ℕ) → HasJob plan job k
-      → slice_get s.cast k ≡ job_part plan trace job
+  -- the actor of each job has the part of that job, whatever a hostile client has yet to do
+  pub parts : PlayJobs plan trace s.cast
   -- the network class is there as a whole, and the block class
   pub whole : (net : Net) → plan.net ≡ Some net
       → HasWholeIn s.scene s.rows (net_place plan trace) s.cast
@@ -60,5 +60,8 @@ BeginsAnew s = s.history ≡ start_history s.rows
 -- the start state of a plan, with what a trace gives it
 pub record IsBuilt (plan : Plan) (trace : Trace) (s : Shown) : Type 0 where
   pub cast : IsCastOf plan trace s.setting
+  -- a hostile client has all before it that the trace has it do
+  pub acts : (job : Job) (k : ℕ) → HasJob plan job k
+      → slice_get s.setting.cast k ≡ job_part plan trace job
   pub begins : BeginsAnew s.setting
   pub journal : s.journal ≡ []

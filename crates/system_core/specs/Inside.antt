@@ -1,19 +1,22 @@
 -- What a system keeps: its view, and the invariant that each of its calls needs and keeps.
-use Rattle.std.specs.Prelude.{◌≡◌, ◌≤◌, ℕ, None, length}
+use Rattle.std.specs.Prelude.{◌≡◌, ◌≤◌, ◌++◌, ℕ, None, length}
 use Rattle.wire_core.specs.Journal.{EachMoment}
 use Rattle.wire_core.specs.Marks.{no_drops, Brisk}
 use Rattle.noted_wires.specs.Noting.{kept_at}
 use Rattle.play_core.specs.Names.{wild_in}
 use Rattle.system_core.specs.Shows.{Setting, Shown, hostile_in, runs, NamesTell, RowsStand}
-use Rattle.system_core.specs.States.{state_of, history_of, begun}
+use Rattle.system_core.specs.States.{state_of, history_of, begun, names_left}
 use Rattle.system_core.specs.Lawful.{IsFitted}
 use Rattle.system_core.specs.Systems.{Holds, HoldsBefore, PutTheirOwn}
 use Rattle.system_core.specs.declared.system.System.TheInside.{Inside}
 
--- what stays the same, with the names that are kept
+-- what stays the same, with the names that are kept: of what was put before the journal begins, and
+-- of what was put since
 abbrev pub setting_of : Inside → Setting
 setting_of a = record (begun (history_of a.rows.items a.past.value.items) a.rows.items
-    a.pools.items a.actors.items a.net a.serial a.blk) { names = a.names.items }
+    a.pools.items a.actors.items a.net a.serial a.blk) {
+      names = names_left 0 a.past.value.items ++ a.names.items;
+    }
 
 -- the view
 abbrev pub shown_of : Inside → Shown
@@ -28,7 +31,7 @@ shown_of a = record {
 pub record IsSystem (a : Inside) : Type 0 where
   pub fitted : IsFitted (setting_of a)
   pub before : HoldsBefore (setting_of a)
-  pub holds : Holds (setting_of a).history a.rows.items a.names.items a.wires.world
+  pub holds : Holds (setting_of a).history a.rows.items (setting_of a).names a.wires.world
       a.actors.items a.journal.items
   pub rows_hold : EachMoment (RowsStand (setting_of a)) a.journal.items
   pub names_tell : EachMoment (NamesTell (setting_of a)) a.journal.items

@@ -1,9 +1,12 @@
 -- What is seen of actors as they are, and the state in which a system begins.
-use Rattle.std.specs.Prelude.{◌-◌, ◌^◌, ℕ, min, Option, None, List, [], ◌∷◌, map, slice_get, sum_by}
+use Rattle.std.specs.Prelude.{◌-◌, ◌+◌, ◌^◌, ◌++◌, ◌&&◌, ℕ, Bool, cond, min, Option, None, List, []}
+use Rattle.std.specs.Prelude.{◌∷◌, map, slice_get, sum_by}
 use Rattle.std.specs.Option.{option_map, option_map_or}
 use Rattle.cargo_core.specs.declared.item.PoolId.{PoolId}
 use Rattle.cargo_core.specs.declared.item.Reply.{Reply}
 use Rattle.cargo_core.specs.Bodies.{buffers_of}
+use Rattle.wire_core.specs.Deeds.{Cargo}
+use Rattle.play_core.specs.Names.{Noted, carries_pages, name_of}
 use Rattle.wire_core.specs.declared.names.PoolRow.{PoolRow}
 use Rattle.wire_core.specs.declared.names.QueueRow.{QueueRow}
 use Rattle.wire_core.specs.Journal.{History, start_history}
@@ -78,6 +81,29 @@ begun history rows pools actors net serial blk = record {
   blk = blk;
 }
 
+-- names are kept of what was put to a ring that was wild, where its entries may carry pages
+abbrev pub is_noted : EndedIs → Bool
+is_noted e = e.producer.wild && carries_pages e.producer.kind
+
+-- the names of entries that were put to the queue of a number
+abbrev pub notes_at : ℕ → List Cargo → List Noted
+notes_at n cs = map (λ (c : Cargo). record { queue = n; name = name_of c.1 }) cs
+
+-- the names that are kept of what was put to these rings, the first of them that of the queue of a
+-- number
+abbrev pub names_left : ℕ → List EndedIs → List Noted
+names_left n [] = []
+names_left n (e ∷ es) =
+    cond (is_noted e) (notes_at n e.producer.entries) [] ++ names_left (n + 1) es
+
+-- the same where the queues had this past, with the names of what was put by then
+abbrev pub begun_on : List EndedIs → List QueueRow → List PoolRow → List Actor
+    → (net serial blk : Crew) → Setting
+begun_on past rows pools actors net serial blk =
+    record (begun (history_of rows past) rows pools actors net serial blk) {
+      names = names_left 0 past;
+    }
+
 -- a device and clients
 abbrev pub crew_of : Option ℕ → List ℕ → Crew
 crew_of device clients = record { device = device; clients = clients }
@@ -91,6 +117,15 @@ abbrev pub started : History → List QueueRow → List PoolRow → List Queue �
     → (net serial blk : Crew) → Shown
 started history rows pools world actors net serial blk = record {
   setting = begun history rows pools actors net serial blk;
+  journal = [];
+  state = state_of world pools actors net serial blk;
+}
+
+-- the same where the queues had this past
+abbrev pub started_on : List EndedIs → List QueueRow → List PoolRow → List Queue → List Actor
+    → (net serial blk : Crew) → Shown
+started_on past rows pools world actors net serial blk = record {
+  setting = begun_on past rows pools actors net serial blk;
   journal = [];
   state = state_of world pools actors net serial blk;
 }

@@ -13,7 +13,8 @@ ghost use Rattle.sdf_check.specs.Valid.{Valid};
 ghost use Rattle.actor_set.specs.Laws.Kinds.{manner_of, idles};
 ghost use Rattle.cast_law.specs.Pools.Places.{ArePooled};
 ghost use Rattle.system_core.specs.Shows.{NamesTell, runs};
-ghost use Rattle.system_core.specs.States.{history_of, begun, nobody, started};
+ghost use Rattle.system_core.specs.States.{history_of, begun_on, names_left, nobody, started};
+ghost use Rattle.system_core.specs.States.{started_on};
 ghost use Rattle.system_core.specs.Systems.{Holds, GoesOn};
 ghost use Rattle.cast_law.specs.Seats.{AreSeated};
 ghost use Rattle.system_core.specs.Lawful.{StandsLawful};
@@ -182,11 +183,10 @@ fn first_running(
     actors: &[Actor],
     past: &Snapshot<Vec<Ended>>,
 ) -> Result<Running, Memory>
-    requires { Holds (history_of rows.now past.now.value.items) rows.now [] world.now actors.now
-        [] }
+    requires { Holds (history_of rows.now past.now.value.items) rows.now
+        (names_left 0 past.now.value.items) world.now actors.now [] }
     ensures list { IfOk result (λ r. r.list
-        ≡ runs (begun (history_of rows.now past.now.value.items) rows.now [] actors.now
-        nobody nobody nobody) []) }
+        ≡ runs (begun_on past.now.value.items rows.now [] actors.now nobody nobody nobody) []) }
     ensures room { IfOk result (λ r. length actors.now ≤ r.room) }
 {
     let mut running = Running::with_room(alloc, actors.len())?;
@@ -248,11 +248,11 @@ impl System {
         blk: Crew,
         past: Snapshot<Vec<Ended>>,
     ) -> Result<System, Memory>
-        requires { GoesOn (begun (history_of rows.items past.value.items) rows.items pools.items
-            actors.items net serial blk) world actors.items }
+        requires { GoesOn (begun_on past.value.items rows.items pools.items actors.items net serial
+            blk) world actors.items }
         ensures state { IfOk result (λ s. s
-            ≡ started (history_of rows.items past.value.items) rows.items pools.items world
-            actors.items net serial blk) }
+            ≡ started_on past.value.items rows.items pools.items world actors.items net serial
+            blk) }
         ensures stands { IfOk result StandsLawful }
         ensures of_plan { IfOk result IsOfItsPlan }
     {

@@ -26,6 +26,7 @@ use Rattle.cast_core.specs.Casts.{calm_part, client_pool, client_pools, job_part
 use Rattle.cast_core.specs.Hostile.{acts_at, blk_rogue_at, net_rogue_at, serial_rogue_at}
 use Rattle.cast_core.specs.Sources.{first_blk, first_serial}
 use Rattle.cast_law.specs.Jobs.{PlayJobs}
+use Rattle.cast_law.proofs.Restarted.{sort_same}
 
 -- an end of a client is at one of its own queues
 queue_is : {s t : Seat} → Some s ≡ Some t → s.queue ≡ t.queue
@@ -75,7 +76,7 @@ module _ (plan : Plan) (n : ℕ) (r : Role) where
 module _ (plan : Plan) (trace : Trace) (valid : Valid plan) (cast : List Part) (plays : PlayJobs plan trace cast) where
   -- an actor is hostile as its job's part is
   as_job : (job : Job) (k : ℕ) → HasJob plan job k → hostiles cast k ≡ is_hostile (option_map_or manner_of (job_part plan trace job) Calm)
-  as_job job k has = ap (λ (o : Option Part). is_hostile (option_map_or manner_of o Calm)) (plays job k has)
+  as_job job k has = sym (sort_same (slice_get cast k)) ∙ (ap (λ (o : Option Part). is_hostile (option_map_or manner_of o Calm)) (plays job k has) ∙ sort_same (job_part plan trace job))
 
   -- so it isn't, where its job isn't that of a hostile client
   calm_by : (job : Job) (k : ℕ) → HasJob plan job k → ((c : ℕ) → job ≡ NetClient c → is_net_rogue plan c ≡ false) → ((c : ℕ) → job ≡ SerialClient c → is_serial_rogue plan c ≡ false) → ((c : ℕ) → job ≡ BlkClient c → is_blk_rogue plan c ≡ false) → hostiles cast k ≡ false

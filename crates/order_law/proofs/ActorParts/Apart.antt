@@ -101,7 +101,7 @@ module _ (rows : List QueueRow) (actors : List Actor) (rings : List RingIs) (par
     -- the end of a queue whose row names the actor
     end_there : (r : Role) (n : ℕ) (row : QueueRow) → slice_get rows n ≡ Some row → owner_of row r ≡ k → (ring : RingIs) × (end_in (ends_at a r) n ≡ Some (fresh r (row, ring)))
     end_there r n row there own =
-        let g = ring_there rows rings opened.rings_are n row there in
+        let g = ring_there (IsRingOf (hostiles (map part_of actors))) rows rings opened.rings_are n row there in
         (g.0, ap (λ (l : List (QueueId × EndIs)). end_in l n) (ends_are r) ∙ (ap (end_in (opened_from r k 0 pairs)) (let e : n ≡ 0 + n = omega arith in e) ∙ end_opened r k 0 pairs n (row, g.0) g.1 own))
 
     has_ends : HasItsEnds rows k a

@@ -1,6 +1,6 @@
 -- Which actors are hostile: those that were, where they are set apart; and all their queues' rings
 -- are wild.
-use Rattle.std.proofs.Common.{◌≡◌, ◌⊎◌, ◌&&◌, ℕ, zero, suc, Bool, true, false, not, Some, List, [], ◌∷◌, inl, inr, length, map, slice_get, refl, sym, ap, ◌∙◌, subst, arith}
+use Rattle.std.proofs.Common.{◌≡◌, ◌⊎◌, ◌&&◌, ℕ, zero, suc, Bool, true, false, not, ◌≤◌, Some, List, [], ◌∷◌, inl, inr, length, map, slice_get, refl, sym, ap, ◌∙◌, subst, arith}
 use Rattle.wire_core.specs.declared.names.QueueRow.{QueueRow}
 use Rattle.wire_core.specs.Ends.{Role, Consumer, Producer}
 use Rattle.wire_core.specs.Journal.{Hostiles, is_calm, owner_of}
@@ -44,6 +44,17 @@ parts_anew (x ∷ actors) (p ∷ parts) many each =
     let is : x ≡ first.0 = same_some x first.0 first.1 in
     let head : part_of p.0.actor ≡ part_anew x = first.2 ∙ ap part_anew (sym is) in
     ap (λ (q : Part). q ∷ map (λ (p : Kept). part_of p.0.actor) parts) head ∙ ap (λ (l : List Part). part_anew x ∷ l) (parts_anew actors parts (omega (arith, many)) (λ k q at. each (suc k) q at))
+
+-- whether the one of a number is hostile
+pub hosted : (parts : List Kept) (k : ℕ) (p : Kept) → slice_get parts k ≡ Some p → hostiles (map (λ (p : Kept). part_of p.0.actor) parts) k ≡ is_hostile (manner_of (part_of p.0.actor))
+hosted [] k p at = cc
+hosted (q ∷ parts) zero p at = ap (λ (z : Kept). is_hostile (manner_of (part_of z.0.actor))) (same_some q p at)
+hosted (q ∷ parts) (suc k) p at = hosted parts k p at
+
+pub unhosted : (parts : List Kept) (k : ℕ) → length parts ≤ k → hostiles (map (λ (p : Kept). part_of p.0.actor) parts) k ≡ false
+unhosted [] k le = refl
+unhosted (q ∷ parts) zero le = absurd (omega (arith, le))
+unhosted (q ∷ parts) (suc k) le = unhosted parts k (omega (arith, le))
 
 kept_parts : (parts : List Kept) → map (λ (p : Apart). part_of p.actor) (map apart_of parts) ≡ map (λ (p : Kept). part_of p.0.actor) parts
 kept_parts [] = refl

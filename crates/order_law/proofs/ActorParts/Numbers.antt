@@ -106,12 +106,12 @@ zip_there (r ∷ rows) [] n x at = cc
 zip_there (r ∷ rows) (g ∷ rings) zero x at = let is : (r, g) ≡ x = same_pair (r, g) x at in (ap (λ (z : Pair). Some z.0) is, ap (λ (z : Pair). Some z.1) is)
 zip_there (r ∷ rows) (g ∷ rings) (suc n) x at = zip_there rows rings n x at
 
-pub ring_there : {R : QueueRow → RingIs → Type 0} (rows : List QueueRow) (rings : List RingIs) → AllZip R rows rings → (n : ℕ) (row : QueueRow) → slice_get rows n ≡ Some row → (ring : RingIs) × (slice_get (zip rows rings) n ≡ Some (row, ring))
-ring_there [] [] all n row at = cc
-ring_there [] (g ∷ rings) all n row at = absurd all
-ring_there (r ∷ rows) [] all n row at = absurd all
-ring_there (r ∷ rows) (g ∷ rings) all zero row at = let is : r ≡ row = cc in (g, ap (λ (z : QueueRow). Some (z, g)) is)
-ring_there (r ∷ rows) (g ∷ rings) all (suc n) row at = ring_there rows rings all.1 n row at
+pub ring_there : (R : QueueRow → RingIs → Type 0) (rows : List QueueRow) (rings : List RingIs) → AllZip R rows rings → (n : ℕ) (row : QueueRow) → slice_get rows n ≡ Some row → (ring : RingIs) × (slice_get (zip rows rings) n ≡ Some (row, ring))
+ring_there R [] [] all n row at = cc
+ring_there R [] (g ∷ rings) all n row at = absurd all
+ring_there R (r ∷ rows) [] all n row at = absurd all
+ring_there R (r ∷ rows) (g ∷ rings) all zero row at = let is : r ≡ row = cc in (g, ap (λ (z : QueueRow). Some (z, g)) is)
+ring_there R (r ∷ rows) (g ∷ rings) all (suc n) row at = ring_there R rows rings all.1 n row at
 
 -- what passed at a new ring's end, and when: nothing
 pub fresh_empty : (r : Role) (x : Pair) → (fresh r x).knows.entries ≡ []

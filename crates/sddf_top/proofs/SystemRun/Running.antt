@@ -14,7 +14,7 @@ use Rattle.seat_wires.specs.Went.{end_steps, seats_steps}
 use Rattle.spsc_queue.specs.Steps.{steps_made}
 use Rattle.owner_law.proofs.Counting.{below_plus, below_same}
 use Rattle.play_core.proofs.Lists.{some_is, map_get, map_from, there_is, there_below}
-use Rattle.actor_set.specs.Actors.{part_of, actor_rests}
+use Rattle.actor_set.specs.Actors.{part_anew, part_of, actor_rests}
 use Rattle.actor_set.specs.Parts.{Part}
 use Rattle.order_law.specs.ActorParts.Given.{Kept, apart_of}
 use Rattle.order_law.specs.ActorParts.Opened.{HaveNothing}
@@ -26,10 +26,10 @@ use Rattle.order_law.specs.Ended.Tracks.{TellsEnds}
 use Rattle.pd_runner.specs.Facing.{CameApart, CameWithin, HasSpent, IsResting}
 use Rattle.sdf_plan.specs.declared.plan.Plan.{Plan}
 use Rattle.trace_text.specs.declared.trace.Trace.{Trace}
-use Rattle.system_core.proofs.Telling.{keeps_rests, keeps_spent, was_calm}
+use Rattle.system_core.proofs.Growing.{keeps_rests}
+use Rattle.system_core.proofs.Telling.{keeps_spent}
 use Rattle.system_core.specs.Shows.{Setting, Shown}
 use Rattle.sdf_check.specs.Valid.{Valid}
-use Rattle.cast_core.specs.Hostile.{HasNoRogue}
 use Rattle.system_core.specs.Lawful.{StandsLawful}
 use Rattle.system_core.specs.Plays.{Played}
 use Rattle.system_core.specs.Builds.{IsBuilt}
@@ -43,8 +43,8 @@ module _ (s : Setting) (rings : List RingIs) (parts : List Apart) (come : HaveCo
   abbrev rows : List QueueRow
   rows = s.rows
 
-  cast_is : t.setting.cast ≡ s.cast
-  cast_is = ap (λ (z : Setting). z.cast) is.setting
+  cast_long : length t.setting.cast ≡ length parts
+  cast_long = ap length is.cast ∙ length-map parts (λ (p : Apart). part_anew p.actor)
 
   rows_are : t.setting.rows ≡ s.rows
   rows_are = ap (λ (z : Setting). z.rows) is.setting
@@ -52,7 +52,7 @@ module _ (s : Setting) (rings : List RingIs) (parts : List Apart) (come : HaveCo
   -- where all rested, all rest where the journal begins
   pub all_rest : ((k : ℕ) (p : Apart) → slice_get parts k ≡ Some p → IsResting p) → AllRest t.setting
   all_rest rest k part at =
-      let x = map_from (λ (p : Apart). part_of p.actor) parts k part (ap (λ (c : List Part). slice_get c k) (is.cast ∙ sym cast_is) ∙ at) in
+      let x = map_from (λ (p : Apart). part_anew p.actor) parts k part (ap (λ (c : List Part). slice_get c k) (sym is.cast) ∙ at) in
       subst (λ (q : Part). rests_first t.setting q ≡ true) x.2 (is.rests k x.0 x.1 ∙ rest k x.0 x.1)
 
   -- the steps of an actor's ends are those that its history tells
@@ -79,7 +79,7 @@ module _ (s : Setting) (rings : List RingIs) (parts : List Apart) (come : HaveCo
 
     other_end : (r : Role) (n : ℕ) (row : QueueRow) → slice_get rows n ≡ Some row → (e : EndIs) × OwnEnd parts row r n e
     other_end r n row at =
-        let q = there_is parts (owner_of row r) (subst (λ (m : ℕ). owner_of row r < m) (sym (sym (length-map parts (λ (x : Apart). part_of x.actor)) ∙ ap length is.cast)) (come.fitted.peopled n row at r)) in
+        let q = there_is parts (owner_of row r) (subst (λ (m : ℕ). owner_of row r < m) (sym (sym (length-map parts (λ (x : Apart). part_of x.actor)) ∙ ap length is.was)) (come.fitted.peopled n row at r)) in
         let e = (come.after.ends (owner_of row r) q.0 q.1).all r n row at refl in
         (e.0, record { owner = q.0; there = q.1; end = e.1 })
 
@@ -125,7 +125,7 @@ module _ (s : Setting) (rings : List RingIs) (parts : List Apart) (come : HaveCo
         let steps = spent.2.comes.went.least in
         let all = all_steps spent.2.after spent.2.ended in
         let le = spent.1 in
-        (k, subst (λ (m : ℕ). k < m) (sym (length-map parts (λ (x : Apart). part_of x.actor)) ∙ (ap length is.cast ∙ sym (ap length cast_is))) (there_below parts k p here), omega (arith, steps, all, le))
+        (k, subst (λ (m : ℕ). k < m) (sym cast_long) (there_below parts k p here), omega (arith, steps, all, le))
 
 map_twice : (ps : List Kept) → map (λ (p : Apart). part_of p.actor) (map apart_of ps) ≡ map (λ (p : Kept). part_of p.0.actor) ps
 map_twice [] = refl
@@ -156,12 +156,12 @@ module _ (plan : Plan) (trace : Trace) (built : Shown) (is : IsBuilt plan trace 
   first_moment t adopted (inr spent) = inr (one_spent built.setting rings' (map apart_of news) come t adopted spent.0 spent.2 spent.4 limit spent.1 (subst (λ (rs : List RingIs). HasSpent rs limit spent.1 spent.2) (sym same) spent.5))
 
 -- so the system that was played on is what a run shows
-pub is_ran : (plan : Plan) → HasNoRogue plan → (trace : Trace) (limit : ℕ) (s : Setting) (parts : List Apart) (t new : Shown) → IsAdopted s parts t → AllRest t.setting ⊎ OneSpent t.setting limit → Played t new 0 limit → IsSystemOf plan trace new → IsRan plan trace limit new
-is_ran plan none trace limit s parts t new adopted first played system = record {
+pub is_ran : (plan : Plan) (trace : Trace) (limit : ℕ) (s : Setting) (parts : List Apart) (t new : Shown) → StandsLawful t → IsAdopted s parts t → AllRest t.setting ⊎ OneSpent t.setting limit → Played t new 0 limit → IsSystemOf plan trace new → IsRan plan trace limit new
+is_ran plan trace limit s parts t new stands adopted first played system = record {
   played = played_on t new 0 limit adopted.journal played plan trace system;
   first = goes_on first;
 }
   where
     goes_on : AllRest t.setting ⊎ OneSpent t.setting limit → AllRest new.setting ⊎ OneSpent new.setting limit
-    goes_on (inl rest) = inl (keeps_rests t.setting new.setting (was_calm t.setting new.setting played.setting (system.calm none)) played.setting rest)
+    goes_on (inl rest) = inl (keeps_rests t.setting new.setting stands.lawful.names_tell.0 played.setting rest)
     goes_on (inr spent) = inr (keeps_spent t.setting new.setting limit played.setting spent)

@@ -1,6 +1,8 @@
 -- The classes of a plan that have pools stand at its place in a system.
-use Rattle.std.proofs.Common.{◌≡◌, ℕ, Option, None, Some, List, slice_get, refl, sym, ◌∙◌, subst, arith}
-use Rattle.actor_set.specs.Laws.Kinds.{AllCalm, scene_of}
+use Rattle.std.proofs.Common.{◌≡◌, ℕ, false, Option, None, Some, List, slice_get, refl, sym, ap, ◌∙◌, subst, arith}
+use Rattle.actor_set.specs.Laws.Kinds.{AllCalm, manner_of, scene_of}
+use Rattle.play_core.specs.Manners.{Calm, is_hostile}
+use Rattle.cast_law.proofs.Restarted.{calm_same, played}
 use Rattle.wired_law.specs.Wiring.{HasWholeIn, HasBlkIn}
 use Rattle.std.specs.Option.{option_map}
 use Rattle.play_core.proofs.Lists.{there_below}
@@ -84,18 +86,21 @@ pub cast_calm : (plan : Plan) (trace : Trace) → Valid plan → HasNoRogue plan
 cast_calm plan trace valid none s cast_is k p at =
     let below = there_below s.cast k p at in
     let job = some_job plan valid k (omega (arith, below, cast_is.count)) in
-    calm_job plan trace job.0 p (sym (calm_jobs plan trace job.0 none) ∙ (sym (cast_is.parts job.0 k job.1) ∙ at))
+    let q = played plan trace s.cast cast_is.parts job.0 k job.1 p at in
+    let calm : manner_of q.0 ≡ Calm = calm_job plan trace job.0 q.0 (sym (calm_jobs plan trace job.0 none) ∙ q.1) in
+    subst (λ (z : Part). manner_of z ≡ Calm) (sym (calm_same q.0 p (ap is_hostile calm) (sym q.2))) calm
 
 module _ (plan : Plan) (trace : Trace) (s : Shown) (valid : Valid plan) (cast_is : IsCastOf plan trace s.setting) (scene_is : s.setting.scene ≡ scene_of s.setting.cast) where
   abbrev cast : List Part
   cast = s.setting.cast
 
-  -- the job of an actor
-  pub job_at : (k : ℕ) (p : Part) → slice_get cast k ≡ Some p → (job : Job) × HasJob plan job k × (job_part plan trace job ≡ Some p)
-  job_at k p at =
+  -- the job of an actor that isn't hostile
+  pub job_at : (k : ℕ) (p : Part) → is_hostile (manner_of p) ≡ false → slice_get cast k ≡ Some p → (job : Job) × HasJob plan job k × (job_part plan trace job ≡ Some p)
+  job_at k p calm at =
       let below = there_below cast k p at in
       let job = some_job plan valid k (omega (arith, below, cast_is.count)) in
-      (job.0, job.1, sym (cast_is.parts job.0 k job.1) ∙ at)
+      let q = played plan trace cast cast_is.parts job.0 k job.1 p at in
+      (job.0, job.1, q.1 ∙ ap Some (calm_same p q.0 calm q.2))
 
   no_net : plan.net ≡ None → HasNet plan → ⊥
   no_net none (net, is) = absurd cc
@@ -112,11 +117,11 @@ module _ (plan : Plan) (trace : Trace) (s : Shown) (valid : Valid plan) (cast_is
     where
       first : (n : Option Net) → plan.net ≡ n → HasNetAt s.setting.rows (option_map (λ net. net_place plan trace) n) cast
       first None none = record {
-        none = λ k p at. (let job = job_at k (NetworkPart p) at in no_net none (net_job plan trace job.0 p (job_calm plan trace job.0 (NetworkPart p) (λ r e. absurd cc) job.2) (job_is_of plan job.0 k job.1)));
-        no_sender = λ k p at. (let job = job_at k (SendingPart p) at in no_net none (send_job plan trace job.0 p (job_calm plan trace job.0 (SendingPart p) (λ r e. absurd cc) job.2) (job_is_of plan job.0 k job.1)));
+        none = λ k p at. (let job = job_at k (NetworkPart p) refl at in no_net none (net_job plan trace job.0 p (job_calm plan trace job.0 (NetworkPart p) (λ r e. absurd cc) job.2) (job_is_of plan job.0 k job.1)));
+        no_sender = λ k p at. (let job = job_at k (SendingPart p) refl at in no_net none (send_job plan trace job.0 p (job_calm plan trace job.0 (SendingPart p) (λ r e. absurd cc) job.2) (job_is_of plan job.0 k job.1)));
       }
       first (Some net) is = (subst (λ z. HasWholeIn z s.setting.rows (net_place plan trace) cast) scene_is (cast_is.whole net is), refl)
 
       behind : (b : Option Blk) → plan.blk ≡ b → HasBlkAt s.setting.rows (option_map (λ blk. blk_place plan trace) b) cast
-      behind None none = λ k p at. (let job = job_at k (BlockPart p) at in no_blk none (blk_job plan trace job.0 p (job_calm plan trace job.0 (BlockPart p) (λ r e. absurd cc) job.2) (job_is_of plan job.0 k job.1)))
+      behind None none = λ k p at. (let job = job_at k (BlockPart p) refl at in no_blk none (blk_job plan trace job.0 p (job_calm plan trace job.0 (BlockPart p) (λ r e. absurd cc) job.2) (job_is_of plan job.0 k job.1)))
       behind (Some blk) is = (subst (λ z. HasBlkIn z s.setting.rows (blk_place plan trace) cast) scene_is (cast_is.whole_block blk is), apart_pools plan trace valid blk is)

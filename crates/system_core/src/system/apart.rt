@@ -3,12 +3,10 @@
 ghost use Rattle.std.specs.Prelude.{◌≡◌, IfOk, [], map};
 ghost use Rattle.std.specs.List.{AllZip};
 ghost use Rattle.actor_set.specs.Actors.{part_of};
-ghost use Rattle.actor_set.specs.Laws.Kinds.{AllCalm};
 ghost use Rattle.order_law.specs.ActorParts.Given.{Kept, apart_of};
 ghost use Rattle.order_law.specs.ActorParts.Opened.{HaveNothing, AreAsOpened};
 ghost use Rattle.order_law.specs.ActorParts.Parting.{AreApart};
 ghost use Rattle.order_law.specs.ActorParts.Opening.{IsForgotten};
-ghost use Rattle.cast_core.specs.Hostile.{HasNoRogue};
 ghost use Rattle.sdf_check.specs.Valid.{Valid};
 ghost use Rattle.trace_text.specs.declared.trace.Trace.{Trace as TraceIs};
 ghost use Rattle.trace_text.specs.Traces.{IsReadFor};
@@ -48,18 +46,18 @@ impl System {
     /// Takes a system apart before its first step: a new ring for each queue, and each actor with
     /// the ends that the rows give it, both in the order of the layout. Each end is as its ring was
     /// opened: it counts no look that answered no and no step, and its waiter and ringer are those
-    /// of the start. Of a system with hostile actors less is said. After want of memory nothing is
-    /// left of the system.
+    /// of the start. The rings of a queue with a hostile end are wild, and no others. After want of
+    /// memory nothing is left of the system.
     pub fn take_apart(self) -> Result<Parts, Memory>
         requires anew { BeginsAnew self.setting }
         requires unplayed { self.journal ≡ [] }
-        ensures apart { IfOk result (λ p. AllCalm self.setting.cast
-            → AreApart self.setting.rows p.rings.items (map apart_of p.actors.items)) }
+        ensures apart { IfOk result (λ p. AreApart self.setting.rows p.rings.items
+            (map apart_of p.actors.items)) }
         ensures nothing { IfOk result (λ p. HaveNothing (map apart_of p.actors.items)) }
         ensures opened { IfOk result (λ p. AreAsOpened self.setting.rows
             (map apart_of p.actors.items)) }
-        ensures cast { IfOk result (λ p. AllCalm self.setting.cast
-            → map (λ (x : Kept). part_of x.0.actor) p.actors.items ≡ self.setting.cast) }
+        ensures cast { IfOk result (λ p.
+            map (λ (x : Kept). part_of x.0.actor) p.actors.items ≡ self.setting.cast) }
     {
         let System {
             alloc,
@@ -71,11 +69,12 @@ impl System {
         open_apart(alloc, &rows, actors)
     }
 
-    /// The system of a plan without hostile clients that goes on from what its actors left, which
-    /// ran apart: every ring comes to its end, and every actor forgets its last looks, since those
-    /// who looked are gone. What was put and taken, the bells, and the noes and steps of the ends
-    /// are its history; its journal is empty. The plan tells who is who in its classes. After want
-    /// of memory nothing is left of the parts.
+    /// The system of a plan that goes on from what its actors left, which ran apart: every ring
+    /// comes to its end, and every actor forgets its last looks, since those who looked are gone. A
+    /// hostile client begins the act in hand anew. What was put and taken, the bells, and the noes
+    /// and steps of the ends are its history, and the names of what was put to queues with a hostile
+    /// end are kept with it; its journal is empty. The plan tells who is who in its classes. After
+    /// want of memory nothing is left of the parts.
     pub fn adopt(
         alloc: Global,
         plan: &Plan,
@@ -84,7 +83,6 @@ impl System {
     ) -> Result<System, Memory>
         requires valid { Valid plan.now }
         requires layout { layout.now ≡ layout_of plan.now }
-        requires friendly { HasNoRogue plan.now }
         requires came { (trace : TraceIs) × (s : Setting) × IsCastOf plan.now trace s
             × HaveComeFrom s parts.rings.items (map apart_of parts.actors.items) }
         ensures adopted { IfOk result (λ t. (trace : TraceIs) (s : Setting)

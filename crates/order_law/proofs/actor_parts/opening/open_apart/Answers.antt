@@ -1,9 +1,13 @@
-use Rattle.std.proofs.Common.{◌≡◌, ◌<◌, ◌++◌, [], ◌∷◌, List, ℕ, refl, sym, ap, subst, arith, length, length-append, take, get_or, Some, slice_get}
+use Rattle.std.proofs.Common.{◌≡◌, ◌<◌, ◌++◌, [], ◌∷◌, List, ℕ, refl, sym, ap, subst, arith, length, length-append, map, take, get_or, Some, slice_get}
 use Rattle.std.proofs.lemmas.Option.{slice_get_read}
 use Rattle.cargo_core.specs.Capacities.{IsCapacity}
 use Rattle.wire_core.specs.declared.names.QueueRow.{QueueRow}
 use Rattle.wire_core.specs.Ends.{Consumer, Producer}
 use Rattle.spsc_queue.specs.Known.Ends.{RingIs}
+use Rattle.actor_set.specs.Actors.{part_of}
+use Rattle.actor_set.specs.Laws.Kinds.{hostiles}
+use Rattle.order_law.specs.ActorParts.Given.{Kept}
+use Rattle.order_law.specs.ActorParts.Parting.{IsRingOf}
 use Rattle.order_law.specs.ActorParts.Opened.{AreOpened}
 use Rattle.order_law.proofs.ActorParts.Opens.{none_opened, opened_on, all_opened}
 use Rattle.order_law.proofs.actor_parts.opening.open_apart.Goals as goal
@@ -48,7 +52,7 @@ loop-row-preserved c =
       many = let a = ap length pushed in let b = length-append rings (c.in_ok-ring.ring ∷ []) in omega (arith, a, b, many);
       opened = subst (λ (l : List RingIs). AreOpened (take (length l) c.args.rows.now) c.args.actors.items l c.give_consumer.new.parts.items) (sym pushed)
           (opened_on c.args.rows.now c.args.actors.items rings c.loop-row.parts.items c.give_producer.new.parts.items c.give_consumer.new.parts.items c.row-item.result c.in_ok-ring.ring (record { 0 = c.len.result }) c.in_ok-ring.producer c.in_ok-ring.consumer
-          lt at number c.in_ok-ring.ensures.ring c.in_ok-ring.ensures.producer c.in_ok-ring.ensures.consumer c.in_ok-give_producer.ensures c.in_ok-give_consumer.ensures c.loop-row.invariant.opened);
+          lt at number (subst (λ (ps : List Kept). IsRingOf (hostiles (map (λ (p : Kept). part_of p.0.actor) ps)) c.row-item.result c.in_ok-ring.ring) c.deref.ensures.value c.in_ok-ring.ensures.ring) c.in_ok-ring.ensures.producer c.in_ok-ring.ensures.consumer c.in_ok-give_producer.ensures c.in_ok-give_consumer.ensures c.loop-row.invariant.opened);
     }
 
 pub returns : goal.returns

@@ -1,4 +1,4 @@
-use Rattle.std.proofs.Common.{◌≡◌, ◌<◌, ◌++◌, ℕ, [], ◌∷◌, refl, sym, ap, ◌∙◌, length, length-set, map, slice_get, slice_set, Some, List, subst, arith}
+use Rattle.std.proofs.Common.{◌≡◌, ◌<◌, ◌++◌, ℕ, [], ◌∷◌, refl, sym, ap, ◌∙◌, length, length-set, map, slice_get, slice_set, Some, List, subst, arith, append_assoc}
 use Rattle.std.specs.Vec.{vec_len}
 use Rattle.std.proofs.lemmas.Option.{slice_get_read, slice_get_within}
 use Rattle.wire_core.specs.Journal.{EachMoment}
@@ -8,7 +8,7 @@ use Rattle.actor_set.specs.Actors.{part_of}
 use Rattle.actor_set.specs.Laws.Kinds.{hostiles, scene_of}
 use Rattle.noted_wires.specs.Noting.{kept_at, notes_in}
 use Rattle.system_core.specs.Shows.{Setting, Shown, KeepsSetting, hostile_in, runs, NamesTell, RowsStand}
-use Rattle.system_core.specs.States.{history_of, begun}
+use Rattle.system_core.specs.States.{history_of, begun, names_left}
 use Rattle.system_core.specs.Lawful.{IsFitted}
 use Rattle.system_core.specs.Inside.{setting_of}
 use Rattle.system_core.proofs.SystemStep.{entry_of}
@@ -69,11 +69,11 @@ invariant_of-self-in_err-event c =
     let lt : c.at-number.result < length c.self.inside.actors.items = runner_there c.self.inside c.self.invariant c.args.place c.at-number.result c.at-number.ensures in
     let here : slice_get c.self.inside.actors.items c.at-number.result ≡ Some c.index_mut-actor.result.now = slice_get_read c.self.inside.actors.items _ c.at-number.result c.index_mut-actor.result.now refl lt c.index_mut-actor.ensures.value in
     let set : slice_set c.self.inside.actors.items c.at-number.result c.step.new.self ≡ c.self.inside.actors.items = ap (slice_set c.self.inside.actors.items c.at-number.result) c.in_err-event.ensures.unchanged ∙ set_same c.self.inside.actors.items c.at-number.result c.index_mut-actor.result.now here in
-    let same : record (begun (history_of c.self.inside.rows.items c.self.inside.past.value.items) c.self.inside.rows.items c.self.inside.pools.items (slice_set c.self.inside.actors.items c.at-number.result c.step.new.self) c.self.inside.net c.self.inside.serial c.self.inside.blk) { names = c.self.inside.names.items } ≡ setting_of c.self.inside = ap (λ xs. record (begun (history_of c.self.inside.rows.items c.self.inside.past.value.items) c.self.inside.rows.items c.self.inside.pools.items xs c.self.inside.net c.self.inside.serial c.self.inside.blk) { names = c.self.inside.names.items }) set in
+    let same : record (begun (history_of c.self.inside.rows.items c.self.inside.past.value.items) c.self.inside.rows.items c.self.inside.pools.items (slice_set c.self.inside.actors.items c.at-number.result c.step.new.self) c.self.inside.net c.self.inside.serial c.self.inside.blk) { names = names_left 0 c.self.inside.past.value.items ++ c.self.inside.names.items } ≡ setting_of c.self.inside = ap (λ xs. record (begun (history_of c.self.inside.rows.items c.self.inside.past.value.items) c.self.inside.rows.items c.self.inside.pools.items xs c.self.inside.net c.self.inside.serial c.self.inside.blk) { names = names_left 0 c.self.inside.past.value.items ++ c.self.inside.names.items }) set in
     record {
       fitted = rw c.in_ok-make_room.ensures.names (subst IsFitted (sym same) c.self.invariant.fitted);
       before = rw c.in_ok-make_room.ensures.names (subst HoldsBefore (sym same) c.self.invariant.before);
-      holds = rw (c.in_err-event.ensures.no_call, c.in_ok-make_room.ensures.journal, c.in_ok-make_room.ensures.names) (subst (λ xs. Holds (history_of c.self.inside.rows.items c.self.inside.past.value.items) c.self.inside.rows.items c.self.inside.names.items c.self.inside.wires.world xs c.self.inside.journal.items) (sym set) c.self.invariant.holds);
+      holds = rw (c.in_err-event.ensures.no_call, c.in_ok-make_room.ensures.journal, c.in_ok-make_room.ensures.names) (subst (λ xs. Holds (history_of c.self.inside.rows.items c.self.inside.past.value.items) c.self.inside.rows.items (setting_of c.self.inside).names c.self.inside.wires.world xs c.self.inside.journal.items) (sym set) c.self.invariant.holds);
       rows_hold = rw (c.in_ok-make_room.ensures.journal, c.in_ok-make_room.ensures.names) (subst (λ z. EachMoment (RowsStand z) c.self.inside.journal.items) (sym same) c.self.invariant.rows_hold);
       names_tell = rw (c.in_ok-make_room.ensures.journal, c.in_ok-make_room.ensures.names) (subst (λ z. EachMoment (NamesTell z) c.self.inside.journal.items) (sym same) c.self.invariant.names_tell);
       brisk = rw c.in_ok-make_room.ensures.journal (subst (λ z. Brisk (hostile_in z) z.rows no_drops c.self.inside.journal.items) (sym same) c.self.invariant.brisk);
@@ -99,18 +99,19 @@ pub is_runnable-runs-requires : goal.is_runnable-runs-requires
 is_runnable-runs-requires c = record { there = λ k rung. rw c.deref-2.ensures.value (rung_there _ _ _ _ c.self.inside.actors.items _ c.self.invariant.holds c.at-number.result c.step.new.self c.in_ok-event.event c.index-row.result.now k c.in_ok-event.ensures.stepped.happened.happened.there c.index-row.ensures (sym c.reach-other.ensures ∙ rung)) }
 
 pub note-requires-clause-room : goal.note-requires-clause-room
-note-requires-clause-room c = (system_then (history_of c.self.inside.rows.items c.self.inside.past.value.items) c.self.inside.rows.items c.self.inside.names.items c.self.inside.pools.items c.self.inside.net c.self.inside.serial c.self.inside.blk c.self.inside.wires.world c.step.new.wires.world c.self.inside.actors.items c.self.inside.journal.items c.at-number.result c.index_mut-actor.result.now c.step.new.self c.index-actor.result.now c.in_ok-event.event c.index-row.result.now c.reach-other.result c.is_runnable-runs.result c.is_idle-idle.result c.args.place c.self.inside.running.list c.self.inside.running.room
+note-requires-clause-room c = (system_then (history_of c.self.inside.rows.items c.self.inside.past.value.items) c.self.inside.rows.items (setting_of c.self.inside).names c.self.inside.pools.items c.self.inside.net c.self.inside.serial c.self.inside.blk c.self.inside.wires.world c.step.new.wires.world c.self.inside.actors.items c.self.inside.journal.items c.at-number.result c.index_mut-actor.result.now c.step.new.self c.index-actor.result.now c.in_ok-event.event c.index-row.result.now c.reach-other.result c.is_runnable-runs.result c.is_idle-idle.result c.args.place c.self.inside.running.list c.self.inside.running.room
     c.self.invariant.fitted c.self.invariant.holds c.self.invariant.rows_hold c.self.invariant.names_tell c.self.invariant.running c.self.invariant.room c.self.invariant.brisk c.self.invariant.before.flows c.self.invariant.own c.at-number.ensures c.index_mut-actor.ensures.value c.in_ok-event.ensures.own (plain_step c.self.inside.wires c.step.new.wires c.index_mut-actor.result.now c.step.new.self c.in_ok-event.event c.in_ok-event.ensures.stepped) c.in_ok-event.ensures.turned c.step.ensures.fits c.step.ensures.part c.index-actor.ensures c.index-row.ensures c.is_idle-idle.ensures c.reach-other.ensures (subst (λ xs. IsAsked xs c.step.new.wires.world c.reach-other.result c.is_runnable-runs.result) c.deref-2.ensures.value c.is_runnable-runs.ensures)).few
 
 pub invariant_of-self-2 : goal.invariant_of-self-2
 invariant_of-self-2 c =
-    let s = (system_then (history_of c.self.inside.rows.items c.self.inside.past.value.items) c.self.inside.rows.items c.self.inside.names.items c.self.inside.pools.items c.self.inside.net c.self.inside.serial c.self.inside.blk c.self.inside.wires.world c.step.new.wires.world c.self.inside.actors.items c.self.inside.journal.items c.at-number.result c.index_mut-actor.result.now c.step.new.self c.index-actor.result.now c.in_ok-event.event c.index-row.result.now c.reach-other.result c.is_runnable-runs.result c.is_idle-idle.result c.args.place c.self.inside.running.list c.self.inside.running.room
+    let s = (system_then (history_of c.self.inside.rows.items c.self.inside.past.value.items) c.self.inside.rows.items (setting_of c.self.inside).names c.self.inside.pools.items c.self.inside.net c.self.inside.serial c.self.inside.blk c.self.inside.wires.world c.step.new.wires.world c.self.inside.actors.items c.self.inside.journal.items c.at-number.result c.index_mut-actor.result.now c.step.new.self c.index-actor.result.now c.in_ok-event.event c.index-row.result.now c.reach-other.result c.is_runnable-runs.result c.is_idle-idle.result c.args.place c.self.inside.running.list c.self.inside.running.room
     c.self.invariant.fitted c.self.invariant.holds c.self.invariant.rows_hold c.self.invariant.names_tell c.self.invariant.running c.self.invariant.room c.self.invariant.brisk c.self.invariant.before.flows c.self.invariant.own c.at-number.ensures c.index_mut-actor.ensures.value c.in_ok-event.ensures.own (plain_step c.self.inside.wires c.step.new.wires c.index_mut-actor.result.now c.step.new.self c.in_ok-event.event c.in_ok-event.ensures.stepped) c.in_ok-event.ensures.turned c.step.ensures.fits c.step.ensures.part c.index-actor.ensures c.index-row.ensures c.is_idle-idle.ensures c.reach-other.ensures (subst (λ xs. IsAsked xs c.step.new.wires.world c.reach-other.result c.is_runnable-runs.result) c.deref-2.ensures.value c.is_runnable-runs.ensures)) in
     let st = c.in_ok-event.ensures.stepped in
     let wild = wild_in (hostiles (map part_of c.self.inside.actors.items)) c.self.inside.rows.items in
     let notes : List Noted = notes_of wild (record { event = c.in_ok-event.event; body = st.body }) in
-    let ns : List Noted = c.self.inside.names.items ++ notes in
-    let nm : c.keep_name.new.names.items ≡ ns = c.keep_name.ensures.names ∙ (ap (λ xs. xs ++ notes_in c.in_ok-event.event.queue.0 c.step.new.wires.last) c.in_ok-make_room.ensures.names ∙ names_then c.self.inside.names.items wild c.self.inside.wires c.step.new.wires c.index_mut-actor.result.now c.step.new.self c.in_ok-event.event st c.self.invariant.kept c.self.invariant.none_last) in
+    let was : List Noted = names_left 0 c.self.inside.past.value.items in
+    let ns : List Noted = (was ++ c.self.inside.names.items) ++ notes in
+    let nm : was ++ c.keep_name.new.names.items ≡ ns = ap (λ (xs : List Noted). was ++ xs) (c.keep_name.ensures.names ∙ (ap (λ xs. xs ++ notes_in c.in_ok-event.event.queue.0 c.step.new.wires.last) c.in_ok-make_room.ensures.names ∙ names_then c.self.inside.names.items wild c.self.inside.wires c.step.new.wires c.index_mut-actor.result.now c.step.new.self c.in_ok-event.event st c.self.invariant.kept c.self.invariant.none_last)) ∙ sym (append_assoc was c.self.inside.names.items notes) in
     let later : Setting = record (setting_of c.self.inside) { names = ns } in
     let same : record (begun (history_of c.self.inside.rows.items c.self.inside.past.value.items) c.self.inside.rows.items c.self.inside.pools.items (slice_set c.self.inside.actors.items c.at-number.result c.step.new.self) c.self.inside.net c.self.inside.serial c.self.inside.blk) { names = ns } ≡ later = ap (λ cast. record { history = history_of c.self.inside.rows.items c.self.inside.past.value.items; rows = c.self.inside.rows.items; pools = c.self.inside.pools.items; cast = cast; scene = scene_of cast; names = ns; net = c.self.inside.net; serial = c.self.inside.serial; blk = c.self.inside.blk }) s.cast_is in
     record {
@@ -129,15 +130,16 @@ invariant_of-self-2 c =
 
 pub returns-clause-ok : goal.returns-clause-ok
 returns-clause-ok c =
-    let s = (system_then (history_of c.self.inside.rows.items c.self.inside.past.value.items) c.self.inside.rows.items c.self.inside.names.items c.self.inside.pools.items c.self.inside.net c.self.inside.serial c.self.inside.blk c.self.inside.wires.world c.step.new.wires.world c.self.inside.actors.items c.self.inside.journal.items c.at-number.result c.index_mut-actor.result.now c.step.new.self c.index-actor.result.now c.in_ok-event.event c.index-row.result.now c.reach-other.result c.is_runnable-runs.result c.is_idle-idle.result c.args.place c.self.inside.running.list c.self.inside.running.room
+    let s = (system_then (history_of c.self.inside.rows.items c.self.inside.past.value.items) c.self.inside.rows.items (setting_of c.self.inside).names c.self.inside.pools.items c.self.inside.net c.self.inside.serial c.self.inside.blk c.self.inside.wires.world c.step.new.wires.world c.self.inside.actors.items c.self.inside.journal.items c.at-number.result c.index_mut-actor.result.now c.step.new.self c.index-actor.result.now c.in_ok-event.event c.index-row.result.now c.reach-other.result c.is_runnable-runs.result c.is_idle-idle.result c.args.place c.self.inside.running.list c.self.inside.running.room
     c.self.invariant.fitted c.self.invariant.holds c.self.invariant.rows_hold c.self.invariant.names_tell c.self.invariant.running c.self.invariant.room c.self.invariant.brisk c.self.invariant.before.flows c.self.invariant.own c.at-number.ensures c.index_mut-actor.ensures.value c.in_ok-event.ensures.own (plain_step c.self.inside.wires c.step.new.wires c.index_mut-actor.result.now c.step.new.self c.in_ok-event.event c.in_ok-event.ensures.stepped) c.in_ok-event.ensures.turned c.step.ensures.fits c.step.ensures.part c.index-actor.ensures c.index-row.ensures c.is_idle-idle.ensures c.reach-other.ensures (subst (λ xs. IsAsked xs c.step.new.wires.world c.reach-other.result c.is_runnable-runs.result) c.deref-2.ensures.value c.is_runnable-runs.ensures)) in
     let st = c.in_ok-event.ensures.stepped in
     let wild = wild_in (hostiles (map part_of c.self.inside.actors.items)) c.self.inside.rows.items in
     let notes : List Noted = notes_of wild (record { event = c.in_ok-event.event; body = st.body }) in
-    let nm : c.keep_name.new.names.items ≡ c.self.inside.names.items ++ notes = c.keep_name.ensures.names ∙ (ap (λ xs. xs ++ notes_in c.in_ok-event.event.queue.0 c.step.new.wires.last) c.in_ok-make_room.ensures.names ∙ names_then c.self.inside.names.items wild c.self.inside.wires c.step.new.wires c.index_mut-actor.result.now c.step.new.self c.in_ok-event.event st c.self.invariant.kept c.self.invariant.none_last) in
-    let later : Setting = record (setting_of c.self.inside) { names = c.keep_name.new.names.items } in
-    let stays = ap (λ cast. record { history = history_of c.self.inside.rows.items c.self.inside.past.value.items; rows = c.self.inside.rows.items; pools = c.self.inside.pools.items; cast = cast; scene = scene_of cast; names = c.keep_name.new.names.items; net = c.self.inside.net; serial = c.self.inside.serial; blk = c.self.inside.blk }) s.cast_is in
-    let after : Setting = record (begun (history_of c.self.inside.rows.items c.self.inside.past.value.items) c.self.inside.rows.items c.self.inside.pools.items (slice_set c.self.inside.actors.items c.at-number.result c.step.new.self) c.self.inside.net c.self.inside.serial c.self.inside.blk) { names = c.keep_name.new.names.items } in
+    let was : List Noted = names_left 0 c.self.inside.past.value.items in
+    let nm : was ++ c.keep_name.new.names.items ≡ (was ++ c.self.inside.names.items) ++ notes = ap (λ (xs : List Noted). was ++ xs) (c.keep_name.ensures.names ∙ (ap (λ xs. xs ++ notes_in c.in_ok-event.event.queue.0 c.step.new.wires.last) c.in_ok-make_room.ensures.names ∙ names_then c.self.inside.names.items wild c.self.inside.wires c.step.new.wires c.index_mut-actor.result.now c.step.new.self c.in_ok-event.event st c.self.invariant.kept c.self.invariant.none_last)) ∙ sym (append_assoc was c.self.inside.names.items notes) in
+    let later : Setting = record (setting_of c.self.inside) { names = was ++ c.keep_name.new.names.items } in
+    let stays = ap (λ cast. record { history = history_of c.self.inside.rows.items c.self.inside.past.value.items; rows = c.self.inside.rows.items; pools = c.self.inside.pools.items; cast = cast; scene = scene_of cast; names = was ++ c.keep_name.new.names.items; net = c.self.inside.net; serial = c.self.inside.serial; blk = c.self.inside.blk }) s.cast_is in
+    let after : Setting = record (begun (history_of c.self.inside.rows.items c.self.inside.past.value.items) c.self.inside.rows.items c.self.inside.pools.items (slice_set c.self.inside.actors.items c.at-number.result c.step.new.self) c.self.inside.net c.self.inside.serial c.self.inside.blk) { names = was ++ c.keep_name.new.names.items } in
     let keeps : KeepsSetting (setting_of c.self.inside) later = record { names = (notes, sym nm); stays = refl } in
     record {
       actor = c.at-number.result;
