@@ -20,3 +20,4 @@ pub mod PagesLemmas
 pub mod TurnsLemmas
 pub mod RunsLemmas
 pub mod GoneLemmas
+pub mod Restarted

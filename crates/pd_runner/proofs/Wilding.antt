@@ -40,8 +40,8 @@ may_seated x s fits wild busy = by (calm_or_rogue x)
     rogue r fits wild busy = (
       busy,
       All-append (λ (q : QueueId). IsWildSeat s q.0) r.inputs.items r.outputs.items
-      (λ m d lt. let own = (fits.inputs m d lt).owned in let e = there_owned _ own in (wild refl Consumer _ e.0 e.1, inl own))
-      (λ m d lt. let own = (fits.outputs m d lt).0.owned in let e = there_owned _ own in (wild refl Producer _ e.0 e.1, inr own)),
+          (λ m d lt. let own = (fits.inputs m d lt).owned in let e = there_owned _ own in (wild refl Consumer _ e.0 e.1, inl own))
+          (λ m d lt. let own = (fits.outputs m d lt).0.owned in let e = there_owned _ own in (wild refl Producer _ e.0 e.1, inr own)),
     )
 
     by : (manner_of (part_of x) ≡ Calm) ⊎ ((r : Rogue) × (x ≡ Kinds.Rogue r)) → MayStep (IsWildSeat s) x

@@ -330,11 +330,11 @@ module _ (history : History) (rows : List QueueRow) (names : List Noted) (w v : 
     asks' : (place : PoolPlace) → IsPlaced rows place (map part_of actors) → RoguesAsk wild place passed'
     unfolding passed' deed
     asks' place placed = asks_on rows place actors old.passed deed k x x' (end_at w) placed in_place.seated here (old.fits k x here)
-    (λ put. elim calls.sort.1 [
-      | inl same ↦ subst (λ r. ActorEnd x r e.queue.0) (same ∙ ap role_of put) calls.own
-      | inr store ↦ let no : true ≡ false = sym store ∙ ap is_store put in absurd cc
-    ])
-    (λ row at. (old.queues e.queue.0 row at).kind) turned (old.asks place placed)
+        (λ put. elim calls.sort.1 [
+          | inl same ↦ subst (λ r. ActorEnd x r e.queue.0) (same ∙ ap role_of put) calls.own
+          | inr store ↦ let no : true ≡ false = sym store ∙ ap is_store put in absurd cc
+        ])
+        (λ n row at j c there. kinds' n row at j c there (eqb_tells e.queue.0 n)) turned (old.asks place placed)
 
     -- and entries go on to carry what their items name
     carry' : (place : PoolPlace) → IsPlaced rows place (map part_of actors) → CastCarries rows place actors' (moved history after_) passed'

@@ -29,13 +29,13 @@ use Rattle.system_core.specs.Builds.{IsBuilt, IsCastOf, BeginsAnew, serial_class
 use Rattle.system_core.specs.GivesBack.{SerialGivesBack}
 use Rattle.system_core.specs.PlanPlays.{ShowsInPart, ShowsWhole, IsSystemOf, IsOfItsPlan, StaysOfItsPlan, IsPlayed, IsPlayedOn, HasEnded}
 use Rattle.actor_set.proofs.LawsLemmas.Calm.{calm_actor, sheet_is}
-use Rattle.system_core.proofs.Networking.{sends_are, shows_frames, wild_is, silent as net_silent}
+use Rattle.system_core.proofs.Networking.{sends_are, shows_frames, wild_is}
 use Rattle.system_core.proofs.Quieting.{none_there, shows_whole_net, shows_whole_blk}
 use Rattle.system_core.proofs.Bounded.{row_as, bounded}
-use Rattle.system_core.proofs.Replying.{shows_replies, silent as blk_silent}
+use Rattle.system_core.proofs.Replying.{shows_replies}
 use Rattle.system_core.proofs.PoolsLemmas.Placing.{cast_calm}
 use Rattle.system_core.proofs.PoolsLemmas.Showing.{tells_owners}
-use Rattle.system_core.proofs.Arriving.{LawBeside, LawWhole, class_there, serial_arrives, serial_shows, serial_silent, serial_whole}
+use Rattle.system_core.proofs.Arriving.{LawBeside, LawWhole, class_there, serial_arrives, serial_shows, serial_whole}
 
 -- a system of a plan and a trace, whatever its queues had before its journal begins
 module _ (plan : Plan) (trace : Trace) (valid : Valid plan) (read : IsReadFor plan trace) (s : Shown) (cast_is : IsCastOf plan trace s.setting) (stands : StandsLawful s) (beside : LawBeside) (whole : LawWhole) where
@@ -54,9 +54,6 @@ module _ (plan : Plan) (trace : Trace) (valid : Valid plan) (read : IsReadFor pl
     shows_net = λ net has. shows_frames plan net trace s cast_is has stands.told;
     plain = λ gives net has. sends_are plan net trace s cast_is has stands.told (none_there plan trace s.setting valid gives net has cast_is);
     wild_net = λ net has. wild_is plan net trace s cast_is has stands.told;
-    silent = λ serial has. serial_silent plan trace read s cast_is stands serial has;
-    silent_net = λ net has. net_silent plan net trace s cast_is has stands.told;
-    silent_blk = λ blk has. blk_silent plan blk trace s cast_is has stands.told;
     shows_blk = λ blk has. shows_replies plan blk trace s cast_is has stands.told;
     whole = λ quiet calm serial has. serial_whole plan trace read s cast_is stands serial has whole quiet calm;
     whole_net = λ quiet gives net has. shows_whole_net s stands quiet plan valid gives net has trace cast_is;

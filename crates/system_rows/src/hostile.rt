@@ -1,6 +1,5 @@
-//! Plays beside hostile clients whose acts are drawn. For each number the line of a trace has that
-//! number's script for each hostile client, the play has that seed, and each third play has a limit
-//! that it meets.
+//! Plays beside hostile clients whose acts are drawn: the play of a number has that seed and that
+//! number's script for each hostile client. Each third play has a limit that it may meet.
 ghost use Rattle.std.specs.Prelude.{◌≡◌};
 ghost use Rattle.sdf_check.specs.Valid.{Valid};
 ghost use Rattle.trace_text.specs.Traces.{IsReadFor};
@@ -114,13 +113,15 @@ fn is_right(
 {
     let report = system.report()?;
     let journal = system.journal();
-    Ok(report.steps <= limit
-        && do_add_up(&report)
-        && is_network_right(alloc, plan, trace, &report)?
-        && is_serial_right(alloc, plan, trace, &report)?
-        && is_block_right(alloc, plan, trace, &report)?
-        && goes_right(alloc, plan, layout, journal)?
-        && (!report.quiet || are_at_home(alloc, plan, layout, &report, journal)?))
+    Ok(
+        report.steps <= limit
+            && do_add_up(&report)
+            && is_network_right(alloc, plan, trace, &report)?
+            && is_serial_right(alloc, plan, trace, &report)?
+            && is_block_right(alloc, plan, trace, &report)?
+            && goes_right(alloc, plan, layout, journal)?
+            && (!report.quiet || are_at_home(alloc, plan, layout, &report, journal)?),
+    )
 }
 
 impl Tally {
@@ -133,7 +134,9 @@ impl Tally {
         }
         if limit_of(number) == AMPLE {
             self.ample = self.ample.saturating_add(1);
-            self.quiet = self.quiet.saturating_add(u64::from(ending == Ending::Quiet));
+            self.quiet = self
+                .quiet
+                .saturating_add(u64::from(ending == Ending::Quiet));
         }
     }
 }

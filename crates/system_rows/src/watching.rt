@@ -6,6 +6,7 @@ ghost use Rattle.sdf_check.specs.Valid.{Valid};
 ghost use Rattle.trace_text.specs.Events.{blk_clients};
 ghost use Rattle.trace_text.specs.Traces.{IsReadFor};
 
+use crate::block_clients;
 use crate::network::{to_record, to_send};
 use cargo_core::{FrameLog, Memory, Reply};
 use expect_core::{Report, input_of, replies_of};
@@ -91,10 +92,8 @@ fn is_net_right(
         return Ok(record.is_empty());
     }
     let wanted = to_record(alloc, net, trace, client)?;
-    let (Some(mac), Some(wire)) = (
-        read_mac(net.client.get(client).mac.as_str()),
-        &report.wire,
-    ) else {
+    let (Some(mac), Some(wire)) = (read_mac(net.client.get(client).mac.as_str()), &report.wire)
+    else {
         return Ok(false);
     };
     let sent = frames_from(alloc, wire, mac)?;
@@ -150,8 +149,7 @@ fn is_client_right(
     let wanted = input_of(alloc, trace, clients, number)?;
     let says = trace.says.get(client).as_slice();
     let said = bytes_among(alloc, line, says)?;
-    Ok(begin_bytes(record.as_slice(), wanted.as_slice(), whole)
-        && begin_bytes(&said, says, whole))
+    Ok(begin_bytes(record.as_slice(), wanted.as_slice(), whole) && begin_bytes(&said, says, whole))
 }
 
 /// Whether what each serial client recorded and said is right. No byte is said by two of them, and
@@ -214,15 +212,13 @@ pub fn is_block_right(
     requires valid { Valid plan.now }
     requires trace { IsReadFor plan.now trace.now }
 {
-    let Some(blk) = &plan.blk else {
-        return Ok(true);
-    };
+    let clients = block_clients(plan);
     let mut whole = report.quiet;
-    for client in 0..blk.client.len() {
+    for client in 0..clients {
         whole = whole && !is_blk_rogue(plan, client as u64);
     }
     let mut right = true;
-    for client in 0..blk.client.len() {
+    for client in 0..clients {
         right = are_replies_right(alloc, plan, trace, report, client, whole)? && right;
     }
     Ok(right)

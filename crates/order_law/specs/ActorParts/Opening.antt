@@ -20,10 +20,13 @@ first_half Producer kind wild = record (first_producer kind) { wild = wild }
 -- the end that a new ring for a row gives an actor, if the row names that one
 abbrev pub opened_at : Role → (actor queue : ℕ) → QueueRow × RingIs → List (QueueId × EndIs)
 opened_at r k n x = if owner_of x.0 r == k
-    then (record { 0 = n }, record {
-      ring = x.1.id;
-      knows = first_half r x.0.kind x.1.wild;
-    }) ∷ [] else []
+    then (
+      record { 0 = n },
+      record {
+        ring = x.1.id;
+        knows = first_half r x.0.kind x.1.wild;
+      },
+    ) ∷ [] else []
 
 -- an actor's ends of one role, where a ring was opened for each of these rows, from a number on
 abbrev pub opened_from : Role → (actor queue : ℕ) → List (QueueRow × RingIs)
