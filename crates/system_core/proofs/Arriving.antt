@@ -36,7 +36,7 @@ use Rattle.system_core.specs.GivesBack.{SerialGivesBack}
 use Rattle.system_core.specs.PlanPlays.{AreSilent, ShowsInPart, ShowsWhole, serial_says}
 use Rattle.system_core.proofs.Scripts.{scripts_length}
 use Rattle.system_core.proofs.Casting.{HasSerial, has_serial}
-use Rattle.system_core.proofs.Begun.{There, nothing_is, serial_beside, serial_there, shows_in_part, shows_whole}
+use Rattle.system_core.proofs.Begun.{There, serial_beside, serial_there, shows_in_part, shows_whole}
 
 -- what is said of a part of the serial class asks no names
 told_is : (scene : Scene) (wild : Wild) (names : Names) (p : SerialPart) → told_sheet scene wild names (serial_part p) ≡ serial_sheet p

@@ -171,7 +171,7 @@ module _ (plan : Plan) (serial : Serial) (trace : Trace) (s : Shown) (h : HasSer
       (second_there (first + 4) clients c lt, sym (ap (λ o. option_map_or (record_by went) o []) is) ∙ client.2)
 
   -- a hostile client records nothing
-  pub nothing_is : (c : ℕ) (got : List ℕ) → is_serial_rogue plan c ≡ true → slice_get s.state.serial c ≡ Some got → got ≡ []
+  nothing_is : (c : ℕ) (got : List ℕ) → is_serial_rogue plan c ≡ true → slice_get s.state.serial c ≡ Some got → got ≡ []
   nothing_is c got rogue at =
       let client = seen c got at in
       sym client.2 ∙ ap (λ o. option_map_or (record_by went) o []) (h.hostile c client.0 rogue client.1).1

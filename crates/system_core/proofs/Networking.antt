@@ -101,7 +101,7 @@ module _ (plan : Plan) (net : Net) (trace : Trace) (s : Shown) (cast : IsCastOf 
       calm_client c calm = rw calm refl
 
   -- and a hostile one nothing
-  pub silent : (c : ℕ) (got : List (List ℕ)) → is_net_rogue plan c ≡ true → slice_get s.state.net c ≡ Some got → got ≡ []
+  silent : (c : ℕ) (got : List (List ℕ)) → is_net_rogue plan c ≡ true → slice_get s.state.net c ≡ Some got → got ≡ []
   silent c got hostile at =
       let lt = there_below s.state.net c got at in
       let client = client_is c (omega (arith, lt, count_is, value_count (length (net_clients plan)) (client_mac plan))) in
@@ -135,10 +135,11 @@ module _ (plan : Plan) (net : Net) (trace : Trace) (s : Shown) (cast : IsCastOf 
   pub sends_are : NoneHostile (wild_by s.setting) place → sends trace.frames ≡ sends_at place.programs place.macs trace.frames
   sends_are none = subst (λ fs. sends fs ≡ sends_at place.programs place.macs fs) frames (tells.plain none)
 
-  pub shows_frames : ShowsFrames (wild_by s.setting) place trace.frames told.passed s.state
+  pub shows_frames : ShowsFrames (is_net_rogue plan) (wild_by s.setting) place trace.frames told.passed s.state
   shows_frames = record {
     count_is = count_is;
     records = record_begins;
+    hostile = silent;
     wire = wire_is.0;
     merges = wire_is.1;
   }

@@ -75,7 +75,7 @@ module _ (plan : Plan) (blk : Blk) (trace : Trace) (s : Shown) (cast : IsCastOf 
       calm_client c calm = rw calm refl
 
   -- and a hostile one nothing
-  pub silent : (c : ℕ) (got : List Reply) → is_blk_rogue plan c ≡ true → slice_get s.state.blk c ≡ Some got → got ≡ []
+  silent : (c : ℕ) (got : List Reply) → is_blk_rogue plan c ≡ true → slice_get s.state.blk c ≡ Some got → got ≡ []
   silent c got hostile at =
       let lt = there_below s.state.blk c got at in
       let client = client_is c (omega (arith, lt, count_is, value_count (length (blk_clients plan)) (client_entry plan))) in
@@ -92,10 +92,11 @@ module _ (plan : Plan) (blk : Blk) (trace : Trace) (s : Shown) (cast : IsCastOf 
       by true hostile = subst (λ xs. IsPrefix xs (replies_of place.image entry asks)) (sym (silent c got hostile at)) (replies_of place.image entry asks, refl)
       by false calm = (calm_record c entry asks got calm of its at).0
 
-  pub shows_replies : ShowsReplies place s.state
+  pub shows_replies : ShowsReplies (is_blk_rogue plan) place s.state
   shows_replies = record {
     count_is = count_is;
     records = record_begins;
+    hostile = silent;
   }
 
   -- where no client is hostile and each took a response to each of its requests, all replies are seen

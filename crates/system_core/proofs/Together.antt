@@ -49,9 +49,6 @@ module _ (plan : Plan) (trace : Trace) (valid : Valid plan) (read : IsReadFor pl
     shows_net = λ net has. shows_frames plan net trace s cast_is has stands.told;
     plain = λ gives net has. sends_are plan net trace s cast_is has stands.told (none_there plan trace s.setting valid gives net has cast_is);
     wild_net = λ net has. wild_is plan net trace s cast_is has stands.told;
-    silent = λ serial has. serial_silent plan trace read s cast_is stands serial has;
-    silent_net = λ net has. net_silent plan net trace s cast_is has stands.told;
-    silent_blk = λ blk has. blk_silent plan blk trace s cast_is has stands.told;
     shows_blk = λ blk has. shows_replies plan blk trace s cast_is has stands.told;
     whole = λ quiet calm serial has. serial_whole plan trace read s cast_is stands serial has whole quiet calm;
     whole_net = λ quiet gives net has. shows_whole_net s stands quiet plan valid gives net has trace cast_is;

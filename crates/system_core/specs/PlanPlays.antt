@@ -64,15 +64,17 @@ pub record ShowsWhole (count : ℕ) (trace : Trace) (s : State) : Type 0 where
       → got ≡ input_of count c trace.input
   pub line : (said : List ℕ) × (s.line ≡ Some said) × Merge trace.says said
 
--- each network client recorded a beginning of the frames for its address, and what was sent on the
--- wire is what the entries tell that the device took, a merge of beginnings of what the clients
--- send: each by its program, but one at whose queue a hostile actor has an end the frames of the
--- good descriptors that were taken of it
-pub record ShowsFrames (wild : Wild) (net : NetPlace) (frames : List (List ℕ)) (passed : Passed)
-    (s : State) : Type 0 where
+-- each network client recorded a beginning of the frames for its address, and a hostile one
+-- nothing; and what was sent on the wire is what the entries tell that the device took, a merge of
+-- beginnings of what the clients send: each by its program, but one at whose queue a hostile actor
+-- has an end the frames of the good descriptors that were taken of it
+pub record ShowsFrames (rogue : ℕ → Bool) (wild : Wild) (net : NetPlace) (frames : List (List ℕ))
+    (passed : Passed) (s : State) : Type 0 where
   pub count_is : length s.net ≡ length net.macs
   pub records : (c : ℕ) (mac : Mac) (got : List (List ℕ)) → slice_get net.macs c ≡ Some mac
       → slice_get s.net c ≡ Some got → IsPrefix got (frames_for mac frames)
+  pub hostile : (c : ℕ) (got : List (List ℕ)) → rogue c ≡ true → slice_get s.net c ≡ Some got
+      → got ≡ []
   pub wire : s.wire ≡ Some (wire_beside wild net frames passed)
   pub merges : PrefixMerge (sends_beside wild net frames passed)
       (wire_beside wild net frames passed)
@@ -85,23 +87,20 @@ pub record ShowsAllFrames (net : NetPlace) (frames : List (List ℕ)) (s : State
   pub wire : (sent : List (List ℕ)) × (s.wire ≡ Some sent) × Merge
       (sends_at net.programs net.macs frames) sent
 
--- each block client recorded a beginning of what it must get
-pub record ShowsReplies (blk : BlkPlace) (s : State) : Type 0 where
+-- each block client recorded a beginning of what it must get, and a hostile one nothing
+pub record ShowsReplies (rogue : ℕ → Bool) (blk : BlkPlace) (s : State) : Type 0 where
   pub count_is : length s.blk ≡ length blk.entries
   pub records : (c entry : ℕ) (asks : List Ask) (got : List Reply)
       → slice_get blk.entries c ≡ Some entry → slice_get blk.asks c ≡ Some asks
       → slice_get s.blk c ≡ Some got → IsPrefix got (replies_of blk.image entry asks)
+  pub hostile : (c : ℕ) (got : List Reply) → rogue c ≡ true → slice_get s.blk c ≡ Some got
+      → got ≡ []
 
 -- each block client recorded all that it must get
 pub record ShowsAllReplies (blk : BlkPlace) (s : State) : Type 0 where
   pub records : (c entry : ℕ) (asks : List Ask) (got : List Reply)
       → slice_get blk.entries c ≡ Some entry → slice_get blk.asks c ≡ Some asks
       → slice_get s.blk c ≡ Some got → got ≡ replies_of blk.image entry asks
-
--- the records of a class's hostile clients are empty
-abbrev pub AreSilent : {T : Type 0} → (hostile : ℕ → Bool) → (records : List (List T)) → Type 0
-AreSilent {T} hostile records = (c : ℕ) (got : List T) → hostile c ≡ true
-    → slice_get records c ≡ Some got → got ≡ []
 
 -- a system of a plan and a trace, whatever its queues had before its journal begins, in however
 -- many plays it came to that journal, and whatever seeds picked its steps
@@ -124,8 +123,8 @@ pub record IsSystemOf (plan : Plan) (trace : Trace) (s : Shown) : Type 0 where
   pub scripts : SerialGivesBack plan → (serial : Serial) → plan.serial ≡ Some serial
       → serial_says plan trace serial (moved_in s.setting s.journal) ≡ trace.says
   pub shows_net : (net : Net) → plan.net ≡ Some net
-      → ShowsFrames (wild_by s.setting) (net_place plan trace) trace.frames stands.told.passed
-      s.state
+      → ShowsFrames (is_net_rogue plan) (wild_by s.setting) (net_place plan trace) trace.frames
+      stands.told.passed s.state
   -- of its clients' queues for sending those have a hostile end whose client is hostile
   pub wild_net : (net : Net) → plan.net ≡ Some net → (c : ℕ) → c < length net.client
       → wild_by s.setting (client_first 0 c + 4) ≡ is_net_rogue plan c
@@ -133,12 +132,8 @@ pub record IsSystemOf (plan : Plan) (trace : Trace) (s : Shown) : Type 0 where
   pub plain : NetGivesBack plan → (net : Net) → plan.net ≡ Some net
       → sends_beside (wild_by s.setting) (net_place plan trace) trace.frames stands.told.passed
       ≡ sends_at (net_place plan trace).programs (net_place plan trace).macs trace.frames
-  pub shows_blk : (blk : Blk) → plan.blk ≡ Some blk → ShowsReplies (blk_place plan trace) s.state
-  -- a hostile client's own record is empty
-  pub silent : (serial : Serial) → plan.serial ≡ Some serial
-      → AreSilent (is_serial_rogue plan) s.state.serial
-  pub silent_net : (net : Net) → plan.net ≡ Some net → AreSilent (is_net_rogue plan) s.state.net
-  pub silent_blk : (blk : Blk) → plan.blk ≡ Some blk → AreSilent (is_blk_rogue plan) s.state.blk
+  pub shows_blk : (blk : Blk) → plan.blk ≡ Some blk
+      → ShowsReplies (is_blk_rogue plan) (blk_place plan trace) s.state
   -- where nobody is runnable, all bytes of the serial class arrived, if none of its clients is
   -- hostile
   pub whole : runnable_now s ≡ [] → SerialGivesBack plan → (serial : Serial)
