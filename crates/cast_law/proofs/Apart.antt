@@ -1,5 +1,5 @@
 -- No two ends of an actor on one side are of one queue.
-use Rattle.std.proofs.Common.{◌≡◌, ◌+◌, ℕ, zero, suc, Some, List, [], ◌∷◌, length, map, slice_get, refl, sym, ap, ◌∙◌, subst, arith}
+use Rattle.std.proofs.Common.{◌≡◌, ◌⊎◌, ◌+◌, ℕ, zero, suc, inl, inr, Some, List, [], ◌∷◌, length, map, slice_get, refl, sym, ap, ◌∙◌, subst, arith}
 use Rattle.std.proofs.lemmas.List.{length-map}
 use Rattle.frame_core.specs.declared.mac.Mac.{Mac}
 use Rattle.wire_core.specs.declared.names.QueueId.{QueueId}
@@ -29,15 +29,16 @@ use Rattle.blk_virt.specs.Desks.{holders}
 use Rattle.blk_law.specs.Sheets.Parts.{BlkPart, DiskDevice as DiskPart, BlkDriver as BlkDriverPart, BlkVirt as VirtPart, BlkClient as BlkClientPart, Sharer}
 use Rattle.blk_law.specs.Sheets.Numbers.{blk_driver_at, sharers_from}
 use Rattle.blk_law.specs.Sheets.Playing.{sharers}
-use Rattle.actor_set.specs.Parts.{HostilePart, Part, UartPart, DriverPart, RxPart, TxPart, ClientPart, NetworkPart, SendingPart, BlockPart}
+use Rattle.actor_set.specs.Parts.{HostilePart, RoguePart, Part, UartPart, DriverPart, RxPart, TxPart, ClientPart, NetworkPart, SendingPart, BlockPart}
 use Rattle.actor_set.specs.Actors.{IsWhole, part_of}
 use Rattle.actor_set.specs.StartStates.{HasApartEnds, HasApartQueues}
 use Rattle.actor_set.specs.declared.actor.Actor.{Actor}
 use Rattle.actor_set.specs.declared.actor.Actor.TheVariants as Kinds
 use Rattle.actor_set.proofs.LawsLemmas.PartEnds.{number_there}
 use Rattle.layout_laws.specs.Jobs.Jobs.{Job, EthDevice, EthDriver, NetReceiver, NetSender, NetCopier, NetClient, UartDevice, UartDriver, SerialReceiver, SerialSender, SerialClient, DiskDevice, DiskDriver, BlkVirtualiser, BlkClient}
-use Rattle.cast_core.specs.Casts.{net_place, blk_place, calm_part}
+use Rattle.cast_core.specs.Casts.{net_place, blk_place, calm_part, job_part}
 use Rattle.cast_core.specs.Sources.{first_serial, first_blk}
+use Rattle.cast_law.proofs.Calming.{job_view}
 use Rattle.cast_law.proofs.Numbers.{lessee_numbers, shipper_numbers, sharer_numbers, second_apart}
 
 -- of the clients of a virtualiser: its queues on each side, and that to the driver's side
@@ -231,5 +232,9 @@ module _ (plan : Plan) (trace : Trace) where
   apart_in BlkVirtualiser p is = subst ApartIn (some_is is) (asks_apart (first_blk plan) (blk_place plan trace).entries (blk_place plan trace).pools)
   apart_in (BlkClient c) p is = subst ApartIn (some_is is) tt
 
-  pub cast_apart : (job : Job) (x : Actor) → calm_part plan trace job ≡ Some (part_of x) → IsWhole x → HasApartEnds x
-  cast_apart job x is whole = apart_of x whole (apart_in job (part_of x) is)
+  pub cast_apart : (job : Job) (x : Actor) → job_part plan trace job ≡ Some (part_of x) → IsWhole x → HasApartEnds x
+  cast_apart job x is whole = apart_of x whole (by (job_view plan trace job (part_of x) is))
+    where
+      by : (calm_part plan trace job ≡ Some (part_of x)) ⊎ ((r : RoguePart) × (part_of x ≡ HostilePart r)) → ApartIn (part_of x)
+      by (inl calm) = apart_in job (part_of x) calm
+      by (inr (r, hostile)) = subst ApartIn (sym hostile) tt

@@ -18,7 +18,7 @@ use Rattle.cast_core.specs.Casts.{calm_part, client_pool, client_pools, job_part
 use Rattle.cast_core.specs.Hostile.{acts_at, blk_rogue_at, net_rogue_at, serial_rogue_at}
 use Rattle.cast_core.specs.Sources.{first_blk, first_serial}
 
-calm_job : (plan : Plan) (trace : Trace) (job : Job) (p : Part) → calm_part plan trace job ≡ Some p → manner_of p ≡ Calm
+pub calm_job : (plan : Plan) (trace : Trace) (job : Job) (p : Part) → calm_part plan trace job ≡ Some p → manner_of p ≡ Calm
 calm_job plan trace EthDevice p is = ap manner_of (some_is (sym is))
 calm_job plan trace EthDriver p is = ap manner_of (some_is (sym is))
 calm_job plan trace NetReceiver p is = ap manner_of (some_is (sym is))
@@ -71,6 +71,14 @@ job_view plan trace (BlkClient c) p is = by (is_blk_rogue plan c) is
     by : (b : Bool) → (if b then Some (HostilePart (blk_rogue_at (first_blk plan) c (client_pool plan c) (acts_at trace.blk_acts c))) else calm_part plan trace (BlkClient c)) ≡ Some p → (calm_part plan trace (BlkClient c) ≡ Some p) ⊎ ((r : RoguePart) × (p ≡ HostilePart r))
     by true e = inr (blk_rogue_at (first_blk plan) c (client_pool plan c) (acts_at trace.blk_acts c), sym (some_is e))
     by false e = inl e
+
+-- so it is that where its client isn't hostile, if it isn't a hostile client's
+pub job_calm : (plan : Plan) (trace : Trace) (job : Job) (p : Part) → ((r : RoguePart) → p ≡ HostilePart r → ⊥) → job_part plan trace job ≡ Some p → calm_part plan trace job ≡ Some p
+job_calm plan trace job p no is = by (job_view plan trace job p is)
+  where
+    by : (calm_part plan trace job ≡ Some p) ⊎ ((r : RoguePart) × (p ≡ HostilePart r)) → calm_part plan trace job ≡ Some p
+    by (inl calm) = calm
+    by (inr (r, hostile)) = absurd (no r hostile)
 
 -- an actor of this part is hostile, or isn't, as the part is
 pub hostile_there : (cast : List Part) (k : ℕ) (p : Part) → slice_get cast k ≡ Some p → hostiles cast k ≡ is_hostile (manner_of p)

@@ -12,8 +12,6 @@ use Rattle.actor_set.specs.Actors.{part_of}
 use Rattle.actor_set.specs.declared.actor.Actor.{Actor}
 use Rattle.actor_set.specs.Laws.Kinds.{scene_of}
 use Rattle.cast_core.specs.Casts.{net_place, blk_place, scene_for, AreCast}
-use Rattle.cast_core.specs.Hostile.{HasNoRogue}
-use Rattle.cast_core.proofs.HostileLemmas.{calm_cast}
 use Rattle.layout_laws.proofs.SeatsLemmas.Counts.{few_queues, few_numbers}
 use Rattle.wired_law.specs.Wiring.{HasWhole, HasBlk, HasNoBlock, IsWired}
 use Rattle.cast_law.specs.Seats.{AreSeated}
@@ -31,8 +29,8 @@ wired_is plan trace actors valid read cast = record { network = network_is plan 
     by None none = inl (no_block plan trace actors valid cast none)
     by (Some blk) is = inr (blk_place plan trace, whole_block plan trace actors valid read cast blk is)
 
-pub all_seated : (plan : Plan) (trace : Trace) (actors : List Actor) → Valid plan → IsReadFor plan trace → HasNoRogue plan → AreCast plan trace actors → AreSeated (queues_of plan) actors
-all_seated plan trace actors valid read none cast = seated plan trace actors valid (calm_cast plan trace actors none cast) (wired_is plan trace actors valid read cast) (few_queues plan valid) (few_numbers plan valid)
+pub all_seated : (plan : Plan) (trace : Trace) (actors : List Actor) → Valid plan → IsReadFor plan trace → AreCast plan trace actors → AreSeated (queues_of plan) actors
+all_seated plan trace actors valid read cast = seated plan trace actors valid cast (wired_is plan trace actors valid read cast) (few_queues plan valid) (few_numbers plan valid)
 
 pub whole_network : (plan : Plan) (trace : Trace) (actors : List Actor) → Valid plan → IsReadFor plan trace → AreCast plan trace actors → (net : Net) → plan.net ≡ Some net → HasWhole (queues_of plan) (net_place plan trace) (map part_of actors)
 whole_network plan trace actors valid read cast net is = whole_is plan trace actors valid cast net is read

@@ -19,7 +19,7 @@ use Rattle.actor_set.specs.declared.actor.Actor.{Actor}
 use Rattle.actor_set.proofs.LawsLemmas.Starts.{new_whole}
 use Rattle.layout_laws.specs.Jobs.Jobs.{Job, HasJob}
 use Rattle.layout_laws.proofs.JobsLemmas.Having.{same_job, job_below}
-use Rattle.cast_core.specs.Casts.{calm_part, IsCastBy, AreCastBy, AreCalmCast}
+use Rattle.cast_core.specs.Casts.{job_part, IsCastBy, AreCastBy, AreCast}
 use Rattle.layout_laws.proofs.SeatsLemmas.Having.{job_is_of}
 use Rattle.layout_laws.proofs.SeatsLemmas.Seats.{has_seat, has_end, not_both}
 use Rattle.wired_law.specs.Wiring.{IsWired}
@@ -36,10 +36,10 @@ part_there parts plan actors valid cast job k has =
     let c = cast.each k x.0 x.1 in
     map_get part_of actors k x.0 x.1 ∙ (sym c.part ∙ ap parts (same_job plan valid c.job job k c.has has))
 
-module _ (plan : Plan) (trace : Trace) (actors : List Actor) (valid : Valid plan) (cast : AreCalmCast plan trace actors) where
+module _ (plan : Plan) (trace : Trace) (actors : List Actor) (valid : Valid plan) (cast : AreCast plan trace actors) where
   -- the ends of an actor are those of its job
   module _ (k : ℕ) (x : Actor) (at : slice_get actors k ≡ Some x) where
-    abbrev own : IsCastBy (calm_part plan trace) plan k x
+    abbrev own : IsCastBy (job_part plan trace) plan k x
     own = cast.each k x at
 
     whole : IsWhole x

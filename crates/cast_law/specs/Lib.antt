@@ -1,6 +1,7 @@
--- Where the actors of a plan are seated (Seats), where its classes with pools stand (Places), their
+-- Which parts the actors of a plan play (Jobs), where they are seated (Seats), where its classes with pools stand (Places), their
 -- pools (Pools) with the lines of a report (PoolLines) and each of their buffers (Pages), and what
 -- runs over rings begin with (Runs) and leave (Gone).
+pub mod Jobs
 pub mod Seats
 pub mod Places
 pub mod Pools

@@ -35,16 +35,15 @@ pub mod quiet;
 pub mod runs;
 pub mod turns;
 
-/// The actors of a valid plan have each the part of their jobs. With a network class or a block
-/// class the cast has the whole class where the layout places it, but for clients at whose queues a
-/// hostile actor stands. The scene is what the trace gives the plan's classes. The classes with
-/// pools stand where the plan has them, no two pools of the block class have an address in common,
-/// and their pools are those of the layout, by their numbers and with their sizes. Where no client
-/// is hostile, they are seated at the layout's queues, and none of them is hostile.
+/// The actors of a valid plan have each the part of their jobs, and are seated at the layout's
+/// queues. With a network class or a block class the cast has the whole class where the layout
+/// places it, but for clients at whose queues a hostile actor stands. The scene is what the trace
+/// gives the plan's classes. The classes with pools stand where the plan has them, no two pools of
+/// the block class have an address in common, and their pools are those of the layout, by their
+/// numbers and with their sizes. Where no client is hostile, no actor is.
 pub fn cast_law()
     ensures seated { (plan : Plan) (trace : Trace) (actors : List Actor) → Valid plan
-        → IsReadFor plan trace → HasNoRogue plan → AreCast plan trace actors
-        → AreSeated (queues_of plan) actors }
+        → IsReadFor plan trace → AreCast plan trace actors → AreSeated (queues_of plan) actors }
     ensures calm { (plan : Plan) (trace : Trace) (actors : List Actor) → HasNoRogue plan
         → AreCast plan trace actors → AllCalm (map part_of actors) }
     ensures parts { (plan : Plan) (trace : Trace) (actors : List Actor) → Valid plan

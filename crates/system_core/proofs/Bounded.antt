@@ -23,6 +23,7 @@ use Rattle.actor_set.proofs.LawsLemmas.Calm.{calm_actor, sheet_is}
 use Rattle.wired_law.specs.Wiring.{HasWholeIn, HasBlkIn}
 use Rattle.cast_core.specs.Sources.{first_serial}
 use Rattle.cast_core.specs.Casts.{net_place, blk_place}
+use Rattle.cast_core.specs.Hostile.{HasNoRogue}
 use Rattle.cast_core.proofs.Seconds.{second_get, second_length}
 use Rattle.cast_bound.specs.PlayBound.Standing.{StandsFrom, Carries, serial_first}
 use Rattle.cast_bound.proofs.Blocks.{blk_within}
@@ -55,10 +56,10 @@ class_stands first count trace = record {
   client_tx = λ k q at. (second_get (first + 5) count k q at).1;
 }
 
-module _ (plan : Plan) (trace : Trace) (valid : Valid plan) (s : Shown) (cast : IsCastOf plan trace s.setting) (stands : StandsLawful s)
+module _ (plan : Plan) (trace : Trace) (valid : Valid plan) (none : HasNoRogue plan) (s : Shown) (cast : IsCastOf plan trace s.setting) (stands : StandsLawful s)
     (there : (serial : Serial) → plan.serial ≡ Some serial → IsSerial (There s.setting) (hostile_in s.setting) s.setting.rows (serial_class (first_serial plan) (length serial.client) trace)) where
   calm : AllCalm s.setting.cast
-  calm = cast_calm plan trace valid s.setting cast
+  calm = cast_calm plan trace valid none s.setting cast
 
   abbrev went : Moved
   went = moved_in s.setting s.journal

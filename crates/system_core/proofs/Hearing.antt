@@ -7,10 +7,11 @@ use Rattle.wire_core.specs.declared.names.Entry.{Entry}
 use Rattle.wire_core.specs.Journal.{History}
 use Rattle.wire_core.proofs.BellTheorem.{bells_hold, queues_flow}
 use Rattle.play_core.specs.Moved.{moved}
-use Rattle.play_core.specs.Names.{Noted}
+use Rattle.play_core.specs.Names.{Noted, told_by, wild_in}
 use Rattle.play_core.proofs.Lists.{map_alike}
 use Rattle.actor_set.specs.Actors.{part_of}
 use Rattle.actor_set.specs.declared.actor.Actor.{Actor}
+use Rattle.actor_set.specs.Laws.Kinds.{hostiles, scene_of}
 use Rattle.actor_set.specs.Laws.Records.{record_of, record_by}
 use Rattle.system_core.specs.Shows.{hostile_in}
 use Rattle.system_core.specs.States.{record_from, frames_from, replies_from}
@@ -22,8 +23,9 @@ use Rattle.std.proofs.lemmas.List.{length-map}
 use Rattle.system_core.proofs.Stepping.{runs_below}
 use Rattle.actor_set.proofs.LawsLemmas.Rows.{heard_here}
 use Rattle.system_core.proofs.RunsNow.{items_here}
-use Rattle.system_core.proofs.Recording.{records_at, wire_here, replies_at}
-use Rattle.system_core.proofs.Lining.{kinds_hold, pool_lines, pool_lines_anew, without_pools, buffers_told, nothing_bad}
+use Rattle.system_core.proofs.Recording.{blk_silent, net_silent, records_at, replies_at, sends_plain, wire_here}
+use Rattle.system_core.proofs.BadOnes.{bad_ones_told}
+use Rattle.system_core.proofs.Lining.{kinds_hold, lines_add, one_owner, pool_lines, pool_lines_anew, without_pools, buffers_told, nothing_bad}
 
 module _ (history : History) (rows : List QueueRow) (names : List Noted) (w : List Queue) (actors : List Actor) (journal : List Entry) (h : Holds history rows names w actors journal) where
   pub same_heard : (k : ℕ) → record_from actors k ≡ option_map_or (record_by (moved history journal)) (slice_get (map part_of actors) k) []
@@ -39,21 +41,28 @@ module _ (a : Inside) (i : IsSystem a) where
 
   told : IsTold (shown_of a)
   told = record {
+    passed = i.holds.passed;
+    items = items_here (setting_of a).history a.rows.items a.names.items a.wires.world a.actors.items a.journal.items i.holds;
     line = line a.serial.device;
     serial = map_alike (record_from a.actors.items) (record_at (shown_of a)) a.serial.clients (λ c k at. heard k);
     wire = wire a.net.device;
     net = length-map a.net.clients (frames_from a.actors.items);
     frames = λ net whole. record {
       records = records_at (setting_of a).history a.rows.items a.names.items a.wires.world a.actors.items a.journal.items i.holds net whole a.net.clients;
-      wire = λ calm. wire_here (setting_of a).history a.rows.items a.names.items a.wires.world a.actors.items a.journal.items i.holds calm net whole a.net.device;
+      wire = wire_here (setting_of a).history a.rows.items a.names.items a.wires.world a.actors.items a.journal.items i.holds net whole a.net.device;
+      plain = sends_plain (setting_of a).history a.rows.items a.names.items a.wires.world a.actors.items a.journal.items i.holds net whole;
     };
+    net_silent = net_silent (setting_of a).history a.rows.items a.names.items a.wires.world a.actors.items a.journal.items i.holds a.net.clients;
     blk = length-map a.blk.clients (replies_from a.actors.items);
     replies = λ blk whole. replies_at (setting_of a).history a.rows.items a.names.items a.wires.world a.actors.items a.journal.items i.holds blk whole a.blk.clients;
+    blk_silent = blk_silent (setting_of a).history a.rows.items a.names.items a.wires.world a.actors.items a.journal.items i.holds a.blk.clients;
     pools = pool_lines a i;
     pools_anew = pool_lines_anew a i;
     no_pools = without_pools a i;
+    adds = lines_add a i;
     buffers = buffers_told a i;
-    bad = nothing_bad a i;
+    bad = bad_ones_told (scene_of (map part_of a.actors.items)) (wild_in (hostiles (map part_of a.actors.items)) a.rows.items) (told_by a.names.items) a.actors.items i.holds.passed i.holds.in_turn i.holds.stands;
+    none_bad = nothing_bad a i;
   }
     where
       line : (device : Option ℕ) → option_map (record_from a.actors.items) device ≡ option_map (record_at (shown_of a)) device
@@ -83,6 +92,7 @@ module _ (a : Inside) (i : IsSystem a) where
       names_tell = i.names_tell;
       kinds = kinds_hold a i;
       brisk = i.brisk;
+      owners = one_owner a i;
     };
     told = told;
   }

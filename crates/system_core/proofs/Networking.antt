@@ -1,4 +1,4 @@
-use Rattle.std.proofs.Common.{◌≡◌, ◌+◌, ◌<◌, ℕ, Some, List, [], length, map, slice_get, sym, ap, ◌∙◌, subst, arith}
+use Rattle.std.proofs.Common.{◌≡◌, ◌+◌, ◌<◌, ℕ, Bool, true, false, Some, List, [], length, map, slice_get, refl, sym, ap, ◌∙◌, subst, arith}
 use Rattle.std.proofs.lemmas.List.{length-map}
 use Rattle.std.specs.Option.{option_map_or}
 use Rattle.cargo_core.specs.Lists.{IsPrefix, PrefixMerge}
@@ -7,46 +7,48 @@ use Rattle.sdf_plan.specs.declared.plan.Plan.{Plan}
 use Rattle.sdf_plan.specs.declared.plan.Net.{Net}
 use Rattle.sdf_plan.specs.declared.plan.NetClient.{NetClient as Client}
 use Rattle.trace_text.specs.declared.trace.Trace.{Trace}
-use Rattle.trace_text.specs.Events.{net_clients}
+use Rattle.trace_text.specs.Events.{net_clients, is_net_rogue}
 use Rattle.region_layout.specs.Rows.{eth_number}
 use Rattle.net_expect.specs.Expecting.{frames_for}
 use Rattle.net_law.specs.Owners.Names.{ClientPools}
 use Rattle.net_law.specs.Parts.Numbers.{client_first, device_at}
 use Rattle.net_law.proofs.WireLemmas.Telling.{told_long}
 use Rattle.net_law.specs.TxParts.Numbers.{NetPlace, own_pools}
-use Rattle.net_quiet.specs.TxCast.Casting.{sends_at, wire_at}
+use Rattle.net_quiet.specs.TxCast.Casting.{NoneHostile, sends_at, sends_beside, wire_beside}
 use Rattle.layout_laws.specs.Jobs.Jobs as jobs
+use Rattle.wire_core.specs.Queues.{items_of}
 use Rattle.play_core.specs.Sheets.{Scene}
 use Rattle.play_core.specs.Totals.{total}
 use Rattle.play_core.proofs.Lists.{map_get, there_is}
 use Rattle.play_core.proofs.Merges.{prefix_merge_whole}
 use Rattle.play_core.proofs.OneQueue.{whole_prefix}
 use Rattle.net_quiet.specs.Still.{ArrivesAll, SendsAll}
-use Rattle.actor_set.specs.Parts.{NetworkPart}
-use Rattle.actor_set.specs.Laws.Kinds.{AllCalm}
+use Rattle.actor_set.specs.Parts.{NetworkPart, HostilePart}
 use Rattle.wired_law.specs.Wiring.{HasWholeIn}
-use Rattle.cast_core.specs.Casts.{net_place, client_pools}
+use Rattle.cast_core.specs.Casts.{calm_part, job_part, net_place, client_pools}
+use Rattle.cast_core.specs.Hostile.{acts_at, net_rogue_at}
 use Rattle.cast_core.specs.Sources.{client_mac, client_program}
 use Rattle.cast_core.proofs.Listing.{value_count, value_at, value_is}
 use Rattle.layout_laws.specs.Seats.Named.{AreNetNamed}
 use Rattle.layout_laws.proofs.SeatsLemmas.Naming.{net_named}
-use Rattle.system_core.specs.Shows.{Crew, Shown, moved_in}
+use Rattle.system_core.specs.Shows.{Crew, Shown, moved_in, wild_by}
 use Rattle.system_core.specs.States.{crew_of, nobody}
 use Rattle.system_core.specs.Lawful.{IsTold, TellsFrames}
 use Rattle.system_core.specs.Crews.{number_named}
 use Rattle.system_core.specs.Builds.{IsCastOf}
+use Rattle.system_core.specs.GivesBack.{NetGivesBack}
 use Rattle.system_core.specs.PlanPlays.{ShowsFrames, ShowsAllFrames}
 use Rattle.system_core.proofs.Scripts.{nets}
 
 -- what is seen of the network class is what its frames bring
-module _ (plan : Plan) (net : Net) (trace : Trace) (s : Shown) (cast : IsCastOf plan trace s.setting) (has : plan.net ≡ Some net) (told : IsTold s) (calm : AllCalm s.setting.cast) where
+module _ (plan : Plan) (net : Net) (trace : Trace) (s : Shown) (cast : IsCastOf plan trace s.setting) (has : plan.net ≡ Some net) (told : IsTold s) where
   abbrev place : NetPlace
   place = net_place plan trace
 
   whole : HasWholeIn s.setting.scene s.setting.rows place s.setting.cast
   whole = cast.whole net has
 
-  tells : TellsFrames s place
+  tells : TellsFrames s told.passed place
   tells = told.frames place whole
 
   -- the scene has the frames that the trace gives its device
@@ -62,41 +64,76 @@ module _ (plan : Plan) (net : Net) (trace : Trace) (s : Shown) (cast : IsCastOf 
   many : length (net_clients plan) ≡ length net.client
   many = ap length (nets plan net has)
 
-  record_is : (c : ℕ) (mac : Mac) (got : List (List ℕ)) → slice_get place.macs c ≡ Some mac → slice_get s.state.net c ≡ Some got → IsPrefix got (frames_for mac trace.frames) × (length got ≡ length ((moved_in s.setting s.journal).taken (client_first 0 c + 2)))
-  record_is c mac got address at =
+  -- the client of a number, and its actor
+  client_is : (c : ℕ) → c < length (net_clients plan) → (k : ℕ) × (slice_get s.setting.net.clients c ≡ Some k) × (slice_get s.setting.cast k ≡ job_part plan trace (jobs.NetClient c))
+  client_is c below =
+      let client = there_is net.client c (omega (arith, below, many)) in (
+        number_named plan client.0.pd,
+        ap (λ (k : Crew). slice_get k.clients c) who ∙ map_get (λ (k : Client). number_named plan k.pd) net.client c client.0 client.1,
+        cast.parts (jobs.NetClient c) (number_named plan client.0.pd) (named.client c client.0 client.1),
+      )
+
+  -- one that isn't hostile recorded a beginning of the frames for its address
+  calm_record : (c : ℕ) (mac : Mac) (got : List (List ℕ)) → is_net_rogue plan c ≡ false → slice_get place.macs c ≡ Some mac → slice_get s.state.net c ≡ Some got → IsPrefix got (frames_for mac trace.frames) × (length got ≡ length ((moved_in s.setting s.journal).taken (client_first 0 c + 2)))
+  calm_record c mac got calm address at =
       let a = value_is (length (net_clients plan)) (client_mac plan) c mac address in
       let below : c < length (net_clients plan) = a.0 in
-      let client = there_is net.client c (omega (arith, below, many)) in
-      let number : slice_get s.setting.net.clients c ≡ Some (number_named plan client.0.pd) =
-      ap (λ (k : Crew). slice_get k.clients c) who ∙ map_get (λ (k : Client). number_named plan k.pd) net.client c client.0 client.1 in
-      let part = cast.parts (jobs.NetClient c) (number_named plan client.0.pd) (named.client c client.0 client.1) in
+      let client = client_is c below in
+      let part : slice_get s.setting.cast client.0 ≡ calm_part plan trace (jobs.NetClient c) = client.2 ∙ calm_client c calm in
       let some = whole.some c (client_pools plan c) (value_at (length (net_clients plan)) (client_pools plan) c below) in
-      let is = tells.records c (number_named plan client.0.pd) c (client_program plan trace c) (client_mac plan c) (own_pools (client_pools plan c)) got number part some (value_at (length (net_clients plan)) (client_mac plan) c below) at in
+      let is = tells.records c client.0 c (client_program plan trace c) (client_mac plan c) (own_pools (client_pools plan c)) got client.1 part some (value_at (length (net_clients plan)) (client_mac plan) c below) at in
       (subst (λ m. IsPrefix got (frames_for m trace.frames)) (sym a.1) (subst (λ fs. IsPrefix got (frames_for (client_mac plan c) fs)) frames is.0), is.1)
+    where
+      calm_client : (c : ℕ) → is_net_rogue plan c ≡ false → job_part plan trace (jobs.NetClient c) ≡ calm_part plan trace (jobs.NetClient c)
+      calm_client c calm = rw calm refl
 
-  -- the frames that the journal tells of the wire
+  -- and a hostile one nothing
+  hostile_record : (c : ℕ) (mac : Mac) (got : List (List ℕ)) → is_net_rogue plan c ≡ true → slice_get place.macs c ≡ Some mac → slice_get s.state.net c ≡ Some got → got ≡ []
+  hostile_record c mac got hostile address at =
+      let a = value_is (length (net_clients plan)) (client_mac plan) c mac address in
+      let client = client_is c a.0 in
+      told.net_silent c client.0 (net_rogue_at 0 c (client_pools plan c) (acts_at trace.net_acts c)) got client.1 (client.2 ∙ hostile_client c hostile) at
+    where
+      hostile_client : (c : ℕ) → is_net_rogue plan c ≡ true → job_part plan trace (jobs.NetClient c) ≡ Some (HostilePart (net_rogue_at 0 c (client_pools plan c) (acts_at trace.net_acts c)))
+      hostile_client c hostile = rw hostile refl
+
+  record_begins : (c : ℕ) (mac : Mac) (got : List (List ℕ)) → slice_get place.macs c ≡ Some mac → slice_get s.state.net c ≡ Some got → IsPrefix got (frames_for mac trace.frames)
+  record_begins c mac got address at = by (is_net_rogue plan c) refl
+    where
+      by : (b : Bool) → is_net_rogue plan c ≡ b → IsPrefix got (frames_for mac trace.frames)
+      by true hostile = subst (λ xs. IsPrefix xs (frames_for mac trace.frames)) (sym (hostile_record c mac got hostile address at)) (frames_for mac trace.frames, refl)
+      by false calm = (calm_record c mac got calm address at).0
+
+  -- the frames that the entries tell of the wire
   abbrev sent : List (List ℕ)
-  sent = wire_at place trace.frames ((moved_in s.setting s.journal).taken 2)
+  sent = wire_beside (wild_by s.setting) place trace.frames told.passed
 
-  wire_is : (s.state.wire ≡ Some sent) × PrefixMerge (sends_at place.programs place.macs trace.frames) sent
+  abbrev sends : List (List ℕ) → List (List (List ℕ))
+  sends fs = sends_beside (wild_by s.setting) place fs told.passed
+
+  wire_is : (s.state.wire ≡ Some sent) × PrefixMerge (sends trace.frames) sent
   wire_is =
       let part = cast.parts jobs.EthDevice (eth_number plan).0 named.device in
-      let w = tells.wire calm (eth_number plan).0 (ap (λ (c : Crew). c.device) who) (part ∙ ap (λ fs. Some (NetworkPart (device_at 0 fs))) (sym frames)) in
-      (w.0 ∙ ap (λ fs. Some (wire_at place fs ((moved_in s.setting s.journal).taken 2))) frames, subst (λ fs. PrefixMerge (sends_at place.programs place.macs fs) (wire_at place fs ((moved_in s.setting s.journal).taken 2))) frames w.1)
+      let w = tells.wire (eth_number plan).0 (ap (λ (c : Crew). c.device) who) (part ∙ ap (λ fs. Some (NetworkPart (device_at 0 fs))) (sym frames)) in
+      subst (λ fs. (s.state.wire ≡ Some (wire_beside (wild_by s.setting) place fs told.passed)) × PrefixMerge (sends fs) (wire_beside (wild_by s.setting) place fs told.passed)) frames w
 
-  pub shows_frames : ShowsFrames place trace.frames (moved_in s.setting s.journal) s.state
+  -- where none of them is hostile, all clients send by their programs
+  pub sends_are : NoneHostile (wild_by s.setting) place → sends trace.frames ≡ sends_at place.programs place.macs trace.frames
+  sends_are none = subst (λ fs. sends fs ≡ sends_at place.programs place.macs fs) frames (tells.plain none)
+
+  pub shows_frames : ShowsFrames (wild_by s.setting) place trace.frames told.passed s.state
   shows_frames = record {
     count_is = told.net ∙ (ap (λ (c : Crew). length c.clients) who ∙ (length-map net.client (λ (k : Client). number_named plan k.pd) ∙ (sym many ∙ sym (value_count (length (net_clients plan)) (client_mac plan)))));
-    records = λ c mac got address at. (record_is c mac got address at).0;
+    records = record_begins;
     wire = wire_is.0;
     merges = wire_is.1;
   }
 
-  -- where all frames went through, all are seen
-  module _ (arrives : ArrivesAll s.setting.scene place (moved_in s.setting s.journal)) (sends : SendsAll s.setting.scene place (moved_in s.setting s.journal)) where
+  -- where no client of the network is hostile and all frames went through, all are seen
+  module _ (none : NoneHostile (wild_by s.setting) place) (gives : NetGivesBack plan) (arrives : ArrivesAll s.setting.scene place (moved_in s.setting s.journal)) (sends_all : SendsAll s.setting.scene place (moved_in s.setting s.journal)) where
     record_whole : (c : ℕ) (mac : Mac) (got : List (List ℕ)) → slice_get place.macs c ≡ Some mac → slice_get s.state.net c ≡ Some got → got ≡ frames_for mac trace.frames
     record_whole c mac got address at =
-        let is = record_is c mac got address at in
+        let is = calm_record c mac got (gives c) address at in
         let all = arrives.got c mac address in
         let same = ap (λ fs. length (frames_for mac fs)) frames in
         let long = is.1 in
@@ -108,9 +145,10 @@ module _ (plan : Plan) (net : Net) (trace : Trace) (s : Shown) (cast : IsCastOf 
       wire = (
         sent,
         wire_is.0,
-        (let all = sends.wire in
+        (let all = sends_all.wire in
             let same = ap (λ fs. total (sends_at place.programs place.macs fs)) frames in
-            let long : length sent ≡ length ((moved_in s.setting s.journal).taken 2) = told_long (map (λ (q : ClientPools). q.tx) place.pools) (sends_at place.programs place.macs trace.frames) [] ((moved_in s.setting s.journal).taken 2) in
-            prefix_merge_whole (sends_at place.programs place.macs trace.frames) sent wire_is.1 (omega (arith, long, all, same))),
+            let long : length sent ≡ length (items_of (told.passed.taken 2)) = told_long (map (λ (q : ClientPools). q.tx) place.pools) (sends trace.frames) [] (items_of (told.passed.taken 2)) in
+            let took : length (items_of (told.passed.taken 2)) ≡ length ((moved_in s.setting s.journal).taken 2) = ap length (told.items.taken 2) in
+            prefix_merge_whole (sends_at place.programs place.macs trace.frames) sent (subst (λ l. PrefixMerge l sent) (sends_are none) wire_is.1) (omega (arith, long, took, all, same))),
       );
     }

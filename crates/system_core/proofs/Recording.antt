@@ -1,4 +1,4 @@
-use Rattle.std.proofs.Common.{◌≡◌, ◌≤◌, ◌+◌, ◌*◌, ℕ, Option, Some, List, [], length, map, slice_get, sym, ap, ◌∙◌, subst, arith, inl, inr}
+use Rattle.std.proofs.Common.{◌≡◌, ◌≤◌, ◌+◌, ◌*◌, ℕ, Option, Some, List, [], length, map, slice_get, refl, sym, ap, ◌∙◌, subst, arith, inl, inr}
 use Rattle.std.proofs.lemmas.List.{length-map}
 use Rattle.std.specs.Option.{option_map, option_map_or}
 use Rattle.cargo_core.specs.Lists.{IsPrefix, PrefixMerge}
@@ -19,19 +19,19 @@ use Rattle.net_law.specs.Owners.Names.{ClientPools}
 use Rattle.owner_law.specs.Pools.Places.{PoolAt, own_pool}
 use Rattle.net_law.specs.Parts.Numbers.{client_first, device_at, client_at}
 use Rattle.net_law.specs.TxParts.Numbers.{NetPlace}
-use Rattle.net_quiet.specs.TxCast.Casting.{sends_at, wire_at}
-use Rattle.actor_set.specs.Parts.{Part, NetworkPart, BlockPart}
+use Rattle.net_quiet.specs.TxCast.Casting.{NoneHostile, sends_at, sends_beside, wire_beside}
+use Rattle.actor_set.specs.Parts.{Part, RoguePart, NetworkPart, BlockPart, HostilePart}
 use Rattle.actor_set.specs.Actors.{part_of}
 use Rattle.actor_set.specs.declared.actor.Actor.{Actor}
 use Rattle.actor_set.specs.declared.actor.Actor.TheVariants as Kinds
-use Rattle.actor_set.specs.Laws.Kinds.{AllCalm, hostiles, scene_of}
+use Rattle.actor_set.specs.Laws.Kinds.{hostiles, scene_of}
 use Rattle.actor_set.specs.Laws.Scenes.{ToldInTurn}
 use Rattle.actor_set.specs.Laws.Turning.{InTurn}
 use Rattle.actor_set.specs.Laws.Records.{frames_got, frames_by, replies_got, replies_by}
 use Rattle.actor_set.proofs.LawsLemmas.Rows.{frames_here, replies_here}
 use Rattle.client_programs.proofs.BlkLemmas.Asks.{replies_long}
 use Rattle.wired_law.specs.Wiring.{HasWhole, HasBlk, AreAtWork, IsOfNetwork}
-use Rattle.wired_law.proofs.Wiring.{recorded, sent_on, sent_told}
+use Rattle.wired_law.proofs.Wiring.{recorded, sends_calm_here, sent_beside, told_beside}
 use Rattle.wired_law.proofs.BlkReplies.Casts.{replied}
 use Rattle.play_core.specs.Moved.{taken}
 use Rattle.play_core.specs.Names.{Names, Noted, Wild, told_by, wild_in}
@@ -72,6 +72,25 @@ client_turn scene wild names passed (Kinds.BlkVirt x) first j asks pool is turn 
 client_turn scene wild names passed (Kinds.BlkClient x) first j asks pool is turn = turn
 client_turn scene wild names passed (Kinds.Rogue x) first j asks pool is turn = turn
 
+-- a hostile actor got no replies
+no_replies : (x : Actor) (p : RoguePart) → part_of x ≡ HostilePart p → replies_got x ≡ []
+no_replies (Kinds.UartDevice x) p is = refl
+no_replies (Kinds.UartDriver x) p is = refl
+no_replies (Kinds.SerialVirtRx x) p is = refl
+no_replies (Kinds.SerialVirtTx x) p is = refl
+no_replies (Kinds.SerialClient x) p is = refl
+no_replies (Kinds.EthDevice x) p is = refl
+no_replies (Kinds.EthDriver x) p is = refl
+no_replies (Kinds.NetVirtRx x) p is = refl
+no_replies (Kinds.NetCopier x) p is = refl
+no_replies (Kinds.NetClient x) p is = refl
+no_replies (Kinds.NetVirtTx x) p is = refl
+no_replies (Kinds.DiskDevice x) p is = refl
+no_replies (Kinds.BlkDriver x) p is = refl
+no_replies (Kinds.BlkVirt x) p is = refl
+no_replies (Kinds.BlkClient x) p is = absurd cc
+no_replies (Kinds.Rogue x) p is = refl
+
 module _ (history : History) (rows : List QueueRow) (names : List Noted) (w : List Queue) (actors : List Actor) (journal : List Entry) (h : Holds history rows names w actors journal) where
   work : AreAtWork (end_at w) rows actors h.passed
   work = at_work history rows names w actors journal h
@@ -97,15 +116,40 @@ module _ (history : History) (rows : List QueueRow) (names : List Noted) (w : Li
       let long = shown_long x.0 (client_first net.first j + 2) (frames_here h.passed x.0 (h.stands k x.0 x.1) ∙ ap (frames_by h.passed) x.2) in
       subst (λ g. IsPrefix g (frames_for mac (scene_of (map part_of actors)).frames) × (length g ≡ length (taken history (client_first net.first j + 2) journal))) is (begun, long)
 
+  abbrev wild : Wild
+  wild = wild_in (hostiles (map part_of actors)) rows
+
+  abbrev frames : List (List ℕ)
+  frames = (scene_of (map part_of actors)).frames
+
   -- what the device sent
-  pub wire_here : AllCalm (map part_of actors) → (net : NetPlace) → HasWhole rows net (map part_of actors) → (device : Option ℕ) (k : ℕ) → device ≡ Some k → slice_get (map part_of actors) k ≡ Some (NetworkPart (device_at net.first (scene_of (map part_of actors)).frames))
-      → (option_map (frames_from actors) device ≡ Some (wire_at net (scene_of (map part_of actors)).frames (taken history (net.first + 2) journal))) × PrefixMerge (sends_at net.programs net.macs (scene_of (map part_of actors)).frames) (wire_at net (scene_of (map part_of actors)).frames (taken history (net.first + 2) journal))
-  wire_here calm net whole device k is part =
-      let x = map_from part_of actors k (NetworkPart (device_at net.first (scene_of (map part_of actors)).frames)) part in
-      let told : frames_got x.0 ≡ wire_at net (scene_of (map part_of actors)).frames (taken history (net.first + 2) journal) = sent_told (end_at w) rows actors h.passed net calm whole work h.sends k x.0 x.1 x.2 ∙ ap (wire_at net (scene_of (map part_of actors)).frames) (h.shows_taken (net.first + 2)) in (
+  pub wire_here : (net : NetPlace) → HasWhole rows net (map part_of actors) → (device : Option ℕ) (k : ℕ) → device ≡ Some k → slice_get (map part_of actors) k ≡ Some (NetworkPart (device_at net.first frames))
+      → (option_map (frames_from actors) device ≡ Some (wire_beside wild net frames h.passed)) × PrefixMerge (sends_beside wild net frames h.passed) (wire_beside wild net frames h.passed)
+  wire_here net whole device k is part =
+      let x = map_from part_of actors k (NetworkPart (device_at net.first frames)) part in
+      let told : frames_got x.0 ≡ wire_beside wild net frames h.passed = told_beside (end_at w) rows actors h.passed net whole work h.sends k x.0 x.1 x.2 in (
         ap (option_map (frames_from actors)) is ∙ ap Some (ap (λ o. option_map_or frames_got o []) x.1 ∙ told),
-        subst (PrefixMerge (sends_at net.programs net.macs (scene_of (map part_of actors)).frames)) told (sent_on (end_at w) rows actors h.passed net calm whole work h.sends k x.0 x.1 x.2),
+        subst (PrefixMerge (sends_beside wild net frames h.passed)) told (sent_beside (end_at w) rows actors h.passed net whole work h.sends k x.0 x.1 x.2),
       )
+
+  -- where no client of the network is hostile, each sends by its program
+  pub sends_plain : (net : NetPlace) → HasWhole rows net (map part_of actors) → NoneHostile wild net → sends_beside wild net frames h.passed ≡ sends_at net.programs net.macs frames
+  sends_plain net whole none = sends_calm_here (scene_of (map part_of actors)) (end_at w) rows actors h.passed work net whole none
+
+  -- a hostile actor recorded nothing
+  pub net_silent : (numbers : List ℕ) (c k : ℕ) (p : RoguePart) (got : List (List ℕ)) → slice_get numbers c ≡ Some k → slice_get (map part_of actors) k ≡ Some (HostilePart p) → slice_get (map (frames_from actors) numbers) c ≡ Some got → got ≡ []
+  net_silent numbers c k p got number part at =
+      let x = map_from part_of actors k (HostilePart p) part in
+      let m = map_from (frames_from actors) numbers c got at in
+      let same : m.0 ≡ k = some_is (sym m.1 ∙ number) in
+      sym m.2 ∙ (ap (frames_from actors) same ∙ (ap (λ o. option_map_or frames_got o []) x.1 ∙ (frames_here h.passed x.0 (h.stands k x.0 x.1) ∙ ap (frames_by h.passed) x.2)))
+
+  pub blk_silent : (numbers : List ℕ) (c k : ℕ) (p : RoguePart) (got : List Reply) → slice_get numbers c ≡ Some k → slice_get (map part_of actors) k ≡ Some (HostilePart p) → slice_get (map (replies_from actors) numbers) c ≡ Some got → got ≡ []
+  blk_silent numbers c k p got number part at =
+      let x = map_from part_of actors k (HostilePart p) part in
+      let m = map_from (replies_from actors) numbers c got at in
+      let same : m.0 ≡ k = some_is (sym m.1 ∙ number) in
+      sym m.2 ∙ (ap (replies_from actors) same ∙ (ap (λ o. option_map_or replies_got o []) x.1 ∙ no_replies x.0 p x.2))
 
   -- a reply was recorded for each response that was taken
   replies_long_here : (x : Actor) (k first j : ℕ) (asks : List Ask) (pool : PoolAt) → slice_get actors k ≡ Some x → part_of x ≡ BlockPart (blk_client_at first j asks pool) → length (taken history (first + 5 + 2 * j) journal) ≤ length asks → length (replies_got x) ≡ length (taken history (first + 5 + 2 * j) journal)

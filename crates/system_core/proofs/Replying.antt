@@ -1,4 +1,4 @@
-use Rattle.std.proofs.Common.{◌≡◌, ◌<◌, ◌≤◌, ◌+◌, ◌*◌, ℕ, Some, List, length, map, slice_get, sym, ap, ◌∙◌, arith}
+use Rattle.std.proofs.Common.{◌≡◌, ◌<◌, ◌≤◌, ◌+◌, ◌*◌, ℕ, Bool, true, false, Some, List, [], length, map, slice_get, refl, sym, ap, ◌∙◌, subst, arith}
 use Rattle.std.proofs.lemmas.List.{length-map}
 use Rattle.std.specs.Option.{option_map_or}
 use Rattle.cargo_core.specs.Lists.{IsPrefix}
@@ -8,14 +8,16 @@ use Rattle.sdf_plan.specs.declared.plan.Plan.{Plan}
 use Rattle.sdf_plan.specs.declared.plan.Blk.{Blk}
 use Rattle.sdf_plan.specs.declared.plan.BlkClient.{BlkClient as Client}
 use Rattle.trace_text.specs.declared.trace.Trace.{Trace}
-use Rattle.trace_text.specs.Events.{blk_clients}
+use Rattle.trace_text.specs.Events.{blk_clients, is_blk_rogue}
 use Rattle.region_layout.specs.Rows.{disk_number}
 use Rattle.blk_expect.specs.Replies.{replies_of}
 use Rattle.blk_law.specs.Sheets.Numbers.{BlkPlace, blk_client_at}
 use Rattle.layout_laws.specs.Jobs.Jobs as jobs
 use Rattle.play_core.proofs.Lists.{map_get, there_is}
-use Rattle.actor_set.specs.Parts.{BlockPart}
-use Rattle.cast_core.specs.Casts.{blk_place, client_pool}
+use Rattle.actor_set.specs.Parts.{BlockPart, HostilePart}
+use Rattle.cast_core.specs.Casts.{blk_place, calm_part, client_pool, job_part}
+use Rattle.cast_core.specs.Hostile.{acts_at, blk_rogue_at}
+use Rattle.cast_core.specs.Sources.{first_blk}
 use Rattle.expect_core.specs.Expected.{client_asks, client_entry}
 use Rattle.cast_core.proofs.Listing.{value_count, value_is}
 use Rattle.wired_law.proofs.QuietLemmas.Answering.{replies_whole}
@@ -26,6 +28,7 @@ use Rattle.system_core.specs.States.{crew_of, nobody}
 use Rattle.system_core.specs.Lawful.{IsTold, TellsReplies}
 use Rattle.system_core.specs.Crews.{number_named}
 use Rattle.system_core.specs.Builds.{IsCastOf}
+use Rattle.system_core.specs.GivesBack.{BlkGivesBack}
 use Rattle.system_core.specs.PlanPlays.{ShowsReplies, ShowsAllReplies}
 use Rattle.system_core.proofs.Scripts.{blks}
 
@@ -46,28 +49,54 @@ module _ (plan : Plan) (blk : Blk) (trace : Trace) (s : Shown) (cast : IsCastOf 
   many : length (blk_clients plan) ≡ length blk.client
   many = ap length (blks plan blk has)
 
-  record_is : (c entry : ℕ) (asks : List Ask) (got : List Reply) → slice_get place.entries c ≡ Some entry → slice_get place.asks c ≡ Some asks → slice_get s.state.blk c ≡ Some got
+  -- the client of a number, and its actor
+  client_is : (c : ℕ) → c < length (blk_clients plan) → (k : ℕ) × (slice_get s.setting.blk.clients c ≡ Some k) × (slice_get s.setting.cast k ≡ job_part plan trace (jobs.BlkClient c))
+  client_is c below =
+      let client = there_is blk.client c (omega (arith, below, many)) in (
+        number_named plan client.0.pd,
+        ap (λ (k : Crew). slice_get k.clients c) who ∙ map_get (λ (k : Client). number_named plan k.pd) blk.client c client.0 client.1,
+        cast.parts (jobs.BlkClient c) (number_named plan client.0.pd) (named.client c client.0 client.1),
+      )
+
+  -- one that isn't hostile recorded a beginning of its replies
+  calm_record : (c entry : ℕ) (asks : List Ask) (got : List Reply) → is_blk_rogue plan c ≡ false → slice_get place.entries c ≡ Some entry → slice_get place.asks c ≡ Some asks → slice_get s.state.blk c ≡ Some got
       → IsPrefix got (replies_of place.image entry asks) × (length ((moved_in s.setting s.journal).taken (place.first + 5 + 2 * c)) ≤ length asks → length got ≡ length ((moved_in s.setting s.journal).taken (place.first + 5 + 2 * c)))
-  record_is c entry asks got of its at =
+  calm_record c entry asks got calm of its at =
       let a = value_is (length (blk_clients plan)) (client_asks trace) c asks its in
-      let below : c < length (blk_clients plan) = a.0 in
-      let client = there_is blk.client c (omega (arith, below, many)) in
-      let number : slice_get s.setting.blk.clients c ≡ Some (number_named plan client.0.pd) =
-      ap (λ (k : Crew). slice_get k.clients c) who ∙ map_get (λ (k : Client). number_named plan k.pd) blk.client c client.0 client.1 in
-      let part = cast.parts (jobs.BlkClient c) (number_named plan client.0.pd) (named.client c client.0 client.1) in
-      tells c (number_named plan client.0.pd) c asks (client_pool plan c) entry got number (part ∙ ap (λ xs. Some (BlockPart (blk_client_at place.first c xs (client_pool plan c)))) (sym a.1)) of its at
+      let client = client_is c a.0 in
+      tells c client.0 c asks (client_pool plan c) entry got client.1 (client.2 ∙ (calm_client c calm ∙ ap (λ xs. Some (BlockPart (blk_client_at place.first c xs (client_pool plan c)))) (sym a.1))) of its at
+    where
+      calm_client : (c : ℕ) → is_blk_rogue plan c ≡ false → job_part plan trace (jobs.BlkClient c) ≡ calm_part plan trace (jobs.BlkClient c)
+      calm_client c calm = rw calm refl
+
+  -- and a hostile one nothing
+  hostile_record : (c : ℕ) (asks : List Ask) (got : List Reply) → is_blk_rogue plan c ≡ true → slice_get place.asks c ≡ Some asks → slice_get s.state.blk c ≡ Some got → got ≡ []
+  hostile_record c asks got hostile its at =
+      let a = value_is (length (blk_clients plan)) (client_asks trace) c asks its in
+      let client = client_is c a.0 in
+      told.blk_silent c client.0 (blk_rogue_at (first_blk plan) c (client_pool plan c) (acts_at trace.blk_acts c)) got client.1 (client.2 ∙ hostile_client c hostile) at
+    where
+      hostile_client : (c : ℕ) → is_blk_rogue plan c ≡ true → job_part plan trace (jobs.BlkClient c) ≡ Some (HostilePart (blk_rogue_at (first_blk plan) c (client_pool plan c) (acts_at trace.blk_acts c)))
+      hostile_client c hostile = rw hostile refl
+
+  record_begins : (c entry : ℕ) (asks : List Ask) (got : List Reply) → slice_get place.entries c ≡ Some entry → slice_get place.asks c ≡ Some asks → slice_get s.state.blk c ≡ Some got → IsPrefix got (replies_of place.image entry asks)
+  record_begins c entry asks got of its at = by (is_blk_rogue plan c) refl
+    where
+      by : (b : Bool) → is_blk_rogue plan c ≡ b → IsPrefix got (replies_of place.image entry asks)
+      by true hostile = subst (λ xs. IsPrefix xs (replies_of place.image entry asks)) (sym (hostile_record c asks got hostile its at)) (replies_of place.image entry asks, refl)
+      by false calm = (calm_record c entry asks got calm of its at).0
 
   pub shows_replies : ShowsReplies place s.state
   shows_replies = record {
     count_is = told.blk ∙ (ap (λ (c : Crew). length c.clients) who ∙ (length-map blk.client (λ (k : Client). number_named plan k.pd) ∙ (sym many ∙ sym (value_count (length (blk_clients plan)) (client_entry plan)))));
-    records = λ c entry asks got of its at. (record_is c entry asks got of its at).0;
+    records = record_begins;
   }
 
-  -- where each client took a response to each of its requests, all replies are seen
-  pub shows_all_replies : ((c : ℕ) (asks : List Ask) → slice_get place.asks c ≡ Some asks → length ((moved_in s.setting s.journal).taken (place.first + 5 + 2 * c)) ≡ length asks) → ShowsAllReplies place s.state
-  shows_all_replies answered = record {
+  -- where no client is hostile and each took a response to each of its requests, all replies are seen
+  pub shows_all_replies : BlkGivesBack plan → ((c : ℕ) (asks : List Ask) → slice_get place.asks c ≡ Some asks → length ((moved_in s.setting s.journal).taken (place.first + 5 + 2 * c)) ≡ length asks) → ShowsAllReplies place s.state
+  shows_all_replies gives answered = record {
     records = λ c entry asks got of its at.
-        let is = record_is c entry asks got of its at in
+        let is = calm_record c entry asks got (gives c) of its at in
         let all = answered c asks its in
         let long = is.1 (omega (arith, all)) in
         replies_whole place.image entry asks got is.0 (omega (arith, all, long));

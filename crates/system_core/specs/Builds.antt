@@ -11,6 +11,8 @@ use Rattle.layout_laws.specs.Jobs.Jobs.{Job, HasJob}
 use Rattle.wired_law.specs.Wiring.{HasWholeIn, HasBlkIn}
 use Rattle.cast_core.specs.Casts.{job_part, net_place, blk_place, scene_for}
 use Rattle.cast_core.specs.Sources.{every_second}
+use Rattle.cast_law.specs.Places.{pool_place}
+use Rattle.cast_law.specs.Pools.Rogues.{HasRogues}
 use Rattle.system_core.specs.Shows.{Setting, Shown}
 use Rattle.system_core.specs.Crews.{net_crew, serial_crew, blk_crew}
 
@@ -44,6 +46,8 @@ pub record IsCastOf (plan : Plan) (trace : Trace) (s : Setting) : Type 0 where
       → HasWholeIn s.scene s.rows (net_place plan trace) s.cast
   pub whole_block : (blk : Blk) → plan.blk ≡ Some blk
       → HasBlkIn s.scene s.rows (blk_place plan trace) s.cast
+  -- and hostile clients stand at the queues of clients of theirs
+  pub rogues : HasRogues s.rows (pool_place plan trace).net (pool_place plan trace).blk s.cast
   -- the devices and the clients are those of the plan
   pub net : s.net ≡ net_crew plan
   pub serial : s.serial ≡ serial_crew plan

@@ -6,9 +6,11 @@ use Rattle.std.specs.Option.{option_map, option_map_or}
 use Rattle.wire_core.specs.declared.names.QueueRow.{QueueRow}
 use Rattle.wire_core.specs.declared.names.Entry.{Entry}
 use Rattle.wire_core.specs.Journal.{LegalJournal, EachMoment, BellsHold, QueuesFlow, start_history}
+use Rattle.wire_core.specs.Lists.{Passed}
 use Rattle.wire_core.specs.Marks.{no_drops, Brisk}
 use Rattle.cargo_core.specs.Capacities.{IsCapacity}
 use Rattle.cargo_core.specs.Lists.{IsPrefix, PrefixMerge}
+use Rattle.cargo_core.specs.declared.census.Census.{Census}
 use Rattle.cargo_core.specs.declared.item.Ask.{Ask}
 use Rattle.cargo_core.specs.declared.item.Reply.{Reply}
 use Rattle.blk_expect.specs.Replies.{replies_of}
@@ -20,22 +22,26 @@ use Rattle.net_law.specs.Owners.Names.{ClientPools}
 use Rattle.owner_law.specs.Pools.Places.{PoolAt}
 use Rattle.net_law.specs.Parts.Numbers.{client_first, device_at, client_at}
 use Rattle.net_law.specs.TxParts.Numbers.{NetPlace}
-use Rattle.net_quiet.specs.TxCast.Casting.{sends_at, wire_at}
+use Rattle.net_quiet.specs.TxCast.Casting.{NoneHostile, sends_at, sends_beside, wire_beside}
 use Rattle.play_core.specs.Moved.{Seat}
+use Rattle.play_core.specs.Rests.Showing.{HaveItems}
 use Rattle.play_core.specs.Sheets.{AreSeated, IsSeat}
 use Rattle.play_core.specs.Still.{IsPeopled}
-use Rattle.owner_law.specs.Owners.{Table, replay}
+use Rattle.owner_law.specs.Owners.{OneOwner, Table, replay}
 use Rattle.owner_law.specs.Keeping.{start_table}
 use Rattle.cast_law.specs.PoolLines.PoolLines.{table_lines}
-use Rattle.actor_set.specs.Parts.{Part, NetworkPart, BlockPart}
+use Rattle.actor_set.specs.Parts.{Part, RoguePart, NetworkPart, BlockPart, HostilePart}
 use Rattle.actor_set.specs.Laws.Kinds.{AllCalm, scene_of, sheet}
 use Rattle.actor_set.specs.Laws.Records.{record_by}
 use Rattle.wired_law.specs.Wiring.{HasWholeIn, HasNoNetwork, HasBlkIn, HasNoBlock, IsWiredIn}
 use Rattle.cast_law.specs.Pages.Paging.{part_pools, pools_weigh}
 use Rattle.cast_law.specs.Pools.Places.{PoolPlace, IsPlaced, HasPools, ArePooled, cast_naming}
 use Rattle.cast_law.specs.Pools.Places.{place_sizes}
-use Rattle.cast_law.specs.Pools.Pooling.{keepers_at, BeginsWith, HasOwners, AreKindly}
-use Rattle.system_core.specs.Shows.{Setting, Shown, hostile_in, moved_in, NamesTell, RowsStand}
+use Rattle.cast_law.specs.Pools.Owning.{BeginsBeside, HasOwnersBeside, owner_naming}
+use Rattle.cast_law.specs.Pools.Pooling.{keepers_at, BeginsWith, AreKindly}
+use Rattle.system_core.specs.BadOnes.{bad_among}
+use Rattle.system_core.specs.Shows.{Crew, Setting, Shown, hostile_in, wild_by, moved_in}
+use Rattle.system_core.specs.Shows.{NamesTell, RowsStand}
 
 -- the rows and the actors fit one another
 pub record IsFitted (s : Setting) : Type 0 where
@@ -56,12 +62,12 @@ pub record IsFitted (s : Setting) : Type 0 where
   -- the actors of the network, if there are any, are the whole class at the layout's queues, and so
   -- are those of the block class
   pub wired : IsWiredIn s.scene s.rows s.cast
-  -- its pools are those of these classes, where it has them, and none else; and where nobody is
-  -- hostile, what was put and taken before the journal begins shows a table of owners, in which
-  -- each of their buffers has its place
+  -- its pools are those of these classes, where it has them, and none else; and what was put and
+  -- taken before the journal begins shows a table of owners, in which each buffer of a pool that
+  -- isn't a hostile client's has its place
   pub pooled : ArePooled s.rows s.pools s.cast
-  pub owners : AllCalm s.cast → (place : PoolPlace) → IsPlaced s.rows place s.cast
-      → HasPools s.pools place → HasOwners s.history s.rows place s.cast
+  pub owners : (place : PoolPlace) → IsPlaced s.rows place s.cast → HasPools s.pools place
+      → HasOwnersBeside s.history s.rows place s.cast
   -- each queue has a number of 16 bits
   pub numbered : length s.rows ≤ 65536
   -- and can hold an entry
@@ -69,8 +75,9 @@ pub record IsFitted (s : Setting) : Type 0 where
 
 -- each queue hands over what was put, once and in order, each call is in discipline, at each moment
 -- bells, queues and rows hold, names tell what rows and needs ask, and queues have what is of their
--- kind; and between two marks no actor makes more than 8 calls on an end, but a hostile one or one
--- that has a queue with a hostile end
+-- kind; between two marks no actor makes more than 8 calls on an end, but a hostile one or one that
+-- has a queue with a hostile end; and each move of a buffer of a pool that isn't a hostile client's
+-- finds it in the place that it leaves, from any table of owners on with which the journal begins
 pub record IsLawful (s : Setting) (journal : List Entry) : Type 0 where
   pub legal : LegalJournal (hostile_in s) s.history s.rows journal
   pub bells_hold : EachMoment (BellsHold (hostile_in s) s.history s.rows) journal
@@ -79,21 +86,30 @@ pub record IsLawful (s : Setting) (journal : List Entry) : Type 0 where
   pub names_tell : EachMoment (NamesTell s) journal
   pub kinds : EachMoment (AreKindly s.history s.rows) journal
   pub brisk : Brisk (hostile_in s) s.rows no_drops journal
+  pub owners : (place : PoolPlace) → IsPlaced s.rows place s.cast → (start : Table)
+      → BeginsBeside s.history s.rows place s.cast start
+      → EachMoment (OneOwner (owner_naming s.rows place s.cast) s.history start) journal
 
 -- the bytes that the actor at a place recorded
 abbrev pub record_at : Shown → ℕ → List ℕ
 record_at s k = option_map_or (record_by (moved_in s.setting s.journal))
     (slice_get s.setting.cast k) []
 
--- the frames on the wire as the journal tells them: those of the items that the device took
-abbrev pub wire_of : Shown → NetPlace → List (List ℕ)
-wire_of s net = wire_at net s.setting.scene.frames
-    ((moved_in s.setting s.journal).taken (net.first + 2))
+-- what the clients at a place of the network send: each by its program, but a hostile one the
+-- frames of the good descriptors that were taken of it
+abbrev pub sends_in : Shown → NetPlace → Passed → List (List (List ℕ))
+sends_in s net passed = sends_beside (wild_by s.setting) net s.setting.scene.frames passed
+
+-- the frames on the wire as the entries tell them that the device took: of each client's they come
+-- in their order
+abbrev pub wire_of : Shown → NetPlace → Passed → List (List ℕ)
+wire_of s net passed = wire_beside (wild_by s.setting) net s.setting.scene.frames passed
 
 -- at a place of the network the record of a client that has buffers is a beginning of the frames
--- for its address, a frame for each entry that it took; and where nobody is hostile, what was sent
--- on the device's wire is what the journal tells, a merge of beginnings of what the clients send
-pub record TellsFrames (s : Shown) (net : NetPlace) : Type 0 where
+-- for its address, a frame for each entry that it took; and what was sent on the device's wire is
+-- what the entries tell, a merge of beginnings of what the clients send, all by their programs
+-- where none of them is hostile
+pub record TellsFrames (s : Shown) (passed : Passed) (net : NetPlace) : Type 0 where
   pub records : (c k j : ℕ) (program : Program) (mac : Mac) (pools : ClientPools)
       (got : List (List ℕ)) → slice_get s.setting.net.clients c ≡ Some k
       → slice_get s.setting.cast k
@@ -102,12 +118,12 @@ pub record TellsFrames (s : Shown) (net : NetPlace) : Type 0 where
       → IsPrefix got (frames_for mac s.setting.scene.frames)
       × (length got
       ≡ length ((moved_in s.setting s.journal).taken (client_first net.first j + 2)))
-  pub wire : AllCalm s.setting.cast → (k : ℕ) → s.setting.net.device ≡ Some k
-      → slice_get s.setting.cast k
+  pub wire : (k : ℕ) → s.setting.net.device ≡ Some k → slice_get s.setting.cast k
       ≡ Some (NetworkPart (device_at net.first s.setting.scene.frames))
-      → (s.state.wire ≡ Some (wire_of s net))
-      × PrefixMerge (sends_at net.programs net.macs s.setting.scene.frames)
-      (wire_of s net)
+      → (s.state.wire ≡ Some (wire_of s net passed))
+      × PrefixMerge (sends_in s net passed) (wire_of s net passed)
+  pub plain : NoneHostile (wild_by s.setting) net
+      → sends_in s net passed ≡ sends_at net.programs net.macs s.setting.scene.frames
 
 -- at a place of the block class a client's record is a beginning of what it must get, a reply for
 -- each response that it took, where these are no more than its requests
@@ -133,18 +149,35 @@ pub record TellsBuffers (place : PoolPlace) (s : Shown) : Type 0 where
       → slice_get (part_pools p) j ≡ Some q → 1 ≤ q.buffers
       → counted (of_other_length (record { 0 = q.number }) q.size) s.state.bodies ≡ 0
 
+-- hostile clients record nothing: of the clients of this crew, each has an empty record whose actor
+-- is one
+abbrev pub IsSilent : {T : Type 0} → Shown → Crew → List (List T) → Type 0
+IsSilent {T} s crew records = (c k : ℕ) (p : RoguePart) (got : List T)
+    → slice_get crew.clients c ≡ Some k → slice_get s.setting.cast k ≡ Some (HostilePart p)
+    → slice_get records c ≡ Some got → got ≡ []
+
+-- of each line the buffers in queues and in hands and the lent ones are all that the pool has
+abbrev pub AllAdd : List Census → Type 0
+AllAdd lines = (k : ℕ) (l : Census) → slice_get lines k ≡ Some l
+    → l.queues + l.hands + l.lent ≡ l.buffers
+
 -- line and records are what the journal says that device and clients took; those of the network and
 -- of the block class, whose frames and blocks no journal has, are what their places say of them
 pub record IsTold (s : Shown) : Type 0 where
+  -- what passed, with the bodies of its entries: their items are those that the journal tells
+  pub passed : Passed
+  pub items : HaveItems passed (moved_in s.setting s.journal)
   pub line : s.state.line ≡ option_map (record_at s) s.setting.serial.device
   pub serial : s.state.serial ≡ map (record_at s) s.setting.serial.clients
   pub wire : is_some s.state.wire ≡ is_some s.setting.net.device
   pub net : length s.state.net ≡ length s.setting.net.clients
   pub frames : (net : NetPlace)
-      → HasWholeIn s.setting.scene s.setting.rows net s.setting.cast → TellsFrames s net
+      → HasWholeIn s.setting.scene s.setting.rows net s.setting.cast → TellsFrames s passed net
+  pub net_silent : IsSilent s s.setting.net s.state.net
   pub blk : length s.state.blk ≡ length s.setting.blk.clients
   pub replies : (blk : BlkPlace)
       → HasBlkIn s.setting.scene s.setting.rows blk s.setting.cast → TellsReplies s blk
+  pub blk_silent : IsSilent s s.setting.blk s.state.blk
   -- where nobody is hostile, the lines of the pools are those of the table of owners after the
   -- journal, from any table on with which it begins
   pub pools : AllCalm s.setting.cast → (place : PoolPlace)
@@ -163,12 +196,15 @@ pub record IsTold (s : Shown) : Type 0 where
       s.setting.pools
   -- without a network and a block class there are none
   pub no_pools : HasNoNetwork s.setting.cast → HasNoBlock s.setting.cast → s.state.pools ≡ []
-  -- where nobody is hostile, the buffers are those of these pools, one by one
-  pub buffers : AllCalm s.setting.cast → (place : PoolPlace)
-      → IsPlaced s.setting.rows place s.setting.cast → HasPools s.setting.pools place
-      → TellsBuffers place s
-  -- and nothing was counted as bad
-  pub bad : AllCalm s.setting.cast → s.state.bad ≡ 0
+  -- whoever is hostile, the numbers of each line are all buffers of its pool, and the buffers are
+  -- those of these pools, one by one
+  pub adds : AllAdd s.state.pools
+  pub buffers : (place : PoolPlace) → IsPlaced s.setting.rows place s.setting.cast
+      → HasPools s.setting.pools place → TellsBuffers place s
+  -- as bad was counted what the virtualisers took of their clients that was bad: where nobody is
+  -- hostile, nothing
+  pub bad : s.state.bad ≡ bad_among passed s.setting.cast
+  pub none_bad : AllCalm s.setting.cast → s.state.bad ≡ 0
 
 -- all that holds of every system
 pub record StandsLawful (s : Shown) : Type 0 where

@@ -4,16 +4,18 @@ use Rattle.std.specs.Prelude.{◌≡◌, ◌+◌, ◌<◌, ◌≤◌, ℕ, Some,
 use Rattle.cargo_core.specs.Lists.{IsPrefix, Merge, PrefixMerge}
 use Rattle.wire_core.specs.Picks.{PickedFrom}
 use Rattle.wire_core.specs.Journal.{EachMoment}
+use Rattle.wire_core.specs.Lists.{Passed}
 use Rattle.serial_switch.specs.Switching.{input_of}
 use Rattle.frame_core.specs.declared.mac.Mac.{Mac}
 use Rattle.net_expect.specs.Expecting.{frames_for}
 use Rattle.net_law.specs.TxParts.Numbers.{NetPlace}
-use Rattle.net_quiet.specs.TxCast.Casting.{sends_at, wire_at}
+use Rattle.net_quiet.specs.TxCast.Casting.{sends_at, sends_beside, wire_beside}
 use Rattle.cast_core.specs.Casts.{net_place, blk_place}
 use Rattle.cast_core.specs.Hostile.{HasNoRogue}
 use Rattle.cast_core.specs.Sources.{first_serial}
 use Rattle.play_core.specs.Moved.{Moved}
-use Rattle.serial_law.specs.Serial.{ArrivesInPart}
+use Rattle.play_core.specs.Names.{Wild}
+use Rattle.serial_law.specs.Beside.{ArrivesBeside, said_beside}
 use Rattle.sdf_plan.specs.declared.plan.Plan.{Plan}
 use Rattle.sdf_plan.specs.declared.plan.Net.{Net}
 use Rattle.sdf_plan.specs.declared.plan.Blk.{Blk}
@@ -24,25 +26,34 @@ use Rattle.blk_law.specs.Sheets.Numbers.{BlkPlace}
 use Rattle.sdf_plan.specs.declared.plan.Serial.{Serial}
 use Rattle.trace_text.specs.declared.trace.Trace.{Trace}
 use Rattle.trace_text.specs.Traces.{IsReadFor}
+use Rattle.trace_text.specs.Events.{is_serial_rogue}
 use Rattle.sdf_check.specs.Valid.{Valid}
 use Rattle.actor_set.specs.Laws.Kinds.{AllCalm}
 use Rattle.cast_law.specs.Places.{pool_place}
 use Rattle.expect_core.specs.Budgets.{budget_of}
-use Rattle.system_core.specs.Shows.{State, Shown, runs, moved_in}
+use Rattle.system_core.specs.Shows.{State, Shown, runs, moved_in, wild_by}
 use Rattle.system_core.specs.Plays.{runnable_now}
 use Rattle.system_core.specs.Lawful.{StandsLawful}
 use Rattle.system_core.specs.Builds.{IsCastOf, BeginsAnew, serial_class}
+use Rattle.system_core.specs.GivesBack.{SerialGivesBack, BlkGivesBack, NetGivesBack}
 use Rattle.system_core.specs.Pools.{TellsOwners}
 use Rattle.system_core.specs.declared.system.Ending.{Ending}
 use Rattle.system_core.specs.declared.system.Ending.TheVariants as Ends
 
--- each serial client recorded a beginning of its part of the input, and what was sent on the line
--- is a merge of beginnings of the scripts
-pub record ShowsInPart (count : ℕ) (trace : Trace) (s : State) : Type 0 where
+-- what the serial clients of a plan say: each its script, but a hostile one all the bytes that the
+-- sending virtualiser took of it
+abbrev pub serial_says : Plan → Trace → Serial → Moved → List (List ℕ)
+serial_says plan trace serial m = said_beside (is_serial_rogue plan)
+    (serial_class (first_serial plan) (length serial.client) trace) m
+
+-- each serial client recorded a beginning of its part of the input, a hostile one nothing, and what
+-- was sent on the line is a merge of beginnings of what the clients say
+pub record ShowsInPart (count : ℕ) (trace : Trace) (says : List (List ℕ)) (s : State) :
+    Type 0 where
   pub count_is : length s.serial ≡ count
   pub records : (c : ℕ) (got : List ℕ) → slice_get s.serial c ≡ Some got
       → IsPrefix got (input_of count c trace.input)
-  pub line : (said : List ℕ) × (s.line ≡ Some said) × PrefixMerge trace.says said
+  pub line : (said : List ℕ) × (s.line ≡ Some said) × PrefixMerge says said
 
 -- each serial client recorded its whole part of the input, and what was sent on the line is a merge
 -- of the whole scripts
@@ -52,15 +63,17 @@ pub record ShowsWhole (count : ℕ) (trace : Trace) (s : State) : Type 0 where
   pub line : (said : List ℕ) × (s.line ≡ Some said) × Merge trace.says said
 
 -- each network client recorded a beginning of the frames for its address, and what was sent on the
--- wire is what the items tell that the device took, a merge of beginnings of what the clients send
-pub record ShowsFrames (net : NetPlace) (frames : List (List ℕ)) (m : Moved) (s : State) :
-    Type 0 where
+-- wire is what the entries tell that the device took, a merge of beginnings of what the clients
+-- send: each by its program, but one at whose queue a hostile actor has an end the frames of the
+-- good descriptors that were taken of it
+pub record ShowsFrames (wild : Wild) (net : NetPlace) (frames : List (List ℕ)) (passed : Passed)
+    (s : State) : Type 0 where
   pub count_is : length s.net ≡ length net.macs
   pub records : (c : ℕ) (mac : Mac) (got : List (List ℕ)) → slice_get net.macs c ≡ Some mac
       → slice_get s.net c ≡ Some got → IsPrefix got (frames_for mac frames)
-  pub wire : s.wire ≡ Some (wire_at net frames (m.taken (net.first + 2)))
-  pub merges : PrefixMerge (sends_at net.programs net.macs frames)
-      (wire_at net frames (m.taken (net.first + 2)))
+  pub wire : s.wire ≡ Some (wire_beside wild net frames passed)
+  pub merges : PrefixMerge (sends_beside wild net frames passed)
+      (wire_beside wild net frames passed)
 
 -- each network client recorded all frames for its address, and what was sent on the wire is a merge
 -- of all that the clients send
@@ -92,24 +105,32 @@ pub record IsSystemOf (plan : Plan) (trace : Trace) (s : Shown) : Type 0 where
   -- and whoever counts, the whole journal is shorter than the budget
   pub bounded : HasNoRogue plan → length s.journal < budget_of plan trace
   pub stands : StandsLawful s
-  -- each buffer has one owner at each moment, or its counted receivers
-  pub owners : HasNoRogue plan → TellsOwners plan (pool_place plan trace) s
-  pub arrives : HasNoRogue plan → (serial : Serial) → plan.serial ≡ Some serial → EachMoment (λ j.
-      ArrivesInPart (serial_class (first_serial plan) (length serial.client) trace)
-      (moved_in s.setting j)) s.journal
-  pub shows : HasNoRogue plan → (serial : Serial) → plan.serial ≡ Some serial
-      → ShowsInPart (length serial.client) trace s.state
+  -- each buffer but those of hostile clients has one owner at each moment, or its counted receivers
+  pub owners : TellsOwners plan (pool_place plan trace) s
+  pub arrives : (serial : Serial) → plan.serial ≡ Some serial → EachMoment (λ j.
+      ArrivesBeside (is_serial_rogue plan)
+      (serial_class (first_serial plan) (length serial.client) trace) (moved_in s.setting j))
+      s.journal
+  pub shows : (serial : Serial) → plan.serial ≡ Some serial
+      → ShowsInPart (length serial.client) trace
+      (serial_says plan trace serial (moved_in s.setting s.journal)) s.state
   pub shows_net : (net : Net) → plan.net ≡ Some net
-      → ShowsFrames (net_place plan trace) trace.frames (moved_in s.setting s.journal) s.state
+      → ShowsFrames (wild_by s.setting) (net_place plan trace) trace.frames stands.told.passed
+      s.state
+  -- where no client of the network is hostile, all send by their programs
+  pub plain : NetGivesBack plan → (net : Net) → plan.net ≡ Some net
+      → sends_beside (wild_by s.setting) (net_place plan trace) trace.frames stands.told.passed
+      ≡ sends_at (net_place plan trace).programs (net_place plan trace).macs trace.frames
   pub shows_blk : (blk : Blk) → plan.blk ≡ Some blk → ShowsReplies (blk_place plan trace) s.state
-  -- where nobody is runnable, all bytes of the serial class arrived
-  pub whole : runnable_now s ≡ [] → HasNoRogue plan → (serial : Serial)
+  -- where nobody is runnable, all bytes of the serial class arrived, if none of its clients is
+  -- hostile
+  pub whole : runnable_now s ≡ [] → SerialGivesBack plan → (serial : Serial)
       → plan.serial ≡ Some serial → ShowsWhole (length serial.client) trace s.state
-  -- and all frames of the network
-  pub whole_net : runnable_now s ≡ [] → HasNoRogue plan → (net : Net) → plan.net ≡ Some net
+  -- and all frames of the network, where none of its clients is hostile, whoever else is
+  pub whole_net : runnable_now s ≡ [] → NetGivesBack plan → (net : Net) → plan.net ≡ Some net
       → ShowsAllFrames (net_place plan trace) trace.frames s.state
-  -- and all replies of the block class
-  pub whole_blk : runnable_now s ≡ [] → HasNoRogue plan → (blk : Blk) → plan.blk ≡ Some blk
+  -- and all replies of the block class, where none of its clients is
+  pub whole_blk : runnable_now s ≡ [] → BlkGivesBack plan → (blk : Blk) → plan.blk ≡ Some blk
       → ShowsAllReplies (blk_place plan trace) s.state
 
 -- of whatever valid plan and trace a system has the cast, it is a system of these

@@ -14,7 +14,7 @@ use Rattle.play_core.specs.Growing.{AllWithin}
 use Rattle.play_core.specs.Moved.{Moved, moved}
 use Rattle.play_core.specs.Sheets.{Scene, Sheet, needful, RowsHold}
 use Rattle.play_core.specs.Manners.{Manners}
-use Rattle.play_core.specs.Names.{Noted, told_by, wild_in}
+use Rattle.play_core.specs.Names.{Noted, Wild, told_by, wild_in}
 use Rattle.play_core.specs.Runs.{runnable}
 use Rattle.actor_set.specs.Parts.{Part}
 use Rattle.actor_set.specs.Laws.Kinds.{manners, hostiles}
@@ -66,6 +66,10 @@ manner_in s = manners s.cast
 -- which of the actors are hostile
 abbrev pub hostile_in : Setting → Hostiles
 hostile_in s = hostiles s.cast
+
+-- which of the queues that carry pages have a hostile end
+abbrev pub wild_by : Setting → Wild
+wild_by s = wild_in (hostile_in s) s.rows
 
 -- what is said of each part there, by these names
 abbrev pub sheet_in : Setting → Part → Sheet

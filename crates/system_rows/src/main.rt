@@ -12,6 +12,16 @@
 //! A row `network FILE | TRACE | FIRST | COUNT` stands for plays of a description with a network and
 //! a trace by so many seeds from the first on, a line for each; with `| pools` behind it the line
 //! has also where the buffers of each pool are.
+//!
+//! A row `hostile FILE | TRACE | CLASSES | FIRST | COUNT` stands for so many plays beside hostile
+//! clients of these classes, whose acts are drawn by the number of the play, from the first on. The
+//! line says how many were right, and how many of those with ample steps got quiet. Right is a play
+//! within its limit in which each other client's record is a beginning of what the trace gives it,
+//! and so is what it sends, each all of it where the play is quiet and no client of its class is
+//! hostile; in which the lines of the pools add up, what goes to a driver names a buffer of a client
+//! and of each other client's no more than it put, the disk is asked for blocks of the client's own
+//! partition, and in which, where it is quiet, the buffers of other clients are in queues and with
+//! them.
 #![tactic(auto)]
 
 ghost use Rattle.std.specs.Prelude.{◌≡◌, ◌<◌, length};
@@ -19,14 +29,19 @@ ghost use Rattle.sdf_check.specs.Valid.{Valid};
 ghost use Rattle.trace_text.specs.Events.{blk_clients};
 ghost use Rattle.trace_text.specs.Traces.{IsReadFor};
 
+mod hostile;
 mod judging;
 mod naming;
 mod network;
 mod numbering;
+mod placing;
 mod playing;
+mod scripts;
+mod watching;
 
 use cargo_core::{Memory, Reply};
 use expect_core::{Report, input_of, replies_of};
+use hostile::print_hostile;
 use judging::judged;
 use network::print_network;
 use playing::{played_in_a_row, played_once};
@@ -266,6 +281,9 @@ fn trace_of(alloc: Global, lines: &str) -> Result<String, Memory> {
 fn print_row<R: Files + Print + AllocGlobal>(rt: &R, row: &str) -> io::Result<()> {
     if let Some(row) = row.strip_prefix("network ") {
         return print_network(rt, row);
+    }
+    if let Some(row) = row.strip_prefix("hostile ") {
+        return print_hostile(rt, row);
     }
     let Some((name, rest)) = row.split_once(" | ") else {
         return rt.println("no row");

@@ -57,8 +57,8 @@ fn stand_in_order(frames: &FrameLog, among: &FrameLog) -> bool {
     found == frames.len()
 }
 
-// The frames that a client must record.
-fn to_record(alloc: Global, net: &Net, trace: &Trace, client: usize) -> Result<FrameLog, Memory>
+/// The frames that a client must record.
+pub fn to_record(alloc: Global, net: &Net, trace: &Trace, client: usize) -> Result<FrameLog, Memory>
     requires { client < length net.now.client }
 {
     match read_mac(net.client.get(client).mac.as_str()) {
@@ -86,8 +86,8 @@ fn copied(alloc: Global, frames: &FrameLog) -> Result<FrameLog, Memory> {
     Ok(copy)
 }
 
-// The frames that a client must send.
-fn to_send(
+/// The frames that a client must send.
+pub fn to_send(
     alloc: Global,
     plan: &Plan,
     net: &Net,

@@ -6,6 +6,7 @@ use Rattle.cargo_core.specs.declared.item.Ask.{Ask}
 use Rattle.cargo_core.specs.declared.item.Body.{Body}
 use Rattle.cargo_core.specs.declared.item.Body.TheVariants as Carried
 use Rattle.wire_core.specs.declared.names.QueueRow.{QueueRow}
+use Rattle.wire_core.specs.declared.names.QueueId.{QueueId}
 use Rattle.wire_core.specs.Deeds.{Cargo, Deed}
 use Rattle.wire_core.specs.Ends.{Role, End}
 use Rattle.wire_core.specs.Lists.{Passed, nothing_passed, with_deed}
@@ -21,6 +22,9 @@ use Rattle.client_programs.specs.Blk.Clients.{BlkClientRow, BlkClientStandsFor, 
 use Rattle.client_programs.specs.declared.blk.BlkClient.{BlkClient}
 use Rattle.client_programs.proofs.BlkLemmas.Standing.{row_of as asker_row}
 use Rattle.blk_driver.specs.declared.BlkDriver.{BlkDriver}
+use Rattle.buffer_kit.specs.Virtualising.{from_queues, to_queues}
+use Rattle.blk_virt.specs.Desks.{holders}
+use Rattle.blk_virt.specs.declared.requests.Holder.{Holder}
 use Rattle.blk_virt.specs.Openings.{IsOutOfTurn}
 use Rattle.blk_virt.specs.Requests.{is_bad}
 use Rattle.blk_virt.specs.Virtualising.{BlkVirtRow, BlkVirtStandsFor, FitsBlkVirt}
@@ -32,7 +36,7 @@ use Rattle.blk_law.specs.Sheets.Playing.{disk_part, blk_driver_part, virt_part, 
 use Rattle.blk_law.specs.VirtScene.Playing.{BothInTurn}
 use Rattle.blk_quiet.specs.Cast.Casting.{holder_of, IsOfPool, IsWhole, IsRequest, AreRequests, IsAskingClient, IsBlkCast, CalmAsk, WildWhole}
 use Rattle.blk_quiet.proofs.CastLemmas.Judging.{bad_same}
-use Rattle.blk_quiet.proofs.CastLemmas.Numbers.{virt_queues, client_queues, client_pool}
+use Rattle.blk_quiet.proofs.CastLemmas.Numbers.{virt_queues, client_queues, client_pool, sharers_are}
 use Rattle.blk_quiet.proofs.CastLemmas.Turning.{responses_few, sector_is, virt_none, virt_in_turn, good_is, disk_none, disk_in_turn}
 use Rattle.blk_quiet.proofs.CastLemmas.Clients.{client_like, client_none, client_in_turn, back_own, client_puts}
 use Rattle.actor_set.specs.Parts.{Part, BlockPart}
@@ -45,6 +49,7 @@ use Rattle.play_core.specs.Sheets.{Scene}
 use Rattle.play_core.specs.Manners.{is_hostile}
 use Rattle.play_core.specs.Names.{Wild, wild_in}
 use Rattle.actor_set.specs.Laws.Kinds.{hostiles}
+use Rattle.actor_set.specs.Laws.Turning.{InTurn}
 use Rattle.actor_set.proofs.LawsLemmas.Calm.{manner_at}
 use Rattle.wired_law.specs.Wiring.{IsOfBlock, HasBlkIn, HasNoBlock, HasPart, ClientsAsk, AreAtWork}
 use Rattle.wired_law.proofs.Acting.{disk_actor, blk_driver_actor, virt_actor, blk_client_actor}
@@ -107,6 +112,10 @@ client_is place req resp asks pool (inl e) = absurd cc
 client_is place req resp asks pool (inr (inl e)) = absurd cc
 client_is place req resp asks pool (inr (inr (inl e))) = absurd cc
 client_is place req resp asks pool (inr (inr (inr k))) = k
+
+-- no hostile actor has an end of a client's queue of requests
+abbrev pub NoneAsksWild : Wild → BlkPlace → Type 0
+NoneAsksWild wild place = (k : ℕ) → k < length place.entries → wild (place.first + 4 + 2 * k) ≡ false
 
 module _ (scene : Scene) (ends : Role → ℕ → End) (rows : List QueueRow) (actors : List Actor) (passed : Passed) (work : AreAtWork ends rows actors passed) where
   abbrev cast : List Part
@@ -237,6 +246,45 @@ module _ (scene : Scene) (ends : Role → ℕ → End) (rows : List QueueRow) (a
           in_turn = turn;
           brings = λ j x y x_at y_at. (client_like place passed class_there is.0 is.1 is.2 is.3 is.4 j x y (ap (λ n. slice_get (passed.sent n) j) (sym own.0) ∙ x_at) (ap (λ n. slice_get (passed.taken n) j) (sym own.1) ∙ y_at)).0;
         }
+
+    -- where no client is hostile, nothing comes out of turn at any actor of the class, whoever else is
+    module _ (ask : ClientsAsk cast passed) (none : NoneAsksWild wild place) where
+      virt_calm : (v : BlkVirt) → virt_part v ≡ virt_at place → FitsBlkVirt ends v → (k : ℕ) (h : Holder) (q : QueueId) → slice_get (holders v.work.desk) k ≡ Some h → slice_get (from_queues v.ends) k ≡ Some q → wild q.0 ≡ false
+      virt_calm v part fits k h q h_at q_at =
+          let to_each = fits.to_each in
+          let below = there_below (holders v.work.desk) k h h_at in
+          let r = there_is (to_queues v.ends) k (omega (arith, below, to_each)) in
+          let own = virt_queues place v part in
+          let x = (sharers_are place.first 0 (holders v.work.desk) place.entries place.pools (from_queues v.ends) (to_queues v.ends) fits.from_each fits.to_each has.pools_many own.3).1 k h q r.0 h_at q_at r.1 in
+          ap wild x.4.2 ∙ none k (there_below place.entries k x.0 x.2)
+
+      pub blk_turns : (k : ℕ) (x : Actor) → slice_get actors k ≡ Some x → (p : BlkPart) → part_of x ≡ BlockPart p → IsOfBlock place p → InTurn scene x passed
+      blk_turns k x at p part (inl e) =
+          let d = disk_actor place x (part ∙ ap (λ q. BlockPart q) e) in
+          let here = at ∙ ap (λ a. Some a) d.1 in
+          subst (λ a. InTurn scene a passed) (sym d.1) (disk_turns ask (λ j pool j_at is_wild. let calm = none j (let below = there_below place.pools j pool j_at in let many = has.pools_many in omega (arith, below, many)) in absurd cc) k d.0 here (work.stands k (Kinds.DiskDevice d.0) here))
+      blk_turns k x at p part (inr (inl e)) = let d = blk_driver_actor place.first x (part ∙ ap (λ q. BlockPart q) e) in subst (λ a. InTurn scene a passed) (sym d.1) tt
+      blk_turns k x at p part (inr (inr (inl e))) =
+          let v = virt_actor place x (part ∙ ap (λ q. BlockPart q) e) in
+          let here = at ∙ ap (λ a. Some a) v.1 in
+          let fits = work.fits k (Kinds.BlkVirt v.0) here in
+          let both = virt_turns ask k v.0 here fits (work.stands k (Kinds.BlkVirt v.0) here) in
+          let turn : InTurn scene (Kinds.BlkVirt v.0) passed = record {
+            free = both.free;
+            in_turn = both.in_turn;
+            answered = both.answered;
+            sector = both.sector;
+            sectors = both.sectors;
+            good = λ j h q h_at q_at. both.good j h q h_at q_at (virt_calm v.0 v.2 fits.0 j h q h_at q_at);
+            apart = both.apart;
+            from_each = both.from_each;
+            to_each = both.to_each;
+          } in
+          subst (λ a. InTurn scene a passed) (sym v.1) turn
+      blk_turns k x at p part (inr (inr (inr j))) =
+          let c = blk_client_actor place.first j.0 j.2 j.3 x (part ∙ ap (λ q. BlockPart q) j.5) in
+          let here = at ∙ ap (λ a. Some a) c.1 in
+          subst (λ a. InTurn scene a passed) (sym c.1) (client_turns k c.0 here (work.stands k (Kinds.BlkClient c.0) here))
 
     -- what came back to a client is its own
     pub back_asked : (k entry : ℕ) (asks : List Ask) (pool : PoolAt) → IsBlkClientOf place k entry asks pool → AreRequests pool (passed.sent (place.first + 4 + 2 * k)) → (j : ℕ) (y : Cargo) → slice_get (passed.taken (place.first + 5 + 2 * k)) j ≡ Some y → IsOfPool pool y.1 × IsWhole y.1

@@ -4,19 +4,22 @@ use Rattle.std.proofs.lemmas.List.{append-nil}
 use Rattle.cargo_core.specs.Lists.{IsPrefix, PrefixMerge}
 use Rattle.frame_core.specs.declared.mac.Mac.{Mac}
 use Rattle.wire_core.specs.declared.names.QueueRow.{QueueRow}
+use Rattle.wire_core.specs.declared.names.QueueId.{QueueId}
 use Rattle.wire_core.specs.Deeds.{Cargo, Deed}
 use Rattle.wire_core.specs.Ends.{Role, End}
 use Rattle.wire_core.specs.Lists.{Passed, nothing_passed, with_deed}
 use Rattle.wire_core.specs.Queues.{items_of}
+use Rattle.buffer_kit.specs.Virtualising.{from_queues, to_queues}
+use Rattle.net_virt_tx.specs.Traffics.{senders}
 use Rattle.play_core.proofs.Lists.{map_get, map_from, prefix_trans, some_is, there_is, there_below}
 use Rattle.net_law.proofs.Beginnings.{begins_map}
 use Rattle.net_virt_tx.specs.Sending.{TxRow}
 use Rattle.device_model.specs.declared.ethernet.EthDevice.{EthDevice}
-use Rattle.device_model.specs.Ethernet.Devices.{DeviceRow}
+use Rattle.device_model.specs.Ethernet.Devices.{HoldingDeviceRow}
 use Rattle.eth_driver.specs.Four.{four_pipes}
 use Rattle.pipe_driver.proofs.Holding.{row_of as driver_row}
 use Rattle.net_expect.specs.Expecting.{Program, frames_for}
-use Rattle.net_copier.proofs.Holding.{row_of as copier_row}
+use Rattle.net_copier.proofs.Holding.{held_row as copier_row}
 use Rattle.net_virt_rx.proofs.Rounds.{row_of as receiver_row}
 use Rattle.net_virt_rx.specs.declared.NetVirtRx.{NetVirtRx}
 use Rattle.net_virt_tx.proofs.Rounds.{row_of as sender_row}
@@ -28,7 +31,7 @@ use Rattle.net_law.specs.Owners.Names.{ClientPools}
 use Rattle.owner_law.specs.Pools.Places.{PoolAt}
 use Rattle.net_law.specs.Parts.Parts.{NetClient as ClientPart}
 use Rattle.net_law.specs.Parts.Numbers.{device_at, driver_at, client_first, receiver_at, copier_at, client_at}
-use Rattle.net_law.specs.Parts.Playing.{device_part, receiver_part, copier_part, client_part, stock_pool, AreLeases, ReceivesInTurn}
+use Rattle.net_law.specs.Parts.Playing.{device_part, receiver_part, copier_part, client_part, stock_pool, AreLeases, ReceivesInTurn, HasBuffers, AnswersInTurn}
 use Rattle.net_law.specs.TxParts.Numbers.{NetPlace, own_pools, sender_at, shippers_from}
 use Rattle.net_law.specs.TxParts.Parts.{SendPart, Shipper}
 use Rattle.net_law.specs.TxParts.Playing.{send_part}
@@ -38,6 +41,7 @@ use Rattle.net_quiet.proofs.CastLemmas.Numbers.{copier_queues}
 use Rattle.net_quiet.proofs.CastLemmas.Casting.{cast_in_turn, cast_takes, cast_leases, cast_records}
 use Rattle.net_quiet.specs.TxTurns.Turning.{StraysWild}
 use Rattle.net_quiet.specs.TxCast.Casting.{AreClients, AreSends, CalmSend, IsClientOf, IsSenderAt, IsSendingClient, IsWholeCast, NoneHostile, sends_at, sends_beside, wire_at, wire_beside}
+use Rattle.net_quiet.proofs.TxCast.Numbers.{sender_queues, shippers_are}
 use Rattle.net_quiet.proofs.TxCast.Wholes.{none_out, good_taken, back_is, client_puts, sends_calm, wire_calm, wire_is, wire_by}
 use Rattle.blk_law.specs.Sheets.Numbers.{BlkPlace}
 use Rattle.actor_set.specs.Parts.{Part, NetworkPart, SendingPart}
@@ -83,7 +87,7 @@ copier_is net frames c (inr (inr (inr (inr (inl k))))) = let e = k.2 in (k.0, k.
 copier_is net frames c (inr (inr (inr (inr (inr k))))) = let e = k.5 in absurd cc
 
 -- the queues of a client of the sending virtualiser
-shipper_is : (first most k : ℕ) (qs : List ClientPools) (j : ℕ) (c : Shipper) → slice_get (shippers_from first most k qs) j ≡ Some c → (c.active ≡ client_first first (k + j) + 4) × (c.free ≡ client_first first (k + j) + 5) × (j < length qs)
+pub shipper_is : (first most k : ℕ) (qs : List ClientPools) (j : ℕ) (c : Shipper) → slice_get (shippers_from first most k qs) j ≡ Some c → (c.active ≡ client_first first (k + j) + 4) × (c.free ≡ client_first first (k + j) + 5) × (j < length qs)
 shipper_is first most k [] j c at = cc
 shipper_is first most k (q ∷ qs) zero c at =
     let plus : k ≡ k + 0 = omega arith in
@@ -136,7 +140,7 @@ module _ (scene : Scene) (ends : Role → ℕ → End) (rows : List QueueRow) (a
     short_frames k frame at = let high = (whole.frames k frame at).1 in let fits = whole.fits in let told = whole.told in (omega (arith, high, fits), omega (arith, high, told))
 
     -- the receive half with this device and this receiving virtualiser
-    half_with : (d : EthDevice) → device_part d ≡ device_at net.first frames → DeviceRow d passed → (v : NetVirtRx) → IsReceiverAt net.first net.pool net.macs v passed → IsCast net.first frames net.pool net.macs passed
+    half_with : (d : EthDevice) → device_part d ≡ device_at net.first frames → HoldingDeviceRow d passed → (v : NetVirtRx) → IsReceiverAt net.first net.pool net.macs v passed → IsCast net.first frames net.pool net.macs passed
     half_with d part row v at =
         let y = actor_of (NetworkPart (driver_at net.first)) whole.driver in
         let p = driver_actor net.first y.0 y.1 in
@@ -155,7 +159,7 @@ module _ (scene : Scene) (ends : Role → ℕ → End) (rows : List QueueRow) (a
         }
 
     -- the device and the virtualisers of the cast
-    device_there : (d : EthDevice) × (device_part d ≡ device_at net.first frames) × DeviceRow d passed
+    device_there : (d : EthDevice) × (device_part d ≡ device_at net.first frames) × HoldingDeviceRow d passed
     device_there =
         let x = actor_of (NetworkPart (device_at net.first frames)) whole.device in
         let d = device_actor net.first frames x.0 x.1 in
@@ -190,7 +194,7 @@ module _ (scene : Scene) (ends : Role → ℕ → End) (rows : List QueueRow) (a
         (c.0, client_at_work k program mac q c.0 c.2 (whole.some k q of.pools) (subst (FitsActor ends) c.1 x.2) (subst (λ a. ActorStandsFor a passed) c.1 x.3))
 
     -- the whole network with this device and this sending virtualiser
-    whole_with : (d : EthDevice) → device_part d ≡ device_at net.first frames → DeviceRow d passed → (v : NetVirtTx) → IsSenderAt net v passed → IsWholeCast net frames passed
+    whole_with : (d : EthDevice) → device_part d ≡ device_at net.first frames → HoldingDeviceRow d passed → (v : NetVirtTx) → IsSenderAt net v passed → IsWholeCast net frames passed
     unfolding half_with
     whole_with d part row v at = record {
       pools_many = whole.pools_many;
@@ -237,6 +241,19 @@ module _ (scene : Scene) (ends : Role → ℕ → End) (rows : List QueueRow) (a
     client_of : (k : ℕ) (c : NetClient) → slice_get actors k ≡ Some (Kinds.NetClient c) → (j : ℕ) × (p : Program) × (m : Mac) × (q : ClientPools) × IsClientOf net j p m q × (client_part c ≡ client_at net.first j p m (own_pools q))
     client_of k c at = client_is net frames _ _ _ _ _ _ _ _ (whole.only k (client_part c) (map_get part_of actors k (Kinds.NetClient c) at))
 
+    -- what came to a copier of the cast are leases
+    copier_turns : (c : NetCopier) (k : ℕ) → k < length net.macs → copier_part c ≡ copier_at net.first k → AreLeases (passed.taken c.lease_input.queue.0)
+    copier_turns c k lt part =
+        let own = copier_queues net.first k c part in
+        subst (λ n. AreLeases (passed.taken n)) (sym own.0) (cast_leases net.first frames net.pool net.macs passed half_there k lt)
+
+    -- and a client's record is a beginning of what it answers
+    client_turns : (c : NetClient) (k : ℕ) (program : Program) (mac : Mac) (q : ClientPools) → IsClientOf net k program mac q → client_part c ≡ client_at net.first k program mac (own_pools q) → FitsActor ends (Kinds.NetClient c) → ActorStandsFor (Kinds.NetClient c) passed → HasBuffers c × AnswersInTurn frames c
+    client_turns c k program mac q of part fits stands =
+        let own : c.program.mac ≡ mac = cc in
+        let records = client_records k program mac (own_pools q) c part (whole.some k q of.pools) (whole.fits_client k q of.pools).0 of.address fits stands in
+        (fits.1, λ echo. subst (λ m. IsPrefix c.frames.tape.shown (frames_for m frames)) (sym own) records)
+
     -- nothing comes out of turn at the sending virtualiser but from a hostile client
     sender_strays : CalmSend wild net passed → (v : NetVirtTx) → IsSenderAt net v passed → (row : TxRow v passed) → StraysWild wild v row.place row.stray
     unfolding whole_with
@@ -251,12 +268,50 @@ module _ (scene : Scene) (ends : Role → ℕ → End) (rows : List QueueRow) (a
     sender_here : (k : ℕ) (v : NetVirtTx) → slice_get actors k ≡ Some (Kinds.NetVirtTx v) → IsSenderAt net v passed
     sender_here k v at = record { part = sender_is net frames v (whole.only_sender k (send_part v) (map_get part_of actors k (Kinds.NetVirtTx v) at)); row = sender_row v passed (work.stands k (Kinds.NetVirtTx v) at) }
 
-    sends_in_turn : CalmSend wild net passed → ((n : ℕ) → wild n ≡ false) → (k : ℕ) (v : NetVirtTx) → slice_get actors k ≡ Some (Kinds.NetVirtTx v) → (row : TxRow v passed) → row.stray ≡ []
-    sends_in_turn sends none k v at row = by (sender_strays sends v (sender_here k v at) row)
+    -- where no client is hostile, the virtualiser takes from none that is
+    sender_calm : NoneHostile wild net → (v : NetVirtTx) → IsSenderAt net v passed → (k : ℕ) (q : QueueId) → slice_get (from_queues v.ends) k ≡ Some q → wild q.0 ≡ false
+    sender_calm none v is k q q_at =
+        let from_each = is.row.from_each in
+        let to_each = is.row.to_each in
+        let below = there_below (from_queues v.ends) k q q_at in
+        let s = there_is (senders v.work) k (omega (arith, below, from_each)) in
+        let r = there_is (to_queues v.ends) k (omega (arith, below, from_each, to_each)) in
+        let own = sender_queues net.first net.most net.pools v is.part in
+        let x = (shippers_are net.first net.most 0 (senders v.work) net.pools (from_queues v.ends) (to_queues v.ends) is.row.from_each is.row.to_each own.2).1 k s.0 q r.0 s.1 q_at r.1 in
+        ap wild x.2.1 ∙ none k (there_below net.pools k x.0 x.1)
+
+    -- so nothing comes out of turn there
+    strays_none : CalmSend wild net passed → NoneHostile wild net → (v : NetVirtTx) → IsSenderAt net v passed → (row : TxRow v passed) → row.stray ≡ []
+    strays_none sends none v is row = by (sender_strays sends v is row)
       where
         by : StraysWild wild v row.place row.stray → row.stray ≡ []
         by (inl e) = e
-        by (inr (j, q, q_at, e, is_wild)) = let calm = none q.0 in absurd cc
+        by (inr (j, q, q_at, e, is_wild)) = let calm = sender_calm none v is j q q_at in absurd cc
+
+    sends_in_turn : CalmSend wild net passed → NoneHostile wild net → (k : ℕ) (v : NetVirtTx) → slice_get actors k ≡ Some (Kinds.NetVirtTx v) → (row : TxRow v passed) → row.stray ≡ []
+    sends_in_turn sends none k v at = strays_none sends none v (sender_here k v at)
+
+    -- and nothing at any actor of the network, whoever else is hostile
+    pub net_turns : CalmSend wild net passed → NoneHostile wild net → (x : Actor) → FitsActor ends x → ActorStandsFor x passed → IsOfNetwork net frames (part_of x) → InTurn scene x passed
+    net_turns sends none x fits stands (inl e) = let d = device_actor net.first frames x e in subst (λ a. InTurn scene a passed) (sym d.1) tt
+    net_turns sends none x fits stands (inr (inl e)) = let p = driver_actor net.first x e in subst (λ a. InTurn scene a passed) (sym p.1) tt
+    net_turns sends none x fits stands (inr (inr (inl e))) =
+        let v = receiver_actor net.first net.pool net.macs x e in
+        subst (λ a. InTurn scene a passed) (sym v.1) (receiver_turns v.0 (receiver_at_work v.0 v.2 (subst (FitsActor ends) v.1 fits) (subst (λ a. ActorStandsFor a passed) v.1 stands)))
+    net_turns sends none x fits stands (inr (inr (inr (inl e)))) =
+        let v = sender_actor net.first net.most net.pools x e in
+        let is : IsSenderAt net v.0 passed = record { part = v.2; row = sender_row v.0 passed (subst (λ a. ActorStandsFor a passed) v.1 stands) } in
+        let turn : InTurn scene (Kinds.NetVirtTx v.0) passed = record {
+          good = λ j s q s_at q_at. sender_good sends v.0 is j s q s_at q_at (sender_calm none v.0 is j q q_at);
+          in_turn = strays_none sends none v.0 is;
+        } in
+        subst (λ a. InTurn scene a passed) (sym v.1) turn
+    net_turns sends none x fits stands (inr (inr (inr (inr (inl k))))) =
+        let c = copier_actor net.first k.0 x k.2 in
+        subst (λ a. InTurn scene a passed) (sym c.1) (copier_turns c.0 k.0 k.1 c.2)
+    net_turns sends none x fits stands (inr (inr (inr (inr (inr k))))) =
+        let c = client_actor net.first k.0 k.1 k.2 (own_pools k.3) x k.5 in
+        subst (λ a. InTurn scene a passed) (sym c.1) (client_turns c.0 k.0 k.1 k.2 k.3 k.4 c.2 (subst (FitsActor ends) c.1 fits) (subst (λ a. ActorStandsFor a passed) c.1 stands))
 
     -- a hostile client has both its queues for sending
     free_wild : (v : NetVirtTx) → send_part v ≡ sender_at net.first net.most net.pools → (j : ℕ) (c : Shipper) → slice_get (send_part v).clients j ≡ Some c → wild c.active ≡ true → wild c.free ≡ true
@@ -280,14 +335,10 @@ module _ (scene : Scene) (ends : Role → ℕ → End) (rows : List QueueRow) (a
     whole_turns sends block ask names kept turn k (Kinds.NetVirtRx v) at fits stands = receiver_turns v (receiver_at_work v (receiver_is net frames v (whole.only k (receiver_part v) (map_get part_of actors k (Kinds.NetVirtRx v) at))) fits stands)
     whole_turns sends block ask names kept turn k (Kinds.NetCopier c) at fits stands =
         let is = copier_is net frames c (whole.only k (copier_part c) (map_get part_of actors k (Kinds.NetCopier c) at)) in
-        let own = copier_queues net.first is.0 c is.2 in
-        subst (λ n. AreLeases (passed.taken n)) (sym own.0) (cast_leases net.first frames net.pool net.macs passed half_there is.0 is.1)
+        copier_turns c is.0 is.1 is.2
     whole_turns sends block ask names kept turn k (Kinds.NetClient c) at fits stands =
         let is = client_of k c at in
-        let part = is.5 in
-        let own : c.program.mac ≡ is.2 = cc in
-        let records = client_records is.0 is.1 is.2 (own_pools is.3) c part (whole.some is.0 is.3 is.4.pools) (whole.fits_client is.0 is.3 is.4.pools).0 is.4.address fits stands in
-        (fits.1, λ echo. subst (λ m. IsPrefix c.frames.tape.shown (frames_for m frames)) (sym own) records)
+        client_turns c is.0 is.1 is.2 is.3 is.4 is.5 fits stands
     whole_turns sends block ask names kept turn k (Kinds.NetVirtTx v) at fits stands =
         record {
           tells = λ j c c_at is_wild. told_at names kept c.active is_wild;
@@ -375,7 +426,7 @@ module _ (scene : Scene) (ends : Role → ℕ → End) (rows : List QueueRow) (a
     where
       by : HasNoNetwork cast ⊎ ((net : NetPlace) × HasWholeIn scene rows net cast) → (k : ℕ) (v : NetVirtTx) → slice_get actors k ≡ Some (Kinds.NetVirtTx v) → (row : TxRow v passed) → row.stray ≡ []
       by (inl empty) k v at row = absurd (empty.no_sender k (send_part v) (map_get part_of actors k (Kinds.NetVirtTx v) at))
-      by (inr net) k v at row = sends_in_turn net.0 net.1 (sends.frames net.0 net.1) none k v at row
+      by (inr net) k v at row = sends_in_turn net.0 net.1 (sends.frames net.0 net.1) (λ j below. none (client_first net.0.first j + 4)) k v at row
 
 -- beside hostile clients
 pub turns_beside : (scene : Scene) (ends : Role → ℕ → End) (rows : List QueueRow) (actors : List Actor) (passed : Passed) (names : Names) → IsWiredIn scene rows (map part_of actors) → AreAtWork ends rows actors passed → ClientsSendIn scene rows (map part_of actors) passed → TellsKept (wild_in (hostiles (map part_of actors)) rows) names passed → AreInTurn (wild_in (hostiles (map part_of actors)) rows) actors passed → (k : ℕ) (x : Actor) → slice_get actors k ≡ Some x → ToldInTurn scene (wild_in (hostiles (map part_of actors)) rows) names x passed

@@ -13,7 +13,7 @@ use Rattle.wire_core.specs.Deeds.{Cargo}
 use Rattle.wire_core.specs.Ends.{Role, End}
 use Rattle.wire_core.specs.Lists.{Passed}
 use Rattle.play_core.specs.Names.{Names, Wild, names_at, wild_in}
-use Rattle.play_core.specs.Sheets.{Scene}
+use Rattle.play_core.specs.Sheets.{Scene, Sheet}
 use Rattle.net_law.specs.Receiving.{HandsOver}
 use Rattle.net_expect.specs.Expecting.{Program, Source}
 use Rattle.net_law.specs.Owners.Names.{ClientPools}
@@ -39,6 +39,12 @@ use Rattle.actor_set.specs.declared.actor.Actor.{Actor}
 use Rattle.actor_set.specs.declared.actor.Actor.TheVariants as Kinds
 use Rattle.actor_set.specs.declared.disk.Disk.{Disk}
 use Rattle.actor_set.specs.Laws.Kinds.{hostiles, scene_of}
+use Rattle.actor_set.specs.Laws.Scenes.{told_sheet}
+
+-- what is said of each part of a cast, in a scene: of a virtualiser with hostile clients by the
+-- names that are told, of all others by items alone
+abbrev pub told_in : Scene → List QueueRow → List Part → Names → Part → Sheet
+told_in scene rows cast names = told_sheet scene (wild_in (hostiles cast) rows) names
 
 -- some actor of a cast plays this part
 abbrev pub HasPart : List Part → Part → Type 0

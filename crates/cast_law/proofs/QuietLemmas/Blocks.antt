@@ -11,7 +11,7 @@ use Rattle.sdf_plan.specs.declared.plan.Plan.{Plan}
 use Rattle.sdf_plan.specs.declared.plan.Blk.{Blk}
 use Rattle.sdf_check.specs.Valid.{Valid}
 use Rattle.trace_text.specs.declared.trace.Trace.{Trace}
-use Rattle.trace_text.specs.Events.{blk_clients}
+use Rattle.trace_text.specs.Events.{blk_clients, is_blk_rogue}
 use Rattle.region_layout.specs.Rows.{queues_of, pools_of}
 use Rattle.layout_laws.specs.Sound.{IsSoundQueue}
 use Rattle.layout_laws.proofs.Lists.{all-at}
@@ -21,8 +21,7 @@ use Rattle.blk_law.specs.Sheets.Numbers.{BlkPlace}
 use Rattle.blk_law.specs.Owners.Answering.{TakesBlocks}
 use Rattle.blk_quiet.specs.Still.{HasClientPools, HasBlkRooms, range_of}
 use Rattle.actor_set.specs.Parts.{Part}
-use Rattle.actor_set.specs.Laws.Kinds.{AllCalm, hostiles}
-use Rattle.actor_set.proofs.LawsLemmas.Calm.{calm_row}
+use Rattle.actor_set.specs.Laws.Kinds.{hostiles}
 use Rattle.cast_core.specs.Casts.{blk_place, client_pool}
 use Rattle.cast_core.specs.Making.{HasPool, HasBlkPools, blk_ends, blk_range}
 use Rattle.expect_core.specs.Expected.{client_asks, client_entry}
@@ -31,6 +30,8 @@ use Rattle.cast_core.proofs.Blocks.{block_size}
 use Rattle.cast_core.proofs.Listing.{value_count, value_is}
 use Rattle.cast_core.proofs.Rooms.{has_blk_pools}
 use Rattle.cast_core.proofs.Tables.{has_rows}
+use Rattle.cast_law.specs.Jobs.{PlayJobs}
+use Rattle.cast_law.proofs.QuietLemmas.Ends.{blk_calm}
 use Rattle.cast_law.proofs.QuietLemmas.Rooms.{capacity_some, turn_apart}
 
 module _ (plan : Plan) (trace : Trace) (valid : Valid plan) (blk : Blk) (is : plan.blk ≡ Some blk) where
@@ -100,8 +101,9 @@ module _ (plan : Plan) (trace : Trace) (valid : Valid plan) (blk : Blk) (is : pl
     apart = each_apart;
   }
 
-  -- each queue is there, and can hold an entry
-  module _ (cast : List Part) (calm : AllCalm cast) where
+  -- each queue is there, and can hold an entry; and none has a hostile end, where no client of the
+  -- class is hostile, whoever else is
+  module _ (cast : List Part) (plays : PlayJobs plan trace cast) (none : (c : ℕ) → is_blk_rogue plan c ≡ false) where
     pub blk_rooms_are : HasBlkRooms (hostiles cast) (queues_of plan) place
     blk_rooms_are i lt =
         let all = (has_rows plan valid).blk blk is in
@@ -109,4 +111,4 @@ module _ (plan : Plan) (trace : Trace) (valid : Valid plan) (blk : Blk) (is : pl
         let clients = counted in
         let row = there_is (queues_of plan) (place.first + i) (omega (arith, lt, all, many, clients)) in
         let sound = all-at (IsSoundQueue plan) (queues_of plan) (queues_sound plan valid) (place.first + i) row.0 row.1 in
-        record { row = row.0; there = row.1; calm = calm_row cast calm row.0; enough = capacity_some row.0.capacity sound.capacity }
+        record { row = row.0; there = row.1; calm = blk_calm plan trace valid cast plays (place.first + i) row.0 row.1 none (omega arith); enough = capacity_some row.0.capacity sound.capacity }

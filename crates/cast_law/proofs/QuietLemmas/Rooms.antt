@@ -12,25 +12,27 @@ use Rattle.sdf_plan.specs.declared.plan.Plan.{Plan}
 use Rattle.sdf_plan.specs.declared.plan.Net.{Net}
 use Rattle.sdf_check.specs.Valid.{Valid}
 use Rattle.trace_text.specs.declared.trace.Trace.{Trace}
-use Rattle.trace_text.specs.Events.{net_clients}
+use Rattle.trace_text.specs.Events.{is_net_rogue, net_clients}
 use Rattle.region_layout.specs.Rows.{queues_of, pools_of}
 use Rattle.layout_laws.specs.Sound.{IsSoundQueue, HoldsPool, HasRooms as HasPlanRooms}
 use Rattle.layout_laws.proofs.Lists.{all-at}
 use Rattle.layout_laws.proofs.Queues.{queues_sound}
 use Rattle.layout_laws.proofs.Rooms.{has_rooms}
+use Rattle.layout_laws.specs.Seats.Ends.{serial_first}
+use Rattle.layout_laws.proofs.SeatsLemmas.Carrying.{net_kinds}
 use Rattle.net_law.specs.Owners.Names.{ClientPools}
 use Rattle.net_law.specs.Parts.Numbers.{client_first}
 use Rattle.net_law.specs.TxParts.Numbers.{NetPlace}
 use Rattle.net_quiet.specs.Still.{HasPools, HasRooms, SendApart, range_of}
 use Rattle.actor_set.specs.Parts.{Part}
-use Rattle.actor_set.specs.Laws.Kinds.{AllCalm, hostiles}
-use Rattle.actor_set.proofs.LawsLemmas.Calm.{calm_row}
-use Rattle.wired_law.specs.Wiring.{HasWhole}
+use Rattle.actor_set.specs.Laws.Kinds.{hostiles}
 use Rattle.cast_core.specs.Casts.{client_pools, net_place}
 use Rattle.cast_core.specs.Sources.{pool_at, client_mac, client_program}
 use Rattle.cast_core.specs.Making.{HasPools as HasPoolRows, HasNetPool}
 use Rattle.cast_core.proofs.Listing.{value_count, value_is}
 use Rattle.cast_core.proofs.Rooms.{has_pools}
+use Rattle.cast_law.specs.Jobs.{PlayJobs}
+use Rattle.cast_law.proofs.QuietLemmas.Ends.{net_calm}
 
 power_some : (k : ℕ) → 1 ≤ 2 ^ k
 power_some zero = omega arith
@@ -110,25 +112,36 @@ module _ (plan : Plan) (trace : Trace) where
         apart = send_apart;
       }
 
-      module _ (cast : List Part) (calm : AllCalm cast) (whole : HasWhole (queues_of plan) place cast) where
-        held : (n least : ℕ) (row : QueueRow) → slice_get (queues_of plan) n ≡ Some row → least ≤ row.capacity → Holds (hostiles cast) (queues_of plan) n least
-        held n least row at enough = record { row = row; there = at; calm = calm_row cast calm row; enough = enough }
+      -- where no client of the network is hostile, whoever else is
+      module _ (cast : List Part) (plays : PlayJobs plan trace cast) (none : (c : ℕ) → is_net_rogue plan c ≡ false) where
+        front : serial_first plan ≡ 8 + 6 * length net.client
+        front = ap (λ (o : Option Net). option_map_or (λ (n : Net). 8 + 6 * length n.client) o 0) is
+
+        held : (n least : ℕ) (row : QueueRow) → slice_get (queues_of plan) n ≡ Some row → n < 8 + 6 * length net.client → least ≤ row.capacity → Holds (hostiles cast) (queues_of plan) n least
+        held n least row at lt enough = record {
+          row = row;
+          there = at;
+          calm = net_calm plan trace valid cast plays n row at none (let first = front in omega (arith, lt, first));
+          enough = enough;
+        }
 
         -- a queue that can hold a pool holds as many entries as the pool has buffers
-        holds_pool : (n m pool : ℕ) → HoldsPool plan n pool → n ≡ m → Holds (hostiles cast) (queues_of plan) m (pool_at (pools_of plan) pool).buffers
-        holds_pool n m pool has same =
+        holds_pool : (n m pool : ℕ) → HoldsPool plan n pool → n ≡ m → m < 8 + 6 * length net.client → Holds (hostiles cast) (queues_of plan) m (pool_at (pools_of plan) pool).buffers
+        holds_pool n m pool has same lt =
             let many : (pool_at (pools_of plan) pool).buffers ≡ has.1.buffers = ap (λ (o : Option PoolRow). option_map_or (λ (r : PoolRow). r.buffers) o 0) has.3 in
             let room = has.4 in
-            held m (pool_at (pools_of plan) pool).buffers has.0 (ap (slice_get (queues_of plan)) (sym same) ∙ has.2) (omega (arith, many, room))
+            held m (pool_at (pools_of plan) pool).buffers has.0 (ap (slice_get (queues_of plan)) (sym same) ∙ has.2) lt (omega (arith, many, room))
 
         rooms : HasPlanRooms plan net
         rooms = has_rooms plan valid net is
 
         each_room : (i : ℕ) → i < 8 + 6 * length place.macs → Holds (hostiles cast) (queues_of plan) (place.first + i) 1
         each_room i lt =
-            let row = whole.kinds i lt in
-            let sound = all-at (IsSoundQueue plan) (queues_of plan) (queues_sound plan valid) (place.first + i) row.0 row.1 in
-            held (place.first + i) 1 row.0 row.1 (capacity_some row.0.capacity sound.capacity)
+            let below : i < 8 + 6 * length net.client = (let a = macs_many in let b = counted in omega (arith, lt, a, b)) in
+            let row = net_kinds plan net is i below in
+            let plus : i ≡ 0 + i = omega arith in
+            let sound = all-at (IsSoundQueue plan) (queues_of plan) (queues_sound plan valid) i row.0 row.1 in
+            subst (λ n. Holds (hostiles cast) (queues_of plan) n 1) plus (held i 1 row.0 row.1 below (capacity_some row.0.capacity sound.capacity))
 
         below_of : (k : ℕ) → k < length place.macs → k < length net.client
         below_of k lt = let a = macs_many in let b = counted in omega (arith, lt, a, b)
@@ -139,8 +152,8 @@ module _ (plan : Plan) (trace : Trace) where
         pub rooms_are : HasRooms (hostiles cast) (queues_of plan) place
         rooms_are = record {
           each = each_room;
-          free = holds_pool 5 (place.first + 5) 0 rooms.free refl;
-          lease_free = λ k lt. holds_pool (9 + 6 * k) (client_first 0 k + 1) 0 (rooms.lease_free k (below_of k lt)) (omega arith);
-          rx_free = λ k q at. subst (λ (p : ClientPools). Holds (hostiles cast) (queues_of plan) (client_first 0 k + 3) p.rx.buffers) (sym (value_is count (client_pools plan) k q at).1) (holds_pool (11 + 6 * k) (client_first 0 k + 3) (1 + 2 * k) (rooms.rx_free k (client_below k q at)) (omega arith));
-          tx_free = λ k q at. subst (λ (p : ClientPools). Holds (hostiles cast) (queues_of plan) (client_first 0 k + 5) p.tx.buffers) (sym (value_is count (client_pools plan) k q at).1) (holds_pool (13 + 6 * k) (client_first 0 k + 5) (2 + 2 * k) (rooms.tx_free k (client_below k q at)) (omega arith));
+          free = holds_pool 5 (place.first + 5) 0 rooms.free refl (omega arith);
+          lease_free = λ k lt. let below = below_of k lt in holds_pool (9 + 6 * k) (client_first 0 k + 1) 0 (rooms.lease_free k below) (omega arith) (omega (arith, below));
+          rx_free = λ k q at. let below = client_below k q at in subst (λ (p : ClientPools). Holds (hostiles cast) (queues_of plan) (client_first 0 k + 3) p.rx.buffers) (sym (value_is count (client_pools plan) k q at).1) (holds_pool (11 + 6 * k) (client_first 0 k + 3) (1 + 2 * k) (rooms.rx_free k below) (omega arith) (omega (arith, below)));
+          tx_free = λ k q at. let below = client_below k q at in subst (λ (p : ClientPools). Holds (hostiles cast) (queues_of plan) (client_first 0 k + 5) p.tx.buffers) (sym (value_is count (client_pools plan) k q at).1) (holds_pool (13 + 6 * k) (client_first 0 k + 5) (2 + 2 * k) (rooms.tx_free k below) (omega arith) (omega (arith, below)));
         }

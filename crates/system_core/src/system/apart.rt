@@ -8,6 +8,7 @@ ghost use Rattle.order_law.specs.ActorParts.Given.{Kept, apart_of};
 ghost use Rattle.order_law.specs.ActorParts.Opened.{HaveNothing, AreAsOpened};
 ghost use Rattle.order_law.specs.ActorParts.Parting.{AreApart};
 ghost use Rattle.order_law.specs.ActorParts.Opening.{IsForgotten};
+ghost use Rattle.cast_core.specs.Hostile.{HasNoRogue};
 ghost use Rattle.sdf_check.specs.Valid.{Valid};
 ghost use Rattle.trace_text.specs.declared.trace.Trace.{Trace as TraceIs};
 ghost use Rattle.trace_text.specs.Traces.{IsReadFor};
@@ -70,11 +71,11 @@ impl System {
         open_apart(alloc, &rows, actors)
     }
 
-    /// The system of a plan that goes on from what its actors left, which ran apart: every ring
-    /// comes to its end, and every actor forgets its last looks, since those who looked are gone.
-    /// What was put and taken, the bells, and the noes and steps of the ends are its history; its
-    /// journal is empty. The plan tells who is who in its classes. After want of memory nothing is
-    /// left of the parts.
+    /// The system of a plan without hostile clients that goes on from what its actors left, which
+    /// ran apart: every ring comes to its end, and every actor forgets its last looks, since those
+    /// who looked are gone. What was put and taken, the bells, and the noes and steps of the ends
+    /// are its history; its journal is empty. The plan tells who is who in its classes. After want
+    /// of memory nothing is left of the parts.
     pub fn adopt(
         alloc: Global,
         plan: &Plan,
@@ -83,6 +84,7 @@ impl System {
     ) -> Result<System, Memory>
         requires valid { Valid plan.now }
         requires layout { layout.now ≡ layout_of plan.now }
+        requires friendly { HasNoRogue plan.now }
         requires came { (trace : TraceIs) × (s : Setting) × IsCastOf plan.now trace s
             × HaveComeFrom s parts.rings.items (map apart_of parts.actors.items) }
         ensures adopted { IfOk result (λ t. (trace : TraceIs) (s : Setting)

@@ -6,7 +6,7 @@ pub returns-clause-pools : goal.returns-clause-pools
 returns-clause-pools c = λ plan trace valid net is. pools_are plan trace net is valid
 
 pub returns-clause-rooms : goal.returns-clause-rooms
-returns-clause-rooms c = λ plan trace cast valid net is calm whole. rooms_are plan trace net is valid cast calm whole
+returns-clause-rooms c = λ plan trace cast valid net is plays none. rooms_are plan trace net is valid cast plays none
 
 pub returns-clause-blk_pools : goal.returns-clause-blk_pools
 returns-clause-blk_pools c = blk_pools_are
