@@ -65,12 +65,12 @@ fn driver(first: u16) -> UartDriver
 }
 
 // Each of these clients waits for room in its queue.
-fn waiting(alloc: Global, queues: &[QueueId]) -> Result<Vec<(QueueId, bool)>, Memory>
-    ensures { IfOk result (λ clients. clients.items ≡ map (λ q. (q, false)) queues.now) }
+fn waiting(alloc: Global, queues: Vec<QueueId>) -> Result<Vec<(QueueId, bool)>, Memory>
+    ensures { IfOk result (λ clients. clients.items ≡ map (λ q. (q, false)) queues.items) }
 {
     let mut clients = Vec::with_capacity(alloc, queues.len())?;
     for queue in queues {
-        clients.push((*queue, false))?;
+        clients.push((queue, false))?;
     }
     Ok(clients)
 }
@@ -85,7 +85,7 @@ fn receiver(alloc: Global, first: u16, clients: u16) -> Result<SerialVirtRx, Mem
         part_of (Actor.SerialVirtRx v) ≡ RxPart (first + 2) (every_second (first + 4) clients)) }
 {
     let queues = every_second(alloc, first + 4, clients)?;
-    let takers = waiting(alloc, &queues)?;
+    let takers = waiting(alloc, queues)?;
     Ok(SerialVirtRx::new(alloc, QueueId(first + 2), takers)?)
 }
 

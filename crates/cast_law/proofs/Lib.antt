@@ -19,3 +19,4 @@ pub mod PagesLemmas
 pub mod TurnsLemmas
 pub mod RunsLemmas
 pub mod GoneLemmas
+pub mod Restarted

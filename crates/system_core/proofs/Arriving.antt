@@ -32,7 +32,7 @@ use Rattle.system_core.specs.Plays.{runnable_now}
 use Rattle.system_core.specs.Lawful.{StandsLawful}
 use Rattle.system_core.specs.Builds.{IsCastOf, serial_class}
 use Rattle.system_core.specs.GivesBack.{SerialGivesBack}
-use Rattle.system_core.specs.PlanPlays.{ShowsInPart, ShowsWhole, serial_says}
+use Rattle.system_core.specs.PlanPlays.{ShowsInPart, ShowsWhole}
 use Rattle.system_core.proofs.Scripts.{scripts_length}
 use Rattle.system_core.proofs.Casting.{HasSerial, has_serial}
 use Rattle.system_core.proofs.Begun.{There, serial_beside, serial_there, shows_in_part, shows_whole}
@@ -133,8 +133,8 @@ module _ (plan : Plan) (trace : Trace) (read : IsReadFor plan trace) (s : Shown)
   pub serial_arrives : LawBeside → EachMoment (λ j. ArrivesBeside (is_serial_rogue plan) class (moved_in s.setting j)) s.journal
   serial_arrives law = arrives s stands class (is_serial_rogue plan) class_beside law
 
-  pub serial_shows : LawBeside → ShowsInPart (length serial.client) trace (serial_says plan trace serial (moved_in s.setting s.journal)) s.state
-  serial_shows law = shows_in_part plan serial (first_serial plan) trace s class_is says stands.told (arrives_now s stands class (is_serial_rogue plan) class_beside law)
+  pub serial_shows : LawBeside → ShowsInPart plan trace serial (moved_in s.setting s.journal) s.state
+  serial_shows law = shows_in_part plan serial trace s class_is says stands.told (arrives_now s stands class (is_serial_rogue plan) class_beside law)
 
   pub serial_whole : LawWhole → runnable_now s ≡ [] → SerialGivesBack plan → ShowsWhole (length serial.client) trace s.state
-  serial_whole law quiet calm = shows_whole plan serial (first_serial plan) trace s class_is says stands.told calm (arrives_whole s stands class (class_there calm) law quiet)
+  serial_whole law quiet calm = shows_whole plan serial trace s class_is says stands.told calm (arrives_whole s stands class (class_there calm) law quiet)

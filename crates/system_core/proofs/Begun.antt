@@ -19,7 +19,7 @@ use Rattle.play_core.proofs.Lists.{some_is, map_get, map_from, there_is, there_b
 use Rattle.serial_law.specs.Parts.{SerialPart, SerialClient}
 use Rattle.serial_law.specs.Bytes.{bytes_in}
 use Rattle.serial_law.specs.Serial.{SerialClass, IsSerial, ArrivesWhole}
-use Rattle.serial_law.specs.Beside.{HasQueue, IsSerialBeside, ArrivesBeside, said_beside}
+use Rattle.serial_law.specs.Beside.{HasQueue, IsSerialBeside, ArrivesBeside}
 use Rattle.actor_set.specs.Parts.{Part, ClientPart}
 use Rattle.actor_set.specs.Laws.Kinds.{manner_of, serial_part, sheet}
 use Rattle.system_core.specs.Shows.{Setting, Shown, hostile_in, moved_in}
@@ -31,7 +31,7 @@ use Rattle.system_core.specs.GivesBack.{SerialGivesBack}
 use Rattle.system_core.proofs.Casting.{HasSerial}
 use Rattle.system_core.specs.PlanPlays.{ShowsInPart, ShowsWhole}
 use Rattle.actor_set.proofs.LawsLemmas.Calm.{calm_at}
-use Rattle.cast_core.specs.Sources.{every_second}
+use Rattle.cast_core.specs.Sources.{every_second, first_serial}
 use Rattle.cast_core.proofs.Seconds.{second_get, second_there, second_length}
 
 -- an actor of the serial class is one of a cast
@@ -142,7 +142,10 @@ module _ (plan : Plan) (serial : Serial) (first : ℕ) (trace : Trace) (s : Sett
     }
 
 -- what is seen of the class is what its actors took
-module _ (plan : Plan) (serial : Serial) (first : ℕ) (trace : Trace) (s : Shown) (h : HasSerial first plan serial trace s.setting) (says : length trace.says ≡ length serial.client) (told : IsTold s) where
+module _ (plan : Plan) (serial : Serial) (trace : Trace) (s : Shown) (h : HasSerial (first_serial plan) plan serial trace s.setting) (says : length trace.says ≡ length serial.client) (told : IsTold s) where
+  abbrev first : ℕ
+  first = first_serial plan
+
   abbrev clients : ℕ
   clients = length serial.client
 
@@ -177,10 +180,11 @@ module _ (plan : Plan) (serial : Serial) (first : ℕ) (trace : Trace) (s : Show
   line_is =
       told.line ∙ (ap (option_map (record_at s)) h.device_is ∙ ap Some (ap (λ o. option_map_or (record_by went) o []) h.device))
 
-  pub shows_in_part : ArrivesBeside (is_serial_rogue plan) class went → ShowsInPart clients trace (said_beside (is_serial_rogue plan) class went) s.state
+  pub shows_in_part : ArrivesBeside (is_serial_rogue plan) class went → ShowsInPart plan trace serial went s.state
   shows_in_part a = record {
     count_is = ap length told.serial ∙ (length-map s.setting.serial.clients (record_at s) ∙ (ap length h.clients_are ∙ length-map serial.client (λ (x : Client). number_named plan x.pd)));
     records = λ c got at. begins c got at (is_serial_rogue plan c) refl;
+    hostile = nothing_is;
     line = (bytes_in (went.taken (first + 1)), line_is, a.line);
   }
     where

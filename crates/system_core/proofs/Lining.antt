@@ -1,6 +1,7 @@
 -- The lines of pools that a system reports are those of the table of owners, and nothing is bad.
 use Rattle.std.proofs.Common.{◌≡◌, ◌+◌, ◌-◌, ◌^◌, ◌≤◌, ℕ, zero, suc, min, Some, List, [], ◌∷◌, length, map, slice_get, sum_by, refl, sym, ap, ◌∙◌, subst, arith}
 use Rattle.std.proofs.lemmas.List.Sums.{sum_by-cons}
+use Rattle.wire_core.specs.declared.names.PoolRow.{PoolRow}
 use Rattle.wire_core.specs.Journal.{EachMoment, start_history}
 use Rattle.wire_core.proofs.BellTheorem.{queues_flow}
 use Rattle.cargo_core.specs.declared.census.Census.{Census}
@@ -98,7 +99,9 @@ module _ (a : Inside) (i : IsSystem a) where
   pub lines_add : AllAdd (shown_of a).state.pools
   lines_add k l at =
       let x = line_from 0 a.pools.items k l at in
-      subst (λ (y : Census). y.queues + y.hands + y.lent ≡ y.buffers) (sym x.2) (add_up k x.0 x.1)
+      let plus : k ≡ 0 + k = omega arith in
+      subst (λ (y : Census). y.queues + y.hands + y.lent ≡ y.buffers) (sym x.2)
+          (subst (λ n. (counted a.wires.world (holders_of a.actors.items) (record { 0 = n })).queues + (counted a.wires.world (holders_of a.actors.items) (record { 0 = n })).hands + (counted a.wires.world (holders_of a.actors.items) (record { 0 = n })).lent ≡ x.0.buffers) plus (add_up k x.0 x.1))
 
   -- the buffers are those of the cast's pools, one by one
   pub buffers_told : (place : PoolPlace) → IsPlaced a.rows.items place cast → HasPools a.pools.items place → TellsBuffers place (shown_of a)

@@ -334,7 +334,7 @@ module _ (history : History) (rows : List QueueRow) (names : List Noted) (w v : 
       | inl same ↦ subst (λ r. ActorEnd x r e.queue.0) (same ∙ ap role_of put) calls.own
       | inr store ↦ let no : true ≡ false = sym store ∙ ap is_store put in absurd cc
     ])
-    (λ row at. (old.queues e.queue.0 row at).kind) turned (old.asks place placed)
+    (λ n row at j c there. kinds' n row at j c there (eqb_tells e.queue.0 n)) turned (old.asks place placed)
 
     -- and entries go on to carry what their items name
     carry' : (place : PoolPlace) → IsPlaced rows place (map part_of actors) → CastCarries rows place actors' (moved history after_) passed'

@@ -1,6 +1,6 @@
 -- What a system of a plan and a trace shows, however it was played, and what one play of it shows:
 -- all that a caller learns of it.
-use Rattle.std.specs.Prelude.{◌≡◌, ◌+◌, ◌<◌, ◌≤◌, ℕ, Some, List, [], length, slice_get}
+use Rattle.std.specs.Prelude.{◌≡◌, ◌+◌, ◌<◌, ◌≤◌, ℕ, true, Some, List, [], length, slice_get}
 use Rattle.cargo_core.specs.Lists.{IsPrefix, Merge, PrefixMerge}
 use Rattle.wire_core.specs.Picks.{PickedFrom}
 use Rattle.wire_core.specs.Journal.{EachMoment}
@@ -46,14 +46,17 @@ abbrev pub serial_says : Plan → Trace → Serial → Moved → List (List ℕ)
 serial_says plan trace serial m = said_beside (is_serial_rogue plan)
     (serial_class (first_serial plan) (length serial.client) trace) m
 
--- each serial client recorded a beginning of its part of the input, a hostile one nothing, and what
--- was sent on the line is a merge of beginnings of what the clients say
-pub record ShowsInPart (count : ℕ) (trace : Trace) (says : List (List ℕ)) (s : State) :
+-- each serial client of a plan recorded a beginning of its part of the input, and a hostile one
+-- nothing; and what was sent on the line is a merge of beginnings of what the clients say
+pub record ShowsInPart (plan : Plan) (trace : Trace) (serial : Serial) (m : Moved) (s : State) :
     Type 0 where
-  pub count_is : length s.serial ≡ count
+  pub count_is : length s.serial ≡ length serial.client
   pub records : (c : ℕ) (got : List ℕ) → slice_get s.serial c ≡ Some got
-      → IsPrefix got (input_of count c trace.input)
-  pub line : (said : List ℕ) × (s.line ≡ Some said) × PrefixMerge says said
+      → IsPrefix got (input_of (length serial.client) c trace.input)
+  pub hostile : (c : ℕ) (got : List ℕ) → is_serial_rogue plan c ≡ true
+      → slice_get s.serial c ≡ Some got → got ≡ []
+  pub line : (said : List ℕ) × (s.line ≡ Some said)
+      × PrefixMerge (serial_says plan trace serial m) said
 
 -- each serial client recorded its whole part of the input, and what was sent on the line is a merge
 -- of the whole scripts
@@ -112,8 +115,7 @@ pub record IsSystemOf (plan : Plan) (trace : Trace) (s : Shown) : Type 0 where
       (serial_class (first_serial plan) (length serial.client) trace) (moved_in s.setting j))
       s.journal
   pub shows : (serial : Serial) → plan.serial ≡ Some serial
-      → ShowsInPart (length serial.client) trace
-      (serial_says plan trace serial (moved_in s.setting s.journal)) s.state
+      → ShowsInPart plan trace serial (moved_in s.setting s.journal) s.state
   pub shows_net : (net : Net) → plan.net ≡ Some net
       → ShowsFrames (wild_by s.setting) (net_place plan trace) trace.frames stands.told.passed
       s.state

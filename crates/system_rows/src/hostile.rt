@@ -1,6 +1,5 @@
-//! Plays beside hostile clients whose acts are drawn. For each number the line of a trace has that
-//! number's script for each hostile client, the play has that seed, and each third play has a limit
-//! that it meets.
+//! Plays beside hostile clients whose acts are drawn: the play of a number has that seed and that
+//! number's script for each hostile client. Each third play has a limit that it may meet.
 ghost use Rattle.std.specs.Prelude.{◌≡◌};
 ghost use Rattle.sdf_check.specs.Valid.{Valid};
 ghost use Rattle.trace_text.specs.Traces.{IsReadFor};

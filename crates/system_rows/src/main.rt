@@ -156,8 +156,8 @@ fn add_replies(
     Ok(())
 }
 
-// How many block clients a plan has.
-fn block_clients(plan: &Plan) -> usize
+/// How many block clients a plan has.
+pub(crate) fn block_clients(plan: &Plan) -> usize
     ensures { result ≡ length (blk_clients plan.now) }
 {
     match &plan.blk {

@@ -1,5 +1,6 @@
 //! Where buffers may be beside hostile clients, by the pools of a report and by a journal.
 
+use crate::block_clients;
 use cargo_core::{Code, Item, Memory};
 use expect_core::Report;
 use region_layout::Layout;
@@ -53,7 +54,7 @@ fn count(journal: &[Entry], queue: QueueId, op: Op) -> u64 {
     count
 }
 
-// Whether an address is where a buffer of a pool begins, for a device.
+// Whether a buffer of a pool begins at an address, for a device.
 fn begins_buffer(address: u64, pool: &PoolRow) -> bool {
     match address.checked_sub(pool.base) {
         Some(offset) => {
@@ -93,21 +94,15 @@ fn count_named(journal: &[Entry], queue: QueueId, pool: &PoolRow) -> u64 {
     count
 }
 
-// How many clients a plan has of the network and of the block class.
-fn client_counts(plan: &Plan) -> (usize, usize) {
-    let net = match &plan.net {
+// How many network clients a plan has.
+fn network_clients(plan: &Plan) -> usize {
+    match &plan.net {
         Some(net) => net.client.len(),
         None => 0,
-    };
-    let blk = match &plan.blk {
-        Some(blk) => blk.client.len(),
-        None => 0,
-    };
-    (net, blk)
+    }
 }
 
-/// Whether a number is one of the lines of a pool, all of whose buffers are counted once, and
-/// whether buffers are lent of the receiving pool alone.
+/// Whether each pool's line counts all its buffers once, and lent ones of the receiving pool alone.
 pub fn do_add_up(report: &Report) -> bool {
     let mut right = true;
     for k in 0..report.pools.len() {
@@ -167,16 +162,15 @@ pub fn are_at_home(
     report: &Report,
     journal: &[Entry],
 ) -> Result<bool, Memory> {
-    let (net, blk) = client_counts(plan);
     let mut right = true;
-    for client in 0..net {
+    for client in 0..network_clients(plan) {
         if !is_net_rogue(plan, client as u64) {
             let receives = format!(in alloc; "net.{client}.rx")?;
             right = hands_of(report, receives.as_str()) == Some(0) && right;
             right = has_its_own(alloc, layout, report, journal, client)? && right;
         }
     }
-    for client in 0..blk {
+    for client in 0..block_clients(plan) {
         if !is_blk_rogue(plan, client as u64) {
             let name = format!(in alloc; "blk.{client}")?;
             let all = pool_named(layout, name.as_str()).map(|row| u64::from(row.buffers));
@@ -308,7 +302,8 @@ pub fn goes_right(
     layout: &Layout,
     journal: &[Entry],
 ) -> Result<bool, Memory> {
-    let (net, blk) = client_counts(plan);
+    let net = network_clients(plan);
+    let blk = block_clients(plan);
     let mut right = sends_buffers(alloc, layout, journal, net)?
         && asks_within(alloc, layout, journal, blk)?;
     for client in 0..net {

@@ -6,6 +6,7 @@ ghost use Rattle.sdf_check.specs.Valid.{Valid};
 ghost use Rattle.trace_text.specs.Events.{blk_clients};
 ghost use Rattle.trace_text.specs.Traces.{IsReadFor};
 
+use crate::block_clients;
 use crate::network::{to_record, to_send};
 use cargo_core::{FrameLog, Memory, Reply};
 use expect_core::{Report, input_of, replies_of};
@@ -214,15 +215,13 @@ pub fn is_block_right(
     requires valid { Valid plan.now }
     requires trace { IsReadFor plan.now trace.now }
 {
-    let Some(blk) = &plan.blk else {
-        return Ok(true);
-    };
+    let clients = block_clients(plan);
     let mut whole = report.quiet;
-    for client in 0..blk.client.len() {
+    for client in 0..clients {
         whole = whole && !is_blk_rogue(plan, client as u64);
     }
     let mut right = true;
-    for client in 0..blk.client.len() {
+    for client in 0..clients {
         right = are_replies_right(alloc, plan, trace, report, client, whole)? && right;
     }
     Ok(right)

@@ -256,7 +256,8 @@ module _ (scene : Scene) (ends : Role → ℕ → End) (rows : List QueueRow) (a
           let r = there_is (to_queues v.ends) k (omega (arith, below, to_each)) in
           let own = virt_queues place v part in
           let x = (sharers_are place.first 0 (holders v.work.desk) place.entries place.pools (from_queues v.ends) (to_queues v.ends) fits.from_each fits.to_each has.pools_many own.3).1 k h q r.0 h_at q_at r.1 in
-          ap wild x.4.2 ∙ none k (there_below place.entries k x.0 x.2)
+          let plus : 0 + k ≡ k = omega arith in
+          ap wild (x.4.2 ∙ ap (λ n. place.first + 4 + 2 * n) plus) ∙ none k (there_below place.entries k x.0 x.2)
 
       pub blk_turns : (k : ℕ) (x : Actor) → slice_get actors k ≡ Some x → (p : BlkPart) → part_of x ≡ BlockPart p → IsOfBlock place p → InTurn scene x passed
       blk_turns k x at p part (inl e) =

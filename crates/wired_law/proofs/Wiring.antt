@@ -278,7 +278,8 @@ module _ (scene : Scene) (ends : Role → ℕ → End) (rows : List QueueRow) (a
         let r = there_is (to_queues v.ends) k (omega (arith, below, from_each, to_each)) in
         let own = sender_queues net.first net.most net.pools v is.part in
         let x = (shippers_are net.first net.most 0 (senders v.work) net.pools (from_queues v.ends) (to_queues v.ends) is.row.from_each is.row.to_each own.2).1 k s.0 q r.0 s.1 q_at r.1 in
-        ap wild x.2.1 ∙ none k (there_below net.pools k x.0 x.1)
+        let plus : 0 + k ≡ k = omega arith in
+        ap wild (x.2.1 ∙ ap (λ n. client_first net.first n + 4) plus) ∙ none k (there_below net.pools k x.0 x.1)
 
     -- so nothing comes out of turn there
     strays_none : CalmSend wild net passed → NoneHostile wild net → (v : NetVirtTx) → IsSenderAt net v passed → (row : TxRow v passed) → row.stray ≡ []
