@@ -33,7 +33,7 @@ use Rattle.system_core.specs.Plays.{runnable_now}
 use Rattle.system_core.specs.Lawful.{StandsLawful}
 use Rattle.system_core.specs.Builds.{IsCastOf, serial_class}
 use Rattle.system_core.specs.GivesBack.{SerialGivesBack}
-use Rattle.system_core.specs.PlanPlays.{AreSilent, ShowsInPart, ShowsWhole, serial_says}
+use Rattle.system_core.specs.PlanPlays.{ShowsInPart, ShowsWhole, serial_says}
 use Rattle.system_core.proofs.Scripts.{scripts_length}
 use Rattle.system_core.proofs.Casting.{HasSerial, has_serial}
 use Rattle.system_core.proofs.Begun.{There, serial_beside, serial_there, shows_in_part, shows_whole}
@@ -139,9 +139,6 @@ module _ (plan : Plan) (trace : Trace) (read : IsReadFor plan trace) (s : Shown)
 
   pub serial_scripts : SerialGivesBack plan → serial_says plan trace serial (moved_in s.setting s.journal) ≡ trace.says
   serial_scripts calm = said_calm (is_serial_rogue plan) (moved_in s.setting s.journal) calm 0 class.client_tx trace.says (second_length (first_serial plan + 5) (length serial.client) ∙ sym says)
-
-  pub serial_silent : AreSilent (is_serial_rogue plan) s.state.serial
-  serial_silent = nothing_is plan serial trace s class_is says stands.told
 
   pub serial_whole : LawWhole → runnable_now s ≡ [] → SerialGivesBack plan → ShowsWhole (length serial.client) trace s.state
   serial_whole law quiet calm = shows_whole plan serial trace s class_is says stands.told calm (arrives_whole s stands class (class_there calm) law quiet)

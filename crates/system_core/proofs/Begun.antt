@@ -184,6 +184,7 @@ module _ (plan : Plan) (serial : Serial) (trace : Trace) (s : Shown) (h : HasSer
   shows_in_part a = record {
     count_is = ap length told.serial ∙ (length-map s.setting.serial.clients (record_at s) ∙ (ap length h.clients_are ∙ length-map serial.client (λ (x : Client). number_named plan x.pd)));
     records = λ c got at. begins c got at (is_serial_rogue plan c) refl;
+    hostile = nothing_is;
     line = (bytes_in (went.taken (first + 1)), line_is, a.line);
   }
     where

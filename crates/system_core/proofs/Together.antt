@@ -23,13 +23,13 @@ use Rattle.system_core.proofs.Adopting.{apart_disarmed}
 use Rattle.cast_core.specs.Hostile.{HasNoRogue}
 use Rattle.system_core.specs.Builds.{IsBuilt, IsCastOf, BeginsAnew}
 use Rattle.system_core.specs.PlanPlays.{IsSystemOf, IsOfItsPlan, StaysOfItsPlan, IsPlayed, IsPlayedOn, HasEnded}
-use Rattle.system_core.proofs.Networking.{sends_are, shows_frames, wild_is, silent as net_silent}
+use Rattle.system_core.proofs.Networking.{sends_are, shows_frames, wild_is}
 use Rattle.system_core.proofs.Quieting.{none_there, shows_whole_net, shows_whole_blk}
 use Rattle.system_core.proofs.Bounded.{bounded}
-use Rattle.system_core.proofs.Replying.{shows_replies, silent as blk_silent}
+use Rattle.system_core.proofs.Replying.{shows_replies}
 use Rattle.system_core.proofs.PoolsLemmas.Placing.{cast_calm}
 use Rattle.system_core.proofs.PoolsLemmas.Showing.{tells_owners}
-use Rattle.system_core.proofs.Arriving.{LawBeside, LawWhole, class_there, serial_arrives, serial_scripts, serial_shows, serial_silent, serial_whole}
+use Rattle.system_core.proofs.Arriving.{LawBeside, LawWhole, class_there, serial_arrives, serial_scripts, serial_shows, serial_whole}
 
 -- a system of a plan and a trace, whatever its queues had before its journal begins
 module _ (plan : Plan) (trace : Trace) (valid : Valid plan) (read : IsReadFor plan trace) (s : Shown) (cast_is : IsCastOf plan trace s.setting) (stands : StandsLawful s) (beside : LawBeside) (whole : LawWhole) where

@@ -47,13 +47,15 @@ abbrev pub serial_says : Plan → Trace → Serial → Moved → List (List ℕ)
 serial_says plan trace serial m = said_beside (is_serial_rogue plan)
     (serial_class (first_serial plan) (length serial.client) trace) m
 
--- each serial client of a plan recorded a beginning of its part of the input, and what was sent on
--- the line is a merge of beginnings of what the clients say
+-- each serial client of a plan recorded a beginning of its part of the input, and a hostile one
+-- nothing; and what was sent on the line is a merge of beginnings of what the clients say
 pub record ShowsInPart (plan : Plan) (trace : Trace) (serial : Serial) (m : Moved) (s : State) :
     Type 0 where
   pub count_is : length s.serial ≡ length serial.client
   pub records : (c : ℕ) (got : List ℕ) → slice_get s.serial c ≡ Some got
       → IsPrefix got (input_of (length serial.client) c trace.input)
+  pub hostile : (c : ℕ) (got : List ℕ) → is_serial_rogue plan c ≡ true
+      → slice_get s.serial c ≡ Some got → got ≡ []
   pub line : (said : List ℕ) × (s.line ≡ Some said)
       × PrefixMerge (serial_says plan trace serial m) said
 
