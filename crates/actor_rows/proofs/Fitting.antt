@@ -1,4 +1,5 @@
-use Rattle.std.proofs.Common.{◌≡◌, ◌<◌, ◌+◌, ℕ, zero, suc, Some, List, [], ◌∷◌, length, length-set, drop, map, slice_get, refl, sym, ap, ◌∙◌, subst, arith}
+use Rattle.std.proofs.Common.{◌≡◌, ◌<◌, ◌+◌, ℕ, zero, suc, Bool, Some, List, [], ◌∷◌, length, length-set, drop, map, slice_get, refl, sym, ap, ◌∙◌, subst, arith}
+use Rattle.std.proofs.lemmas.List.{length-map}
 use Rattle.wire_core.specs.declared.names.QueueId.{QueueId}
 use Rattle.wire_core.specs.Ends.{Role, Consumer, Producer}
 use Rattle.wire_core.specs.declared.names.Event.{Event}
@@ -11,7 +12,7 @@ use Rattle.turn_kit.specs.declared.ends.Outlet.{Outlet}
 use Rattle.serial_virt.specs.Receiving.{FitsRx, RxStandsFor, RxEnd, IsNewRx, new_outlet, rx_queues}
 use Rattle.serial_virt.specs.declared.rx.SerialVirtRx.{SerialVirtRx}
 use Rattle.actor_rows.specs.Hands.{OnlyAt, AreByteQueues}
-use Rattle.actor_rows.specs.Standings.{RxStands, queue, eight}
+use Rattle.actor_rows.specs.Standings.{RxStands, IsNewSharer, queue, eight}
 
 pub some_is : {X : Type 0} {a b : X} → Some a ≡ Some b → a ≡ b
 some_is h = cc
@@ -47,14 +48,15 @@ pub eight_apart : AreApart eight
 eight_apart k j q r at there same = let a = eight_at k q at in let b = eight_at j r there in let x : q.0 ≡ k + 1 = a.0 in let y : r.0 ≡ j + 1 = b.0 in omega (arith, same, x, y)
 
 -- a virtualiser in its start state fits queues in their start state
-pub new_stands : (w : List Queue) (v : SerialVirtRx) → AreByteQueues 9 w → IsNewRx (queue 0) eight v → RxStands w v
-new_stands w v b new = record {
+pub new_stands : (w : List Queue) (v : SerialVirtRx) → AreByteQueues 9 w → IsNewSharer v → RxStands w v
+new_stands w v b sharer = record {
   fits = record {
     input = rw (new.input, new.input_state, b.start Consumer 0 (omega arith)) (record { owned = refl; waiter = refl; ringer = refl; looked = λ h. cc });
     outputs = record { agrees = agrees; apart = subst AreApart (sym queues) eight_apart };
     hears = rw new.input (ap (λ e. e.kind) (b.start Consumer 0 (omega arith)));
     says = λ k q at. let e = eight_at k q (ap (λ qs. slice_get qs k) (sym queues) ∙ at) in ap (λ e. e.kind) (b.start Producer q.0 (let x : q.0 ≡ k + 1 = e.0 in let y : k < 8 = e.1 in omega (arith, x, y)));
     load = rw new.load (λ x h. cc);
+    policies = sharer.policies ∙ sym (ap length queues);
   };
   long = b.long;
   kind = ap (λ e. e.kind) (b.start Producer 0 (omega arith));
@@ -62,6 +64,9 @@ new_stands w v b new = record {
   outputs = queues;
 }
   where
+    new : IsNewRx (queue 0) eight v.drops.items v
+    new = sharer.new
+
     queues : outlet_queues v.outputs ≡ eight
     queues = ap (map (λ (o : Outlet). o.queue)) new.outputs ∙ queues_are eight
 
@@ -71,6 +76,13 @@ new_stands w v b new = record {
         let e = eight_at k from.0 from.1 in
         let lt : from.0.0 < 9 = (let x : from.0.0 ≡ k + 1 = e.0 in let y : k < 8 = e.1 in omega (arith, x, y)) in
         subst (λ (x : Outlet). Agrees (end_at w Producer x.queue.0) x.state) from.2 (rw (b.start Producer from.0.0 lt) (record { owned = refl; waiter = refl; ringer = refl; looked = λ h. cc }))
+
+-- a virtualiser that is made for these clients
+pub new_sharer : (ts : List (QueueId × Bool)) (v : SerialVirtRx) → map (λ c. c.0) ts ≡ eight → length ts ≡ 8 → IsNewRx (queue 0) (map (λ c. c.0) ts) (map (λ c. c.1) ts) v → IsNewSharer v
+new_sharer ts v are many new = record {
+  new = subst (λ ds. IsNewRx (queue 0) eight ds v) (sym new.policies) (subst (λ qs. IsNewRx (queue 0) qs (map (λ (c : QueueId × Bool). c.1) ts) v) are new);
+  policies = ap length new.policies ∙ (length-map ts (λ (c : QueueId × Bool). c.1) ∙ many);
+}
 
 -- what the hand does at an end that isn't the virtualiser's leaves it
 fits_beside : (w u : List Queue) (v : SerialVirtRx) (role : Role) (place : ℕ) → OnlyAt role place w u → ((r : Role) (n : ℕ) → RxEnd v r n → r ≡ role → n ≡ place → ⊥) → FitsRx (end_at w) v → FitsRx (end_at u) v
@@ -83,6 +95,7 @@ fits_beside w u v role place only away f = record {
   hears = only.kinds Consumer v.input.queue.0 ∙ f.hears;
   says = λ k q at. only.kinds Producer q.0 ∙ f.says k q at;
   load = f.load;
+  policies = f.policies;
 }
 
 pub after_give : (w u : List Queue) (v : SerialVirtRx) → RxStands w v → OnlyAt Producer 0 w u → RxStands u v

@@ -126,7 +126,7 @@ module _ (w : List Queue) (fed : AreFed w) where
     load = for_none p.load (λ c. kind_of c.0 ≡ (end_at w Producer p.output.queue.0).kind) new.load;
   }
 
-  pub new_device : (frames : List (List ℕ)) (d : EthDevice) → All (λ frame. length frame < 2 ^ 16) frames → IsNewDevice (queue 0) (queue 1) (queue 2) (queue 3) frames d → DeviceStands w d
+  pub new_device : (frames : List (List ℕ)) (d : EthDevice) → All (λ frame. length frame < 2 ^ 16) frames → IsNewDevice (queue 0) (queue 1) (queue 2) (queue 3) frames d.drops d → DeviceStands w d
   new_device frames d short new = record {
     fits = record {
       free = intake_fits d.free 0 (inl refl) new.free;
@@ -149,7 +149,7 @@ module _ (w : List Queue) (fed : AreFed w) where
     long = fed.long;
   }
 
-  pub new_copier : (c : NetCopier) → IsNewCopier (queue 0) (queue 1) (queue 3) (queue 2) c → CopierStandsFor c nothing_passed → CopierStands w c
+  pub new_copier : (c : NetCopier) → IsNewCopier (queue 0) (queue 1) (queue 3) (queue 2) c.drops c → CopierStandsFor c nothing_passed → CopierStands w c
   new_copier c new stands = record {
     fits = record {
       lease_input = intake_fits c.lease_input 0 (inl refl) new.lease_input;

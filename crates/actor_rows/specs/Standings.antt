@@ -8,7 +8,7 @@ use Rattle.turn_kit.specs.ManyEnds.{intake_queues, outlet_queues}
 use Rattle.pipe_driver.specs.Drivers.{FitsPipes, inputs_of, outputs_of}
 use Rattle.pipe_driver.specs.Lengths.{two_pipes}
 use Rattle.uart_driver.specs.declared.UartDriver.{UartDriver}
-use Rattle.serial_virt.specs.Receiving.{FitsRx}
+use Rattle.serial_virt.specs.Receiving.{FitsRx, IsNewRx}
 use Rattle.serial_virt.specs.Sending.{FitsTx}
 use Rattle.serial_virt.specs.declared.rx.SerialVirtRx.{SerialVirtRx}
 use Rattle.serial_virt.specs.declared.tx.SerialVirtTx.{SerialVirtTx}
@@ -28,6 +28,11 @@ pub record RxStands (w : List Queue) (v : SerialVirtRx) : Type 0 where
   pub kind : (end_at w Producer 0).kind ≡ Kind.Byte
   pub input : v.input.queue.0 ≡ 0
   pub outputs : outlet_queues v.outputs ≡ eight
+
+-- a virtualiser in its start state at these queues, with a policy for each client
+pub record IsNewSharer (v : SerialVirtRx) : Type 0 where
+  pub new : IsNewRx (queue 0) eight v.drops.items v
+  pub policies : length v.drops.items ≡ 8
 
 -- a driver stands between the queues 0 and 2, and the queues 3 and 1; queue 0 is filled by hand
 pub record DriverStands (w : List Queue) (d : UartDriver) : Type 0 where

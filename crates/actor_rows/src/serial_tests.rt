@@ -1,9 +1,9 @@
 //! Each actor stands alone over queues that hold one byte each.
 
-ghost use Rattle.std.specs.Prelude.{◌≡◌, ◌<◌, IfOk};
-ghost use Rattle.serial_virt.specs.Receiving.{IsNewRx};
+ghost use Rattle.std.specs.Prelude.{◌≡◌, ◌<◌, IfOk, map, length};
 ghost use Rattle.serial_virt.specs.Sending.{IsNewTx};
-ghost use Rattle.actor_rows.specs.Standings.{DriverStands, RxStands, TxStands, eight, queue};
+ghost use Rattle.actor_rows.specs.Standings.{DriverStands, RxStands, TxStands, IsNewSharer};
+ghost use Rattle.actor_rows.specs.Standings.{eight, queue};
 
 use crate::alone::settle;
 use crate::{get, give, one_or_two, queues};
@@ -30,11 +30,30 @@ fn clients(alloc: Global) -> Result<Vec<QueueId>, Memory>
     ]?)
 }
 
-// Shares out queue 0 between the clients.
-fn sharer(alloc: Global) -> Result<SerialVirtRx, Memory>
-    ensures { IfOk result (λ v. IsNewRx (queue 0) eight v) }
+// The clients of these queues, which wait for room, but for that of number 1, which may lose bytes.
+fn takers(alloc: Global, loses: bool) -> Result<Vec<(QueueId, bool)>, Memory>
+    ensures queues { IfOk result (λ ts. map (λ t. t.0) ts.items ≡ eight) }
+    ensures many { IfOk result (λ ts. length ts.items ≡ 8) }
 {
-    SerialVirtRx::new(alloc, QueueId(0), clients(alloc)?)
+    Ok(vec![in alloc;
+        (QueueId(1), false),
+        (QueueId(2), loses),
+        (QueueId(3), false),
+        (QueueId(4), false),
+        (QueueId(5), false),
+        (QueueId(6), false),
+        (QueueId(7), false),
+        (QueueId(8), false),
+    ]?)
+}
+
+// Shares out queue 0 between the clients, of which number 1 may lose bytes or not.
+fn sharer(alloc: Global, loses: bool) -> Result<SerialVirtRx, Memory>
+    ensures { IfOk result IsNewSharer }
+{
+    let takers = takers(alloc, loses)?;
+    let virt = SerialVirtRx::new(alloc, QueueId(0), takers)?;
+    Ok(virt)
 }
 
 // Merges the clients' queues into queue 0.
@@ -69,7 +88,7 @@ fn hear(virt: &mut SerialVirtRx, world: &mut World, client: u16) -> Option<Item>
 fn each_of_eight_clients_gets_its_byte(rt: HostRuntime) -> Result<(), Memory> {
     let alloc = rt.alloc();
     let mut wires = queues(alloc, 9, one_or_two(false))?;
-    let mut virt = sharer(alloc)?;
+    let mut virt = sharer(alloc, false)?;
     for client in 0..8u8 {
         for byte in [28, b'0' + client, 13, b'a' + client] {
             assert!(rt; say(&mut virt, &mut wires, byte));
@@ -91,7 +110,7 @@ fn each_of_eight_clients_gets_its_byte(rt: HostRuntime) -> Result<(), Memory> {
 fn a_byte_waits_until_its_client_has_room(rt: HostRuntime) -> Result<(), Memory> {
     let alloc = rt.alloc();
     let mut wires = queues(alloc, 9, one_or_two(false))?;
-    let mut virt = sharer(alloc)?;
+    let mut virt = sharer(alloc, false)?;
     for byte in b"\x1c1\rh\x1c\x1ci" {
         assert!(rt; say(&mut virt, &mut wires, *byte));
         if *byte == b'h' {
@@ -104,6 +123,50 @@ fn a_byte_waits_until_its_client_has_room(rt: HostRuntime) -> Result<(), Memory>
     }
     assert!(rt; hear(&mut virt, &mut wires, 1).is_none());
     assert!(rt; virt.at_rest());
+    Ok(())
+}
+
+// Puts these bytes, one after another; false where there was no room for one.
+fn tell(virt: &mut SerialVirtRx, world: &mut World, bytes: &[u8]) -> bool
+    requires { RxStands world.old virt.old }
+    ensures { RxStands world.new virt.new }
+{
+    let mut all = true;
+    for byte in bytes {
+        let given = say(virt, world, *byte);
+        all = all && given;
+    }
+    all
+}
+
+// Its queue has one place. What comes while that is taken is lost, and nothing else.
+#[test]
+fn a_client_that_may_lose_bytes_gets_those_that_had_room(rt: HostRuntime) -> Result<(), Memory> {
+    let alloc = rt.alloc();
+    let mut wires = queues(alloc, 9, one_or_two(false))?;
+    let mut virt = sharer(alloc, true)?;
+    assert!(rt; tell(&mut virt, &mut wires, b"\x1c1\rhij"));
+    assert!(rt; virt.at_rest());
+    assert!(rt; hear(&mut virt, &mut wires, 1) == Some(Item::Byte(b'h')));
+    assert!(rt; hear(&mut virt, &mut wires, 1).is_none());
+    assert!(rt; tell(&mut virt, &mut wires, b"kl"));
+    assert!(rt; hear(&mut virt, &mut wires, 1) == Some(Item::Byte(b'k')));
+    assert!(rt; tell(&mut virt, &mut wires, b"mn"));
+    assert!(rt; hear(&mut virt, &mut wires, 1) == Some(Item::Byte(b'm')));
+    assert!(rt; hear(&mut virt, &mut wires, 1).is_none());
+    Ok(())
+}
+
+// A client beside it waits for room, and loses nothing.
+#[test]
+fn a_client_that_waits_loses_no_byte(rt: HostRuntime) -> Result<(), Memory> {
+    let alloc = rt.alloc();
+    let mut wires = queues(alloc, 9, one_or_two(false))?;
+    let mut virt = sharer(alloc, true)?;
+    assert!(rt; tell(&mut virt, &mut wires, b"\x1c2\rno"));
+    assert!(rt; hear(&mut virt, &mut wires, 2) == Some(Item::Byte(b'n')));
+    assert!(rt; hear(&mut virt, &mut wires, 2) == Some(Item::Byte(b'o')));
+    assert!(rt; hear(&mut virt, &mut wires, 2).is_none());
     Ok(())
 }
 

@@ -139,17 +139,18 @@ fn brings(world: &mut World, q: QueueId, item: Item, bytes: &[u8]) -> bool
 fn run_device(device: &mut EthDevice, world: &mut World)
     requires fed { AreFed world.old }
     requires new { IsNewDevice (queue 0) (queue 1) (queue 2) (queue 3) device.old.frames
-        device.old }
+        device.old.drops device.old }
     requires short { All (λ frame. length frame < 2 ^ 16) device.old.frames }
     ensures { length world.new ≡ 4 }
 {
     settle(device, world);
 }
 
-// A device in its start state with two frames to receive.
-fn device(alloc: Global) -> Result<EthDevice, Memory>
+// A device in its start state with two frames to receive, which drops those for which no buffer is
+// free or waits.
+fn device(alloc: Global, drops: bool) -> Result<EthDevice, Memory>
     ensures new { IfOk result
-        (λ d. IsNewDevice (queue 0) (queue 1) (queue 2) (queue 3) d.frames d) }
+        (λ d. IsNewDevice (queue 0) (queue 1) (queue 2) (queue 3) d.frames d.drops d) }
     ensures short { IfOk result (λ d. All (λ frame. length frame < 2 ^ 16) d.frames) }
 {
     let frames = frames(alloc, 2)?;
@@ -160,6 +161,7 @@ fn device(alloc: Global) -> Result<EthDevice, Memory>
         QueueId(2),
         QueueId(3),
         frames,
+        drops,
     ))
 }
 
@@ -174,7 +176,7 @@ fn a_device_fills_a_long_buffer_and_leaves_a_short_one(rt: HostRuntime) -> Resul
     assert!(rt; feed(&mut wires, QueueId(0), descriptor(0, 0), short));
     assert!(rt; feed(&mut wires, QueueId(0), descriptor(16_384, 0), long));
     assert!(rt; feed(&mut wires, QueueId(2), descriptor(32_768, 9_014), sent));
-    let mut device = device(alloc)?;
+    let mut device = device(alloc, false)?;
     run_device(&mut device, &mut wires);
     assert!(rt; brings(&mut wires, QueueId(1), descriptor(0, 9_014), &[0; 4_096]));
     assert!(rt;
@@ -194,6 +196,40 @@ fn a_device_fills_a_long_buffer_and_leaves_a_short_one(rt: HostRuntime) -> Resul
         )
     );
     assert!(rt; device.wire().len() == 1 && is_longest(device.wire().get(0)));
+    Ok(())
+}
+
+// Its two frames are used up, and no buffer is filled.
+#[test]
+fn a_device_that_drops_waits_for_no_buffer(rt: HostRuntime) -> Result<(), Memory> {
+    let alloc = rt.alloc();
+    let mut wires = fed(alloc)?;
+    let mut device = device(alloc, true)?;
+    run_device(&mut device, &mut wires);
+    assert!(rt; next(&mut wires, QueueId(1)).is_none());
+    assert!(rt; device.next == 2 && device.at_rest());
+    Ok(())
+}
+
+// The first frame has a buffer, and the second is dropped.
+#[test]
+fn a_device_that_drops_fills_the_buffer_that_is_there(rt: HostRuntime) -> Result<(), Memory> {
+    let alloc = rt.alloc();
+    let mut wires = fed(alloc)?;
+    let long = Body::Page(empty(alloc, 1, LONG)?);
+    assert!(rt; feed(&mut wires, QueueId(0), descriptor(16_384, 0), long));
+    let mut device = device(alloc, true)?;
+    run_device(&mut device, &mut wires);
+    assert!(rt;
+        brings(
+            &mut wires,
+            QueueId(1),
+            descriptor(16_384, 9_014),
+            &longest()
+        )
+    );
+    assert!(rt; next(&mut wires, QueueId(1)).is_none());
+    assert!(rt; device.next == 2 && device.load.is_none());
     Ok(())
 }
 
@@ -245,7 +281,8 @@ fn a_virtualiser_lends_all_of_the_longest_frame(rt: HostRuntime) -> Result<(), M
 // A copier between the four queues has time to be at rest.
 fn run_copier(copier: &mut NetCopier, world: &mut World)
     requires fed { AreFed world.old }
-    requires new { IsNewCopier (queue 0) (queue 1) (queue 3) (queue 2) copier.old }
+    requires new { IsNewCopier (queue 0) (queue 1) (queue 3) (queue 2) copier.old.drops
+        copier.old }
     requires stands { CopierStandsFor copier.old nothing_passed }
     ensures { length world.new ≡ 4 }
 {
@@ -272,7 +309,7 @@ fn a_copier_copies_all_of_the_longest_frame(rt: HostRuntime) -> Result<(), Memor
     assert!(rt; feed(&mut wires, QueueId(0), descriptor(0, 9_014), again));
     assert!(rt; feed(&mut wires, QueueId(2), descriptor(0, 0), short));
     assert!(rt; feed(&mut wires, QueueId(2), descriptor(16_384, 0), long));
-    let mut copier = NetCopier::new(QueueId(0), QueueId(1), QueueId(3), QueueId(2));
+    let mut copier = NetCopier::new(QueueId(0), QueueId(1), QueueId(3), QueueId(2), false);
     run_copier(&mut copier, &mut wires);
     assert!(rt; brings(&mut wires, QueueId(3), descriptor(0, 9_014), &[0; 4_096]));
     assert!(rt;
@@ -284,6 +321,65 @@ fn a_copier_copies_all_of_the_longest_frame(rt: HostRuntime) -> Result<(), Memor
         )
     );
     assert!(rt; brings(&mut wires, QueueId(1), descriptor(0, 9_014), &longest()));
+    Ok(())
+}
+
+// A copier that drops is lent two frames, one longer than the other, and has no buffer: it gives
+// both leases back and copies nothing.
+#[test]
+fn a_copier_that_drops_waits_for_no_buffer(rt: HostRuntime) -> Result<(), Memory> {
+    let alloc = rt.alloc();
+    let mut wires = fed(alloc)?;
+    let first = Body::Lease(full(alloc, 0)?.lease(LONGEST)?);
+    let second = Body::Lease(full(alloc, 1)?.lease(60)?);
+    assert!(rt; feed(&mut wires, QueueId(0), descriptor(0, 9_014), first));
+    assert!(rt; feed(&mut wires, QueueId(0), descriptor(16_384, 60), second));
+    let mut copier = NetCopier::new(QueueId(0), QueueId(1), QueueId(3), QueueId(2), true);
+    run_copier(&mut copier, &mut wires);
+    assert!(rt; next(&mut wires, QueueId(3)).is_none());
+    assert!(rt; brings(&mut wires, QueueId(1), descriptor(0, 9_014), &longest()));
+    assert!(rt;
+        brings(
+            &mut wires,
+            QueueId(1),
+            descriptor(16_384, 60),
+            &longest()[..60]
+        )
+    );
+    Ok(())
+}
+
+// It has one buffer: the first frame is copied, and the second dropped.
+#[test]
+fn a_copier_that_drops_uses_the_buffer_that_is_there(rt: HostRuntime) -> Result<(), Memory> {
+    let alloc = rt.alloc();
+    let mut wires = fed(alloc)?;
+    let first = Body::Lease(full(alloc, 0)?.lease(60)?);
+    let second = Body::Lease(full(alloc, 1)?.lease(LONGEST)?);
+    let long = Body::Page(empty(alloc, 2, LONG)?);
+    assert!(rt; feed(&mut wires, QueueId(0), descriptor(0, 60), first));
+    assert!(rt; feed(&mut wires, QueueId(0), descriptor(16_384, 9_014), second));
+    assert!(rt; feed(&mut wires, QueueId(2), descriptor(32_768, 0), long));
+    let mut copier = NetCopier::new(QueueId(0), QueueId(1), QueueId(3), QueueId(2), true);
+    run_copier(&mut copier, &mut wires);
+    assert!(rt;
+        brings(
+            &mut wires,
+            QueueId(3),
+            descriptor(32_768, 60),
+            &longest()[..60]
+        )
+    );
+    assert!(rt; next(&mut wires, QueueId(3)).is_none());
+    assert!(rt; brings(&mut wires, QueueId(1), descriptor(0, 60), &longest()[..60]));
+    assert!(rt;
+        brings(
+            &mut wires,
+            QueueId(1),
+            descriptor(16_384, 9_014),
+            &longest()
+        )
+    );
     Ok(())
 }
 

@@ -29,7 +29,7 @@ fn each_pair_of_queues_has_its_pipe(rt: HostRuntime) {
 
 #[test]
 fn a_new_copier_waits_for_a_lease_and_has_no_buffer(rt: HostRuntime) {
-    let mut copier = NetCopier::new(QueueId(0), QueueId(1), QueueId(2), QueueId(3));
+    let mut copier = NetCopier::new(QueueId(0), QueueId(1), QueueId(2), QueueId(3), false);
     assert!(rt; !copier.at_rest());
     assert_eq!(rt; copier.held(PoolId(0)), 0);
     copier.forget();
@@ -48,6 +48,7 @@ fn a_new_device_has_no_buffer_and_an_empty_wire(rt: HostRuntime) -> Result<(), F
         QueueId(2),
         QueueId(3),
         frames,
+        false,
     );
     assert_eq!(rt; device.held(PoolId(0)), 0);
     assert!(rt; device.wire().is_empty());

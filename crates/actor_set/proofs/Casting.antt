@@ -1,4 +1,4 @@
-use Rattle.std.proofs.Common.{◌-◌, ◌<◌, ◌≤◌, ◌^◌, ℕ, Option, Some, None, Result, Ok, Err, IfOk, List, length, ap, ◌∙◌, arith}
+use Rattle.std.proofs.Common.{◌-◌, ◌<◌, ◌≤◌, ◌^◌, ℕ, Option, Some, None, Result, Ok, Err, IfOk, List, length, ap, ◌∙◌, subst, ◌≡◌, arith}
 use Rattle.std.proofs.lemmas.List.{length-map}
 use Rattle.cargo_core.specs.declared.memory.Memory.{Memory}
 use Rattle.wire_core.specs.declared.names.Event.{Event}
@@ -6,19 +6,20 @@ use Rattle.wire_core.specs.Deeds.{Cargo, Deed}
 use Rattle.wire_core.specs.Lists.{Passed, Stepped}
 use Rattle.device_model.specs.declared.serial_terminal.Terminal.{Terminal}
 use Rattle.device_model.specs.SerialTerminal.Terminals.{TerminalStandsFor, TerminalRow, TerminalBalances}
+use Rattle.turn_kit.specs.Turns.{Round, Turned}
 use Rattle.turn_kit.specs.declared.pipe.Pipe.{Pipe}
 use Rattle.pipe_driver.specs.Drivers.{PipesStandFor, PipesRow, PipesBalance}
 use Rattle.pipe_driver.specs.Lengths.{two_pipes}
-use Rattle.serial_virt.specs.Receiving.{RxStandsFor, RxRow, RxBalances}
+use Rattle.serial_virt.specs.Receiving.{HoldingRxStands, HoldingRxRow, RxBalances}
 use Rattle.serial_virt.specs.declared.rx.SerialVirtRx.{SerialVirtRx}
 use Rattle.serial_virt.specs.Sending.{TxStandsFor, TxRow, TxBalances}
 use Rattle.serial_virt.specs.declared.tx.SerialVirtTx.{SerialVirtTx}
 use Rattle.eth_driver.specs.Four.{four_pipes}
-use Rattle.device_model.specs.Ethernet.Devices.{DeviceStandsFor, DeviceRow, DeviceBalances}
+use Rattle.device_model.specs.Ethernet.Devices.{HoldingDeviceStands, HoldingDeviceRow, DeviceBalances}
 use Rattle.device_model.specs.declared.ethernet.EthDevice.{EthDevice}
 use Rattle.net_virt_rx.specs.Receiving.{RxStandsFor as NetRxStandsFor, RxRow as NetRxRow, RxBalances as NetRxBalances}
 use Rattle.net_virt_rx.specs.declared.NetVirtRx.{NetVirtRx}
-use Rattle.net_copier.specs.Copying.{CopierStandsFor, CopierRow, CopierBalances}
+use Rattle.net_copier.specs.Copying.{HoldingCopierStands, HoldingCopierRow, CopierBalances}
 use Rattle.net_copier.specs.declared.NetCopier.{NetCopier}
 use Rattle.client_programs.specs.Net.Clients.{ClientStandsFor, ClientRow, ClientBalances}
 use Rattle.client_programs.specs.declared.net.NetClient.{NetClient}
@@ -48,8 +49,8 @@ ok_actor S did w v old new a a' (Ok e) was is st = as_actor S did w v old new a 
 ok_actor S did w v old new a a' (Err m) was is st = st
 
 -- the row of each kind is that of an actor
-pub rows : ((x : Terminal) (p : Passed) → TerminalStandsFor x p → TerminalRow x p) → ((ps : List Pipe) (p : Passed) → PipesStandFor ps p → PipesRow ps p) → ((x : SerialVirtRx) (p : Passed) → RxStandsFor x p → RxRow x p) → ((x : SerialVirtTx) (p : Passed) → TxStandsFor x p → TxRow x p)
-    → ((x : EthDevice) (p : Passed) → DeviceStandsFor x p → DeviceRow x p) → ((x : NetVirtRx) (p : Passed) → NetRxStandsFor x p → NetRxRow x p) → ((x : NetCopier) (p : Passed) → CopierStandsFor x p → CopierRow x p) → ((x : NetClient) (p : Passed) → ClientStandsFor x p → ClientRow x p) → ((x : NetVirtTx) (p : Passed) → NetTxStandsFor x p → NetTxRow x p)
+pub rows : ((x : Terminal) (p : Passed) → TerminalStandsFor x p → TerminalRow x p) → ((ps : List Pipe) (p : Passed) → PipesStandFor ps p → PipesRow ps p) → ((x : SerialVirtRx) (p : Passed) → HoldingRxStands x p → HoldingRxRow x p) → ((x : SerialVirtTx) (p : Passed) → TxStandsFor x p → TxRow x p)
+    → ((x : EthDevice) (p : Passed) → HoldingDeviceStands x p → HoldingDeviceRow x p) → ((x : NetVirtRx) (p : Passed) → NetRxStandsFor x p → NetRxRow x p) → ((x : NetCopier) (p : Passed) → HoldingCopierStands x p → HoldingCopierRow x p) → ((x : NetClient) (p : Passed) → ClientStandsFor x p → ClientRow x p) → ((x : NetVirtTx) (p : Passed) → NetTxStandsFor x p → NetTxRow x p)
     → ((start : List ℕ) (x : DiskDevice) (p : Passed) → DiskStandsFor start x p → DiskRow start x p) → ((x : BlkVirt) (p : Passed) → BlkVirtStandsFor x p → BlkVirtRow x p) → ((x : BlkClient) (p : Passed) → BlkClientStandsFor x p → BlkClientRow x p)
     → (a : Actor) (p : Passed) → ActorStandsFor a p → ActorRow a p
 rows terminal driver rx tx device lender copier client sender disk server asker (Kinds.UartDevice x) p h = terminal x.terminal p h
@@ -70,8 +71,8 @@ rows terminal driver rx tx device lender copier client sender disk server asker 
 rows terminal driver rx tx device lender copier client sender disk server asker (Kinds.Rogue x) p h = tt
 
 -- and so is its balance
-pub balances : ((x : Terminal) (p : Passed) → TerminalStandsFor x p → TerminalBalances x p) → ((ps : List Pipe) (p : Passed) → PipesStandFor ps p → PipesBalance ps p) → ((x : SerialVirtRx) (p : Passed) → RxStandsFor x p → RxBalances x p) → ((x : SerialVirtTx) (p : Passed) → TxStandsFor x p → TxBalances x p)
-    → ((x : EthDevice) (p : Passed) → DeviceStandsFor x p → DeviceBalances x p) → ((x : NetVirtRx) (p : Passed) → NetRxStandsFor x p → NetRxBalances x p) → ((x : NetCopier) (p : Passed) → CopierStandsFor x p → CopierBalances x p) → ((x : NetClient) (p : Passed) → ClientStandsFor x p → ClientBalances x p) → ((x : NetVirtTx) (p : Passed) → NetTxStandsFor x p → NetTxBalances x p)
+pub balances : ((x : Terminal) (p : Passed) → TerminalStandsFor x p → TerminalBalances x p) → ((ps : List Pipe) (p : Passed) → PipesStandFor ps p → PipesBalance ps p) → ((x : SerialVirtRx) (p : Passed) → HoldingRxStands x p → RxBalances x p) → ((x : SerialVirtTx) (p : Passed) → TxStandsFor x p → TxBalances x p)
+    → ((x : EthDevice) (p : Passed) → HoldingDeviceStands x p → DeviceBalances x p) → ((x : NetVirtRx) (p : Passed) → NetRxStandsFor x p → NetRxBalances x p) → ((x : NetCopier) (p : Passed) → HoldingCopierStands x p → CopierBalances x p) → ((x : NetClient) (p : Passed) → ClientStandsFor x p → ClientBalances x p) → ((x : NetVirtTx) (p : Passed) → NetTxStandsFor x p → NetTxBalances x p)
     → ((start : List ℕ) (x : DiskDevice) (p : Passed) → DiskStandsFor start x p → DiskBalances x p) → ((x : BlkVirt) (p : Passed) → BlkVirtStandsFor x p → BlkVirtBalances x p) → ((x : BlkClient) (p : Passed) → BlkClientStandsFor x p → BlkClientBalances x p) → ((x : Rogue) (p : Passed) → RogueStandsFor x p → RogueBalances x p)
     → (a : Actor) (p : Passed) → ActorStandsFor a p → ActorBalances a p
 balances terminal driver rx tx device lender copier client sender disk server asker rogue (Kinds.UartDevice x) p h = terminal x.terminal p h
@@ -110,3 +111,11 @@ few_still old new same few =
 -- and the same own buffer
 pub first_still : (old new : BlkVirt) → SameBlkVirt old new → HasFirst old → HasFirst new
 first_still old new same first = ap (λ o. o.no) same.work.own ∙ first
+
+-- a turn of an actor that waits everywhere is one of its rounds where nothing is dropped
+pub turned_held : (r r' n n' : Round) (e : Event) → r ≡ r' → n ≡ n' → Turned r e n → Turned r' e n'
+turned_held r r' n n' e before after t = subst (λ x. Turned x e n') before (subst (λ x. Turned r e x) after t)
+
+pub ok_turned_held : (r r' n n' : Round) (o : Result Event Memory) → r ≡ r' → n ≡ n' → IfOk o (λ e. Turned r e n) → IfOk o (λ e. Turned r' e n')
+ok_turned_held r r' n n' (Ok e) before after t = turned_held r r' n n' e before after t
+ok_turned_held r r' n n' (Err m) before after t = t

@@ -1,6 +1,6 @@
 -- Actors in their start state, and the ends that rows give them.
 use Rattle.std.specs.Prelude.{◌≡◌, ◌+◌, ◌-◌, ◌<◌, ◌^◌, ◌==◌, if◌then◌else◌, ℕ, Some, List, All}
-use Rattle.std.specs.Prelude.{length, slice_get}
+use Rattle.std.specs.Prelude.{length, map, slice_get, false}
 use Rattle.cargo_core.specs.declared.item.QueueKind.{QueueKind}
 use Rattle.cargo_core.specs.declared.item.QueueKind.TheVariants as Kind
 use Rattle.cargo_core.specs.Pages.{Paged}
@@ -48,7 +48,7 @@ use Rattle.actor_set.specs.declared.actor.Actor.TheVariants as Kinds
 -- an Ethernet device in its start state, each of whose frames has at most 65,535 bytes
 pub record IsNewReceiving (d : EthDevice) : Type 0 where
   pub new : IsNewDevice d.free.queue d.active.queue d.wire.pipe.input.queue
-      d.wire.pipe.output.queue d.frames d
+      d.wire.pipe.output.queue d.frames false d
   pub short : All (λ frame. length frame < 2 ^ 16) d.frames
 
 -- a receiving virtualiser of the network in its start state, with all buffers of its pool
@@ -106,14 +106,16 @@ IsNew (Kinds.UartDriver x) =
     x.driver.pipes.first
     × IsNewPipe x.driver.pipes.rest.input.queue x.driver.pipes.rest.output.queue
     x.driver.pipes.rest
-IsNew (Kinds.SerialVirtRx x) = IsNewRx x.input.queue (outlet_queues x.outputs) x
+IsNew (Kinds.SerialVirtRx x) =
+    IsNewRx x.input.queue (outlet_queues x.outputs)
+    (map (λ q. false) (outlet_queues x.outputs)) x
 IsNew (Kinds.SerialVirtTx x) = IsNewTx x.output.queue (intake_queues x.inputs) x
 IsNew (Kinds.EthDevice x) = IsNewReceiving x
 IsNew (Kinds.EthDriver x) =
     EachPipe (λ p. IsNewPipe p.input.queue p.output.queue p) (four_pipes x.driver.pipes)
 IsNew (Kinds.NetVirtRx x) = IsNewLender x
 IsNew (Kinds.NetCopier x) = IsNewCopier x.lease_input.queue x.lease_output.queue
-    x.buffer_output.queue x.buffer_input.queue x
+    x.buffer_output.queue x.buffer_input.queue false x
 IsNew (Kinds.NetClient x) = IsNewClientOf x
 IsNew (Kinds.NetVirtTx x) = IsNewSender x
 IsNew (Kinds.DiskDevice x) =

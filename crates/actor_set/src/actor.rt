@@ -215,11 +215,11 @@ pub fn row_law()
 {
     device_model::serial_terminal::row_law();
     pipe_driver::row_law();
-    serial_virt::rx_row_law();
+    serial_virt::rx_drop_law();
     serial_virt::tx_row_law();
-    device_model::ethernet::row_law();
+    device_model::ethernet::drop_law();
     net_virt_rx::row_law();
-    net_copier::row_law();
+    net_copier::drop_law();
     client_programs::net::row_law();
     net_virt_tx::row_law();
     device_model::disk::row_law();
@@ -234,11 +234,11 @@ pub fn hand_law()
 {
     device_model::serial_terminal::hand_law();
     pipe_driver::hand_law();
-    serial_virt::rx_hand_law();
+    serial_virt::rx_drop_law();
     serial_virt::tx_hand_law();
-    device_model::ethernet::hand_law();
+    device_model::ethernet::drop_law();
     net_virt_rx::hand_law();
-    net_copier::hand_law();
+    net_copier::drop_law();
     client_programs::net::hand_law();
     net_virt_tx::hand_law();
     device_model::disk::hand_law();

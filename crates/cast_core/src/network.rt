@@ -1,6 +1,6 @@
 //! The actors of the network class.
 ghost use Rattle.std.specs.Prelude.{◌≡◌, ◌<◌, ◌≤◌, ◌+◌, ◌*◌, ◌^◌, ℕ, List, Some, length, slice_get};
-ghost use Rattle.std.specs.Prelude.{IfOk};
+ghost use Rattle.std.specs.Prelude.{IfOk, false};
 ghost use Rattle.region_layout.specs.Rows.{pools_of};
 ghost use Rattle.trace_text.specs.Events.{net_clients, is_source};
 ghost use Rattle.trace_text.specs.Limits.{frame_most};
@@ -133,6 +133,7 @@ fn device(alloc: Global, trace: &Trace) -> Result<EthDevice, Memory>
         QueueId(2),
         QueueId(3),
         frames,
+        false,
     ))
 }
 
@@ -186,7 +187,7 @@ fn sender(alloc: Global, plan: &Plan, pools: &[PoolRow], clients: u16) -> Result
 fn copier(client: u16) -> NetCopier
     requires { client < 8 }
     ensures new { IsNewCopier result.lease_input.queue result.lease_output.queue
-        result.buffer_output.queue result.buffer_input.queue result }
+        result.buffer_output.queue result.buffer_input.queue false result }
     ensures part { copier_part result ≡ copier_at 0 client }
 {
     let first = 8 + 6 * client;
@@ -195,6 +196,7 @@ fn copier(client: u16) -> NetCopier
         QueueId(first + 1),
         QueueId(first + 2),
         QueueId(first + 3),
+        false,
     )
 }
 

@@ -1,6 +1,6 @@
 //! The actors of the serial class.
 ghost use Rattle.std.specs.Prelude.{◌≡◌, ◌<◌, ◌≤◌, ◌+◌, ◌*◌, [], Some, length, slice_get};
-ghost use Rattle.std.specs.Prelude.{unwrap_or, IfOk};
+ghost use Rattle.std.specs.Prelude.{unwrap_or, map, false, IfOk};
 ghost use Rattle.trace_text.specs.Events.{serial_clients};
 ghost use Rattle.actor_set.specs.Actors.{part_of, numbers};
 ghost use Rattle.actor_set.specs.Parts.{UartPart, DriverPart, RxPart, TxPart, ClientPart};
@@ -64,6 +64,17 @@ fn driver(first: u16) -> UartDriver
     )
 }
 
+// Each of these clients waits for room in its queue.
+fn waiting(alloc: Global, queues: Vec<QueueId>) -> Result<Vec<(QueueId, bool)>, Memory>
+    ensures { IfOk result (λ clients. clients.items ≡ map (λ q. (q, false)) queues.items) }
+{
+    let mut clients = Vec::with_capacity(alloc, queues.len())?;
+    for queue in queues {
+        clients.push((queue, false))?;
+    }
+    Ok(clients)
+}
+
 // The receiving virtualiser.
 fn receiver(alloc: Global, first: u16, clients: u16) -> Result<SerialVirtRx, Memory>
     requires some { 0 < clients }
@@ -74,7 +85,8 @@ fn receiver(alloc: Global, first: u16, clients: u16) -> Result<SerialVirtRx, Mem
         part_of (Actor.SerialVirtRx v) ≡ RxPart (first + 2) (every_second (first + 4) clients)) }
 {
     let queues = every_second(alloc, first + 4, clients)?;
-    Ok(SerialVirtRx::new(alloc, QueueId(first + 2), queues)?)
+    let takers = waiting(alloc, queues)?;
+    Ok(SerialVirtRx::new(alloc, QueueId(first + 2), takers)?)
 }
 
 // The sending virtualiser.

@@ -7,3 +7,4 @@ pub mod Around
 pub mod Hands
 pub mod Rounds
 pub mod Carrying
+pub mod Asking

@@ -74,11 +74,11 @@ job_view plan trace (BlkClient c) p is = by (is_blk_rogue plan c) is
 
 -- so it is that where its client isn't hostile, if it isn't a hostile client's
 pub job_calm : (plan : Plan) (trace : Trace) (job : Job) (p : Part) → ((r : RoguePart) → p ≡ HostilePart r → ⊥) → job_part plan trace job ≡ Some p → calm_part plan trace job ≡ Some p
-job_calm plan trace job p no is = by (job_view plan trace job p is)
+job_calm plan trace job p other is = by (job_view plan trace job p is)
   where
     by : (calm_part plan trace job ≡ Some p) ⊎ ((r : RoguePart) × (p ≡ HostilePart r)) → calm_part plan trace job ≡ Some p
     by (inl calm) = calm
-    by (inr (r, hostile)) = absurd (no r hostile)
+    by (inr (r, hostile)) = absurd (other r hostile)
 
 -- an actor of this part is hostile, or isn't, as the part is
 pub hostile_there : (cast : List Part) (k : ℕ) (p : Part) → slice_get cast k ≡ Some p → hostiles cast k ≡ is_hostile (manner_of p)

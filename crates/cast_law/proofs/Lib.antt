@@ -4,6 +4,7 @@ pub mod Parting
 pub mod Calming
 pub mod Apart
 pub mod Seated
+pub mod Senders
 pub mod Wired
 pub mod Rogued
 pub mod Pooled
@@ -19,3 +20,4 @@ pub mod PagesLemmas
 pub mod TurnsLemmas
 pub mod RunsLemmas
 pub mod GoneLemmas
+pub mod Restarted

@@ -109,7 +109,7 @@ module _ (plan : Plan) (trace : Trace) where
   alike_job (SerialClient c) p is = by (is_serial_rogue plan c) is
     where
       by : (b : Bool) → (if b then Some (HostilePart (serial_rogue_at (first_serial plan) c (acts_at trace.serial_acts c))) else calm_part plan trace (SerialClient c)) ≡ Some p → AreAlike (part_ends p) (job_ends plan (SerialClient c))
-      by true e = subst (λ q. AreAlike (part_ends q) (job_ends plan (SerialClient c))) (some_is e) (same_alike refl)
+      by true e = subst (λ q. AreAlike (part_ends q) (job_ends plan (SerialClient c))) (some_is e) (same_alike {job_ends plan (SerialClient c)} {job_ends plan (SerialClient c)} refl)
       by false e = of_calm (SerialClient c) p e
   alike_job DiskDevice p is = of_calm DiskDevice p is
   alike_job DiskDriver p is = of_calm DiskDriver p is
@@ -117,7 +117,7 @@ module _ (plan : Plan) (trace : Trace) where
   alike_job (BlkClient c) p is = by (is_blk_rogue plan c) is
     where
       by : (b : Bool) → (if b then Some (HostilePart (blk_rogue_at (first_blk plan) c (client_pool plan c) (acts_at trace.blk_acts c))) else calm_part plan trace (BlkClient c)) ≡ Some p → AreAlike (part_ends p) (job_ends plan (BlkClient c))
-      by true e = subst (λ q. AreAlike (part_ends q) (job_ends plan (BlkClient c))) (some_is e) (same_alike refl)
+      by true e = subst (λ q. AreAlike (part_ends q) (job_ends plan (BlkClient c))) (some_is e) (same_alike {job_ends plan (BlkClient c)} {job_ends plan (BlkClient c)} refl)
       by false e = of_calm (BlkClient c) p e
 
   -- an actor's ends are those of its job

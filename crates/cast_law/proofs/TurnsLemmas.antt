@@ -33,6 +33,7 @@ use Rattle.wired_law.specs.Buffers.{HasEachOnce}
 use Rattle.wired_law.specs.Wiring.{AreAtWork, AreInTurn, ClientsSend, HasBlk, HasNoBlock, HasNoNetwork, HasWhole, IsWired, TellsKept}
 use Rattle.wired_law.proofs.TurningLemmas.{beside}
 use Rattle.wired_law.proofs.Wiring.{turns_beside, turns_calm}
+use Rattle.cast_law.specs.Pools.Beside.{AllTold}
 use Rattle.cast_law.specs.Pools.Places.{HasBlkAt, HasNetAt, IsInPlace, IsPlaced, PoolPlace}
 use Rattle.cast_law.proofs.PagesLemmas.Once.{each_once}
 
@@ -101,7 +102,11 @@ module _ (ends : Role → ℕ → End) (rows : List QueueRow) (pools : List Pool
   pub told_turns : ClientsSend rows cast passed → (names : Names) → TellsKept (wild_in (hostiles cast) rows) names passed → (k : ℕ) (x : Actor) → slice_get actors k ≡ Some x → ToldInTurn (scene_of cast) (wild_in (hostiles cast) rows) names x passed
   told_turns sends names kept k x at = turns_beside (scene_of cast) ends rows actors passed names (wired_place rows pools cast in_place) work sends kept (beside_turns (wild_in (hostiles cast) rows)) k x at
 
-  -- so the rows of all actors hold
+  -- so it is by the names of all that was put
+  pub all_told : ClientsSend rows cast passed → AllTold rows actors passed
+  all_told sends = told_turns sends (names_at passed) (λ n is_wild. ([], append-nil (names_at passed n)))
+
+  -- and the rows of all actors hold
   pub told_rows : ClientsSend rows cast passed → (names : Names) → TellsKept (wild_in (hostiles cast) rows) names passed → (m : Moved) → HaveItems passed m → RowsHold (told_sheet (scene_of cast) (wild_in (hostiles cast) rows) names) (hostiles cast) cast m
   told_rows sends names kept m items k p calm at =
       let x = map_from part_of actors k p at in
@@ -115,4 +120,4 @@ module _ (ends : Role → ℕ → End) (rows : List QueueRow) (pools : List Pool
 
   -- where nobody is hostile no name is asked
   pub calm_turns : AllCalm cast → ClientsSend rows cast passed → (k : ℕ) (x : Actor) → slice_get actors k ≡ Some x → InTurn (scene_of cast) x passed
-  calm_turns calm sends k x at = turns_calm (scene_of cast) (wild_in (hostiles cast) rows) (names_at passed) x passed (none_wild cast calm rows) (told_turns sends (names_at passed) (λ n is_wild. ([], append-nil (names_at passed n))) k x at)
+  calm_turns calm sends k x at = turns_calm (scene_of cast) (wild_in (hostiles cast) rows) (names_at passed) x passed (none_wild cast calm rows) (all_told sends k x at)

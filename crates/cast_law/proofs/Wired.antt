@@ -1,6 +1,6 @@
 -- The actors of a plan are wired: none is of the network, or they are the whole network at its
 -- place.
-use Rattle.std.proofs.Common.{◌≡◌, ◌⊎◌, ◌+◌, ◌*◌, ◌%◌, ◌==◌, ◌&&◌, ◌||◌, ◌<◌, ◌≤◌, ◌++◌, ℕ, zero, suc, Bool, true, false, if◌then◌else◌, Option, Some, None, unwrap_or, inl, inr, List, [], ◌∷◌, length, map, flat_map, slice_get, refl, sym, ap, ap₂, ◌∙◌, subst, arith}
+use Rattle.std.proofs.Common.{◌≡◌, ◌⊎◌, ◌+◌, ◌*◌, ◌%◌, ◌==◌, ◌&&◌, ◌<◌, ◌≤◌, ◌++◌, ℕ, zero, suc, Bool, true, false, if◌then◌else◌, Option, Some, None, unwrap_or, inl, inr, List, [], ◌∷◌, length, map, flat_map, slice_get, refl, sym, ap, ap₂, ◌∙◌, subst, arith}
 use Rattle.std.specs.List.{All}
 use Rattle.std.specs.Option.{option_map_or}
 use Rattle.std.proofs.lemmas.List.{append-nil}
@@ -8,7 +8,7 @@ use Rattle.frame_core.specs.declared.mac.Mac.{Mac}
 use Rattle.frame_core.specs.Macs.{mac_of, mac_bytes, is_mac_text, byte_at}
 use Rattle.wire_core.specs.declared.names.PoolRow.{PoolRow}
 use Rattle.play_core.specs.Sheets.{Scene}
-use Rattle.play_core.proofs.Lists.{some_is, map_get, map_from, there_below, there_is}
+use Rattle.play_core.proofs.Lists.{some_is, map_get, map_from, there_is}
 use Rattle.sdf_plan.specs.declared.plan.Plan.{Plan}
 use Rattle.sdf_plan.specs.declared.plan.Net.{Net}
 use Rattle.sdf_plan.specs.declared.plan.NetClient.{NetClient as NetClientKeys}
@@ -33,22 +33,20 @@ use Rattle.net_law.specs.Parts.Parts.{NetPart}
 use Rattle.net_law.specs.Parts.Numbers.{device_at, client_at, client_first}
 use Rattle.net_law.proofs.PartsLemmas.Items.{all_at}
 use Rattle.net_law.specs.TxParts.Parts.{SendPart}
-use Rattle.net_law.specs.TxParts.Numbers.{NetPlace, own_pools, sender_at}
+use Rattle.net_law.specs.TxParts.Numbers.{NetPlace, own_pools}
 use Rattle.net_quiet.specs.TxCast.Casting.{AreFrames, IsClientOf}
 use Rattle.blk_law.specs.Sheets.Numbers.{disk_at}
 use Rattle.actor_set.specs.Parts.{Part, RoguePart, NetworkPart, SendingPart, BlockPart, HostilePart}
 use Rattle.actor_set.specs.Actors.{part_of}
 use Rattle.actor_set.specs.declared.actor.Actor.{Actor}
 use Rattle.actor_set.specs.Laws.Kinds.{frames_of, hostiles, image_of, scene_of}
-use Rattle.play_core.specs.Names.{carries_pages, wild_in}
-use Rattle.play_core.specs.Wants.{intake, outlet}
-use Rattle.wire_core.specs.declared.names.QueueRow.{QueueRow}
-use Rattle.cast_law.proofs.Calming.{calm_net, hostile_there, job_view, wild_by}
+use Rattle.play_core.specs.Names.{wild_in}
+use Rattle.cast_law.proofs.Senders.{ends_wild}
+use Rattle.cast_law.proofs.Calming.{calm_net, job_view}
 use Rattle.wired_law.specs.Wiring.{HasWhole, HasNoNetwork, IsOfNetwork}
 use Rattle.layout_laws.specs.Jobs.Jobs.{Job, EthDevice, EthDriver, NetReceiver, NetSender, NetCopier, NetClient, UartDevice, UartDriver, SerialReceiver, SerialSender, SerialClient, DiskDevice, DiskDriver, BlkVirtualiser, BlkClient, HasJob}
 use Rattle.layout_laws.proofs.JobsLemmas.Having.{one_actor, same_job, job_below}
-use Rattle.layout_laws.specs.Seats.Ends.{HasNet, HasBlk as HasBlkClass, IsOf, client_queue, ends_from, net_count, send_ends}
-use Rattle.layout_laws.proofs.SeatsLemmas.Seats.{has_seat}
+use Rattle.layout_laws.specs.Seats.Ends.{HasNet, HasBlk as HasBlkClass, IsOf, net_count}
 use Rattle.layout_laws.specs.Seats.Named.{AreNetNamed}
 use Rattle.layout_laws.proofs.SeatsLemmas.Having.{job_is_of}
 use Rattle.layout_laws.proofs.SeatsLemmas.Carrying.{net_kinds}
@@ -90,19 +88,6 @@ script_is : (kind : NetProgram) (sent script : List (List ℕ)) → Source scrip
 script_is Programs.Sink sent script e = absurd cc
 script_is Programs.Source sent script e = cc
 script_is Programs.Echo sent script e = absurd cc
-
-or_false : (b : Bool) → (b || false) ≡ b
-or_false true = refl
-or_false false = refl
-
--- the ends of the sending virtualiser at the queues of a client stand side by side
-sends_among : (from count c : ℕ) → c < count → (i : ℕ) × (slice_get (ends_from send_ends from count) i ≡ Some (intake (client_queue (from + c) + 4))) × (slice_get (ends_from send_ends from count) (suc i) ≡ Some (outlet (client_queue (from + c) + 5)))
-sends_among from zero c lt = absurd (omega (arith, lt))
-sends_among from (suc count) zero lt = let e : from ≡ from + 0 = omega arith in (0, ap (λ n. Some (intake (client_queue n + 4))) e, ap (λ n. Some (outlet (client_queue n + 5))) e)
-sends_among from (suc count) (suc c) lt =
-    let later = sends_among (from + 1) count c (omega (arith, lt)) in
-    let e : from + 1 + c ≡ from + suc c = omega arith in
-    (suc (suc later.0), later.1 ∙ ap (λ n. Some (intake (client_queue n + 4))) e, later.2 ∙ ap (λ n. Some (outlet (client_queue n + 5))) e)
 
 module _ (plan : Plan) (trace : Trace) (actors : List Actor) (valid : Valid plan) (made : AreCast plan trace actors) where
   abbrev cast : List Part
@@ -345,27 +330,7 @@ module _ (plan : Plan) (trace : Trace) (actors : List Actor) (valid : Valid plan
     -- the queues on which a client sends are wild where its actor is hostile
     pub send_wild : (k : ℕ) (c : NetClientKeys) → slice_get net.client k ≡ Some c
         → (wild_in (hostiles cast) (queues_of plan) (client_first place.first k + 4) ≡ hostiles cast (actor_named plan c.pd).0) × (wild_in (hostiles cast) (queues_of plan) (client_first place.first k + 5) ≡ hostiles cast (actor_named plan c.pd).0)
-    send_wild k c at =
-        let client = (actor_named plan c.pd).0 in
-        let sender = (actor_named plan net.tx_virt).0 in
-        let has = named.client k c at in
-        let below : k < net_count plan = (let lt = there_below net.client k c at in let a = class_count in omega (arith, lt, a)) in
-        let active = has_seat plan (NetClient k) client has 3 (outlet (client_queue k + 4)) refl in
-        let free = has_seat plan (NetClient k) client has 2 (intake (client_queue k + 5)) refl in
-        let there = sends_among 0 (net_count plan) k below in
-        let zero_more : 0 + k ≡ k = omega arith in
-        let takes = has_seat plan NetSender sender named.sender (suc (suc there.0)) (intake (client_queue k + 4)) (there.1 ∙ ap (λ n. Some (intake (client_queue n + 4))) zero_more) in
-        let gives = has_seat plan NetSender sender named.sender (suc (suc (suc there.0))) (outlet (client_queue k + 5)) (there.2 ∙ ap (λ n. Some (outlet (client_queue n + 5))) zero_more) in
-        let calm : hostiles cast sender ≡ false = hostile_there cast sender (SendingPart (sender_at 0 (frame_most plan) place.pools)) (part_at NetSender sender named.sender) in
-        let one : takes.0 ≡ active.0 = some_is (sym takes.1 ∙ active.1) in
-        let other : gives.0 ≡ free.0 = some_is (sym gives.1 ∙ free.1) in
-        let consumer : active.0.consumer.0 ≡ sender = sym (ap (λ (r : QueueRow). r.consumer.0) one) ∙ takes.2 in
-        let producer : free.0.producer.0 ≡ sender = sym (ap (λ (r : QueueRow). r.producer.0) other) ∙ gives.2 in (
-          wild_by (hostiles cast) (queues_of plan) (client_first place.first k + 4) active.0 active.1 (ap carries_pages active.3)
-              ∙ (ap₂ (λ m n. hostiles cast m || hostiles cast n) active.2 consumer ∙ (ap (λ b. hostiles cast client || b) calm ∙ or_false (hostiles cast client))),
-          wild_by (hostiles cast) (queues_of plan) (client_first place.first k + 5) free.0 free.1 (ap carries_pages free.3)
-              ∙ (ap₂ (λ m n. hostiles cast m || hostiles cast n) producer free.2 ∙ ap (λ b. b || hostiles cast client) calm),
-        )
+    send_wild = ends_wild plan trace cast part_at net is
 
     pub whole_is : HasWhole (queues_of plan) place cast
     whole_is = record {

@@ -14,10 +14,10 @@ ghost use Rattle.cast_law.specs.Gone.Gone.{HaveGone, passed_of, left_at, actors_
 /// Where the actors of a cast in place stood apart with nothing passed, made their calls at their
 /// own ends, and their rings came to their end, each actor is of the part that it was and stands
 /// for what the ended rings say passed, by some calls, of which nothing came out of turn by the
-/// names of all that was put; clients that aren't hostile put good descriptors and requests alone;
-/// and entries carry the pages that their items name at all queues but those of hostile clients,
-/// where these asked for reads and writes alone. Each queue handed over in order: what was put there
-/// is what was taken and then what is left.
+/// names of all that was put; clients that aren't hostile put good descriptors and requests alone,
+/// and hostile ones of the block class reads and writes alone; and entries carry the pages that
+/// their items name at all queues but those of hostile clients. Each queue handed over in order:
+/// what was put there is what was taken and then what is left.
 pub fn gone_law()
     ensures held { (rows : List QueueRow) (rings : List RingIs) (olds news : List Apart)
         (actors : List Actor) (ended : List EndedIs) → HaveGone rows rings olds news

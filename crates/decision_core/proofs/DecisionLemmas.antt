@@ -20,7 +20,7 @@ use Rattle.decision_core.specs.declared.showing.Showing.TheVariants as Show
 use Rattle.workload.specs.Generated.{generated_text}
 use Rattle.workload.specs.declared.description.TheConstants.{FULL_EXAMPLE}
 use Rattle.decision_core.specs.Decisions.{Decision, Say, Play, Run, asked_on, AsksFor, to_play, to_run, AsksAlone, AloneDecides, OneTextDecides, long_text_alone, bad_text, good_text, bus_played, ports_played, alone, TraceDecides, PlanDecides, TextDecides, GeneratedDecides, Decides, NamesDescription, refuses, refuses_rogue, long_trace, bad_trace, good_trace, checked, laid_out, hostile, traced, long_description, refused, accepted, no_command, described, generated}
-use Rattle.decision_core.specs.Rogues.{first_rogue}
+use Rattle.decision_core.specs.Rogues.{first_refused}
 use Rattle.decision_core.specs.Naming.{HasDescription}
 use Rattle.decision_core.specs.declared.showing.Alone.{Alone}
 use Rattle.decision_core.specs.declared.showing.Alone.TheVariants as Only
@@ -130,12 +130,18 @@ same-asked words desc trace desc' trace' _ _ (to_play o p) (to_run n q) plan t =
 same-asked words desc trace desc' trace' _ _ (to_run n p) (to_play o q) plan t = absurd (play-or-run words _ _ q.words_are p.words_are)
 same-asked words desc trace desc' trace' _ _ (to_run n p) (to_run n' q) plan t = ap (λ (x : Option ℕ). Run plan t x) (same-limit words desc trace desc' trace' n n' p q)
 
--- there is one first hostile client
-same-rogue : (plan : Plan) (p q : Place) → first_rogue plan ≡ Some p → first_rogue plan ≡ Some q → p ≡ q
-same-rogue plan p q h i = cc
+-- beside one first client what the same words ask for isn't done
+same-refused-place : (words : List (List ℕ)) (desc trace desc' trace' : List ℕ) (a b : Asked) → AsksFor words desc trace a → AsksFor words desc' trace' b → (plan : Plan) → first_refused plan a ≡ first_refused plan b
+same-refused-place words desc trace desc' trace' _ _ (to_play o p) (to_play o' q) plan = refl
+same-refused-place words desc trace desc' trace' _ _ (to_play o p) (to_run n q) plan = absurd (play-or-run words _ _ p.words_are q.words_are)
+same-refused-place words desc trace desc' trace' _ _ (to_run n p) (to_play o q) plan = absurd (play-or-run words _ _ q.words_are p.words_are)
+same-refused-place words desc trace desc' trace' _ _ (to_run n p) (to_run n' q) plan = refl
 
-rogue-or-none : (plan : Plan) (p : Place) → first_rogue plan ≡ Some p → first_rogue plan ≡ None → ⊥
-rogue-or-none plan p h i = cc
+same-rogue : (words : List (List ℕ)) (desc trace desc' trace' : List ℕ) (a b : Asked) → AsksFor words desc trace a → AsksFor words desc' trace' b → (plan : Plan) (p q : Place) → first_refused plan a ≡ Some p → first_refused plan b ≡ Some q → p ≡ q
+same-rogue words desc trace desc' trace' a b w v plan p q h i = let e : Some p ≡ Some q = sym h ∙ same-refused-place words desc trace desc' trace' a b w v plan ∙ i in cc
+
+rogue-or-none : (words : List (List ℕ)) (desc trace desc' trace' : List ℕ) (a b : Asked) → AsksFor words desc trace a → AsksFor words desc' trace' b → (plan : Plan) (p : Place) → first_refused plan a ≡ Some p → first_refused plan b ≡ None → ⊥
+rogue-or-none words desc trace desc' trace' a b w v plan p h i = let e : Some p ≡ None = sym h ∙ same-refused-place words desc trace desc' trace' a b w v plan ∙ i in cc
 
 long-or-short : (xs : List ℕ) → 16777216 < length xs → length xs ≤ 16777216 → ⊥
 long-or-short xs long short = omega arith
@@ -307,9 +313,9 @@ module _ (R S : List ℕ → List ℕ → Type 0) (same : (name a b : List ℕ) 
   one-plan plan _ _ (laid_out desc l) (hostile desc' trace' o' place' p' f') = absurd (layout-or-traced words desc desc' trace' o' l p')
   one-plan plan _ _ (hostile desc trace o place p f) (checked desc' c') = absurd (check-or-traced words desc' desc trace o c' p)
   one-plan plan _ _ (hostile desc trace o place p f) (laid_out desc' l') = absurd (layout-or-traced words desc' desc trace o l' p)
-  one-plan plan _ _ (hostile desc trace o place p f) (hostile desc' trace' o' place' p' f') = ap refuses_rogue (same-rogue plan place place' f f')
-  one-plan plan _ _ (hostile desc trace o place p f) (traced desc' trace' bytes' o' d' p' f' r' t') = absurd (rogue-or-none plan place f f')
-  one-plan plan _ _ (traced desc trace bytes o d p f r t) (hostile desc' trace' o' place' p' f') = absurd (rogue-or-none plan place' f' f)
+  one-plan plan _ _ (hostile desc trace o place p f) (hostile desc' trace' o' place' p' f') = ap refuses_rogue (same-rogue words desc trace desc' trace' o o' p p' plan place place' f f')
+  one-plan plan _ _ (hostile desc trace o place p f) (traced desc' trace' bytes' o' d' p' f' r' t') = absurd (rogue-or-none words desc trace desc' trace' o o' p p' plan place f f')
+  one-plan plan _ _ (traced desc trace bytes o d p f r t) (hostile desc' trace' o' place' p' f') = absurd (rogue-or-none words desc' trace' desc trace o' o p' p plan place' f' f)
   one-plan plan _ _ (checked desc c) (laid_out desc' l') = absurd (check-or-layout words desc desc' c l')
   one-plan plan _ _ (checked desc c) (traced desc' trace' bytes' o' d' p' f' r' t') = absurd (check-or-traced words desc desc' trace' o' c p')
   one-plan plan _ _ (laid_out desc l) (checked desc' c') = absurd (check-or-layout words desc' desc c' l)

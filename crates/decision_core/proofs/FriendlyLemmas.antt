@@ -1,5 +1,4 @@
--- What is played or run has no hostile client: where the first one is looked for, none was found,
--- and the full example has none.
+-- What is run has no hostile client: where the first one is looked for, none was found.
 use Rattle.std.proofs.Common.{◌≡◌, ◌+◌, ◌<◌, ◌++◌, ℕ, zero, suc, Bool, true, false, Option, Some, None, option_map, List, [], ◌∷◌, length, slice_get, refl, sym, ap, ◌∙◌, subst, arith, find}
 use Rattle.std.specs.Option.{option_map_or}
 use Rattle.sdf_plan.specs.declared.place.Place.{Place}
@@ -10,20 +9,17 @@ use Rattle.sdf_plan.specs.declared.plan.Serial.{Serial}
 use Rattle.sdf_plan.specs.declared.plan.Blk.{Blk}
 use Rattle.sdf_plan.specs.Elements.{outline_of}
 use Rattle.sdf_plan.specs.Places.{walk, places_from, domain_places, channel_places, class_places}
-use Rattle.sdf_model.specs.Spelled.{plan_of}
 use Rattle.trace_text.specs.declared.trace.Trace.{Trace}
 use Rattle.trace_text.specs.Events.{net_clients, serial_clients, blk_clients, is_net_rogue, is_serial_rogue, is_blk_rogue}
 use Rattle.workload.specs.declared.description.TheConstants.{FULL_EXAMPLE}
 use Rattle.workload.specs.Generated.{generated_text}
-use Rattle.workload_law.proofs.Example.{root, whole_example}
 use Rattle.decision_core.specs.declared.showing.Asked.{Asked}
 use Rattle.decision_core.specs.declared.showing.Asked.TheVariants as Ask
 use Rattle.decision_core.specs.declared.showing.Showing.TheVariants as Show
 use Rattle.decision_core.specs.declared.showing.Alone.{Alone}
 use Rattle.decision_core.specs.declared.showing.Alone.TheVariants as Only
-use Rattle.decision_core.specs.Rogues.{is_rogue_at, first_rogue}
+use Rattle.decision_core.specs.Rogues.{is_rogue_at, first_rogue, first_refused}
 use Rattle.decision_core.specs.Decisions.{Decision, Say, Play, Run, PlayBus, PlayPorts, asked_on, AloneDecides, long_text_alone, bad_text, good_text, alone, Decides, TextDecides, PlanDecides, TraceDecides, GeneratedDecides, long_trace, bad_trace, good_trace, checked, laid_out, hostile, traced, long_description, refused, accepted, no_command, described, generated}
-use Rattle.decision_core.proofs.GenLemmas.{one-plan}
 
 -- nothing that stands in a list is so
 abbrev Misses : {T : Type 0} (is : T → Bool) → List T → Type 0
@@ -111,45 +107,40 @@ module _ (plan : Plan) (none : first_rogue plan ≡ None) where
       let miss : Misses (is_rogue_at plan) blks = misses-right (is_rogue_at plan) (before ++ nets ++ serials) blks all-miss in
       of-class (is_rogue_at plan) At.Blk (λ n. At.BlkClient n) (outline_of plan).blk miss c (subst (λ n. c < n) (sym (blk-many plan.blk)) lt)
 
--- the full example has no hostile client
-full-friendly : first_rogue (plan_of root) ≡ None
-unfolding whole_example first_rogue is_net_rogue is_serial_rogue is_blk_rogue
-full-friendly = refl
+-- no hostile client is in what a decision runs
+abbrev pub IsFriendlyRun : Decision → Type 0
+IsFriendlyRun (Say s x) = Unit {0}
+IsFriendlyRun (Play p t o) = Unit {0}
+IsFriendlyRun (Run p t n) = first_rogue p ≡ None
+IsFriendlyRun (PlayBus bus schedule) = Unit {0}
+IsFriendlyRun (PlayPorts ports schedule) = Unit {0}
 
--- nor has what a decision plays or runs
-abbrev pub IsFriendlyPlay : Decision → Type 0
-IsFriendlyPlay (Say s x) = Unit {0}
-IsFriendlyPlay (Play p t o) = first_rogue p ≡ None
-IsFriendlyPlay (Run p t n) = first_rogue p ≡ None
-IsFriendlyPlay (PlayBus bus schedule) = Unit {0}
-IsFriendlyPlay (PlayPorts ports schedule) = Unit {0}
-
-asked-friendly : (p : Plan) (t : Trace) (a : Asked) → first_rogue p ≡ None → IsFriendlyPlay (asked_on p t a)
-asked-friendly p t (Ask.Play o) h = h
+asked-friendly : (p : Plan) (t : Trace) (a : Asked) → first_refused p a ≡ None → IsFriendlyRun (asked_on p t a)
+asked-friendly p t (Ask.Play o) h = tt
 asked-friendly p t (Ask.Run n) h = h
 
-trace-friendly : (p : Plan) (a : Asked) (bytes : List ℕ) (d : Decision) → first_rogue p ≡ None → TraceDecides p a bytes d → IsFriendlyPlay d
+trace-friendly : (p : Plan) (a : Asked) (bytes : List ℕ) (d : Decision) → first_refused p a ≡ None → TraceDecides p a bytes d → IsFriendlyRun d
 trace-friendly p a bytes _ h (long_trace l) = tt
 trace-friendly p a bytes _ h (bad_trace k l b) = tt
 trace-friendly p a bytes _ h (good_trace l g) = asked-friendly p _ a h
 
-plan-friendly : (R : List ℕ → List ℕ → Type 0) (words : List (List ℕ)) (p : Plan) (d : Decision) → PlanDecides R words p d → IsFriendlyPlay d
+plan-friendly : (R : List ℕ → List ℕ → Type 0) (words : List (List ℕ)) (p : Plan) (d : Decision) → PlanDecides R words p d → IsFriendlyRun d
 plan-friendly R words p _ (checked desc c) = tt
 plan-friendly R words p _ (laid_out desc l) = tt
 plan-friendly R words p _ (hostile desc trace a place w f) = tt
 plan-friendly R words p _ (traced desc trace bytes a d w f r t) = trace-friendly p a bytes d f t
 
-text-friendly : (R : List ℕ → List ℕ → Type 0) (words : List (List ℕ)) (bytes : List ℕ) (d : Decision) → TextDecides (PlanDecides R words) bytes d → IsFriendlyPlay d
+text-friendly : (R : List ℕ → List ℕ → Type 0) (words : List (List ℕ)) (bytes : List ℕ) (d : Decision) → TextDecides (PlanDecides R words) bytes d → IsFriendlyRun d
 text-friendly R words bytes _ (long_description l) = tt
 text-friendly R words bytes _ (refused r l i) = tt
 text-friendly R words bytes _ (accepted p d l i q) = plan-friendly R words p d q
 
-full-plays : (n : ℕ) (d : Decision) → TextDecides (GeneratedDecides n) FULL_EXAMPLE.now d → IsFriendlyPlay d
+full-plays : (n : ℕ) (d : Decision) → TextDecides (GeneratedDecides n) FULL_EXAMPLE.now d → IsFriendlyRun d
 full-plays n _ (long_description l) = tt
 full-plays n _ (refused r l i) = tt
-full-plays n _ (accepted p d l i q) = trace-friendly p (Ask.Play Show.Summary) (generated_text n) d (subst (λ (x : Plan). first_rogue x ≡ None) (sym (one-plan p i.spelled)) full-friendly) q
+full-plays n _ (accepted p d l i q) = trace-friendly p (Ask.Play Show.Summary) (generated_text n) d refl q
 
-alone-friendly : (a : Alone) (bytes : List ℕ) (d : Decision) → AloneDecides a bytes d → IsFriendlyPlay d
+alone-friendly : (a : Alone) (bytes : List ℕ) (d : Decision) → AloneDecides a bytes d → IsFriendlyRun d
 alone-friendly (Only.Bus schedule) bytes _ (long_text_alone l) = tt
 alone-friendly (Only.Bus schedule) bytes _ (bad_text k l b) = tt
 alone-friendly (Only.Bus schedule) bytes _ (good_text l g) = tt
@@ -157,7 +148,7 @@ alone-friendly (Only.Switch schedule) bytes _ (long_text_alone l) = tt
 alone-friendly (Only.Switch schedule) bytes _ (bad_text k l b) = tt
 alone-friendly (Only.Switch schedule) bytes _ (good_text l g) = tt
 
-pub decided-friendly : (R : List ℕ → List ℕ → Type 0) (words : List (List ℕ)) (d : Decision) → Decides R words d → IsFriendlyPlay d
+pub decided-friendly : (R : List ℕ → List ℕ → Type 0) (words : List (List ℕ)) (d : Decision) → Decides R words d → IsFriendlyRun d
 decided-friendly R words _ (no_command k b) = tt
 decided-friendly R words _ (described desc bytes d n r t) = text-friendly R words bytes d t
 decided-friendly R words _ (alone trace bytes a d w r t) = alone-friendly a bytes d t

@@ -24,7 +24,7 @@ use Rattle.decision_core.specs.Decisions.{Say, NamesDescription, AsksFor, AsksAl
 use Rattle.decision_core.specs.Judged.{IsAccepted}
 use Rattle.decision_core.specs.Leading.{PlanSays}
 use Rattle.decision_core.specs.Readings.{IsWithinLimit, IsOfText, IsOfPlay, LeavesPlay, OpensInTurn, ReadLast, opens_nothing, opens_alone, opens_description, opens_trace, read_none, read_no_text, read_alone, read_description, read_trace}
-use Rattle.decision_core.specs.Rogues.{first_rogue}
+use Rattle.decision_core.specs.Rogues.{first_refused}
 use Rattle.decision_core.specs.Settled.{Settles, SettlesTrace}
 use Rattle.decision_core.proofs.DecisionLemmas.{alone-spell, bad-none, gen-or-alone, gen-or-named, map-ok, names-spell, read-before, said-decides}
 use Rattle.decision_core.proofs.LastLemmas.{alone-status, gen-unread, said-status, trace-status, within-read}
@@ -171,7 +171,7 @@ module _ {F : Type 0} (text : F → List ℕ → Option (List ℕ)) (left : F �
 
   -- the description is accepted, and its trace decides
   pub settle-traced : (s'' : F) (bytes trace : List ℕ) (plan : Plan) (asked : Asked) (r : Result Decided ReadStop) → NamesDescription words name → AsksFor words name trace asked → ReadsFrom text left opens faults failed (Opens name) (LeavesRest (text s) name) s s' (Ok bytes)
-      → IsRead (text s name) bytes → length bytes ≤ text_most → IsAccepted bytes plan → first_rogue plan ≡ None → SettlesTrace text left opens faults failed trace plan asked s' s'' r → Settles text left opens faults failed words s s'' r
+      → IsRead (text s name) bytes → length bytes ≤ text_most → IsAccepted bytes plan → first_refused plan asked ≡ None → SettlesTrace text left opens faults failed trace plan asked s' s'' r → Settles text left opens faults failed words s s'' r
   settle-traced s'' bytes trace plan asked r named asks h read short is friendly t = record {
     decides = map-ok r _ _ (λ d k. described name bytes (decision_of d) named read (accepted plan (decision_of d) short is (traced name trace k.0 asked (decision_of d) asks friendly (read-before (text s) (text s') h.texts trace k.0 k.1) k.2))) t.decides;
     reads = reads-on text left opens faults failed (Opens name) (Opens trace) (LeavesRest (text s) name) (OfEach (LeavesPlay (text s') trace)) (OpensInTurn (WasRead (text s)) words) (OfEach (ReadLast (text s) words)) s s' s'' bytes r h t.reads

@@ -31,7 +31,7 @@ use Rattle.decision_core.specs.declared.status.Status.{Status}
 use Rattle.decision_core.specs.declared.status.Status.TheVariants as Ended
 use Rattle.sdf_model.specs.Counts.{text_most}
 use Rattle.decision_core.specs.Judged.{IsAccepted, IsRefusedText}
-use Rattle.decision_core.specs.Rogues.{first_rogue}
+use Rattle.decision_core.specs.Rogues.{first_refused}
 
 -- what is decided before anything is played: the status and the text of the answer, that a trace is
 -- played on a plan, or that it is run with a thread for each actor, with a limit of steps or none,
@@ -72,13 +72,14 @@ pub data AsksFor (words : List (List ℕ)) (desc trace : List ℕ) : Asked → T
   to_run : (steps : Option ℕ) → IsRun words desc trace steps
       → AsksFor words desc trace (Ask.Run steps)
 
--- nothing is played beside a hostile client, and a description that has one is refused by rule 0
+-- nothing is run beside a hostile client, and for a run a description that has one is refused by
+-- rule 0
 abbrev pub refuses_rogue : Place → Decision
 refuses_rogue place = refuses (record { rule = 0; place = place })
 
 -- what the words decide for the plan of a description that is accepted, where reads tells the bytes
--- that were read of a text: a trace is asked for what the words say, unless there is a hostile
--- client, where the first one is refused
+-- that were read of a text: a trace is asked for what the words say, unless they ask for a run and
+-- there is a hostile client, where the first one is refused
 pub data PlanDecides (reads : List ℕ → List ℕ → Type 0) (words : List (List ℕ)) (plan : Plan)
     : Decision → Type 0 where
   checked : (desc : List ℕ) → IsCheck words desc
@@ -86,10 +87,10 @@ pub data PlanDecides (reads : List ℕ → List ℕ → Type 0) (words : List (L
   laid_out : (desc : List ℕ) → IsLayout words desc
       → PlanDecides reads words plan (Say Ended.Ok (layout_text plan (layout_of plan)))
   hostile : (desc trace : List ℕ) (asked : Asked) (place : Place)
-      → AsksFor words desc trace asked → first_rogue plan ≡ Some place
+      → AsksFor words desc trace asked → first_refused plan asked ≡ Some place
       → PlanDecides reads words plan (refuses_rogue place)
   traced : (desc trace bytes : List ℕ) (asked : Asked) (decision : Decision)
-      → AsksFor words desc trace asked → first_rogue plan ≡ None
+      → AsksFor words desc trace asked → first_refused plan asked ≡ None
       → reads trace bytes → TraceDecides plan asked bytes decision
       → PlanDecides reads words plan decision
 

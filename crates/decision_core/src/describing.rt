@@ -1,9 +1,9 @@
 //! What a description leads to before a trace is read.
 ghost use Rattle.std.specs.Prelude.{IfOk};
 ghost use Rattle.sdf_plan.specs.Elements.{IsNumbered};
-ghost use Rattle.command_words.specs.declared.command.Command.{Command};
+ghost use Rattle.command_words.specs.declared.command.Command.TheVariants as Do;
 ghost use Rattle.decision_core.specs.Judged.{IsAcceptedPlan};
-ghost use Rattle.decision_core.specs.Leading.{AsksOfTrace, LeadsTo, TextLeadsTo};
+ghost use Rattle.decision_core.specs.Leading.{LeadsTo, TextLeadsTo};
 ghost use Rattle.decision_core.specs.Naming.{HasDescription};
 
 use crate::deciding::{
@@ -27,15 +27,14 @@ pub enum Next {
     Trace(Plan, Asked),
 }
 
-/// What a play or a run leads to: that the description is refused where there is a hostile client,
-/// or else that the trace is read.
-fn lead_asked(alloc: Global, plan: Plan, asked: Asked) -> Result<Next, Memory>
+/// What a run leads to: that the description is refused where there is a hostile client, or else
+/// that the trace is read.
+fn lead_run(alloc: Global, plan: Plan, steps: Option<u64>) -> Result<Next, Memory>
     requires { IsNumbered plan }
-    ensures { IfOk result (λ next. (command : Command) → AsksOfTrace command asked
-        → LeadsTo command plan next) }
+    ensures { IfOk result (LeadsTo (Do.Run steps) plan) }
 {
     match first_rogue(alloc, &plan) {
-        Ok(None) => Ok(Next::Trace(plan, asked)),
+        Ok(None) => Ok(Next::Trace(plan, Asked::Run(steps))),
         Ok(Some(place)) => {
             let_go(plan);
             Ok(Next::Done(say_refusal(alloc, Refusal { rule: 0, place })?))
@@ -65,8 +64,8 @@ fn lead_plan(alloc: Global, command: Command, plan: Plan) -> Result<Next, Memory
             let_go(plan);
             Ok(Next::Done(said?))
         }
-        Command::Play(options) => lead_asked(alloc, plan, Asked::Play(Showing::Report(options))),
-        Command::Run(steps) => lead_asked(alloc, plan, Asked::Run(steps)),
+        Command::Play(options) => Ok(Next::Trace(plan, Asked::Play(Showing::Report(options)))),
+        Command::Run(steps) => lead_run(alloc, plan, steps),
         Command::Gen(_) => unreachable!(),
         Command::I2c(_) => unreachable!(),
         Command::Switch(_) => unreachable!(),

@@ -1,4 +1,4 @@
-//! Hostile clients, which are judged and not played.
+//! Hostile clients, beside which nothing is run.
 ghost use Rattle.std.specs.Prelude.{◌≡◌, IfOk};
 ghost use Rattle.std.specs.List.{find};
 ghost use Rattle.sdf_plan.specs.Elements.{IsNumbered};

@@ -2,28 +2,32 @@
 //! and records on its wire the frames that it is given to send. That a device is an actor at the
 //! far ends of its driver's queues is this project's own.
 
-ghost use Rattle.std.specs.Prelude.{◌≡◌, ◌+◌, ◌<◌, ◌≤◌, ◌^◌, ℕ, IfOk, OnOk, OnErr, Some, true};
-ghost use Rattle.std.specs.Prelude.{false, is_none, is_some, length, slice_get};
+ghost use Rattle.std.specs.Prelude.{◌≡◌, ◌+◌, ◌<◌, ◌≤◌, ◌^◌, ◌&&◌, ℕ, List, IfOk, OnOk, OnErr};
+ghost use Rattle.std.specs.Prelude.{Some, true, false, is_none, is_some, length, slice_get};
 ghost use Rattle.cargo_core.specs.Bodies.{buffers_of};
-ghost use Rattle.wire_core.specs.Ends.{role_of, Role, End};
+ghost use Rattle.wire_core.specs.Ends.{role_of, Role, Consumer, End};
 ghost use Rattle.wire_core.specs.Lists.{Passed, Stepped, nothing_passed};
 ghost use Rattle.wire_core.specs.Marks.{is_mark};
+ghost use Rattle.wire_core.specs.Fates.{marked, noes_at, is_vain_at};
 ghost use Rattle.turn_kit.specs.Turns.{Turned, Posted, choice_of, chosen_place, last_after};
-ghost use Rattle.turn_kit.specs.Turns.{is_at_rest};
+ghost use Rattle.turn_kit.specs.Turns.{is_at_rest, is_drop, is_mark_at};
 ghost use Rattle.turn_kit.specs.Posts.{intake_post, outlet_post};
 ghost use Rattle.device_model.specs.Ethernet.Devices.{FitsDevice, DeviceStandsFor, DeviceRow};
 ghost use Rattle.device_model.specs.Ethernet.Devices.{DeviceBalances, DeviceEnd, SameDevice};
 ghost use Rattle.device_model.specs.Ethernet.Devices.{IsNewDevice, is_filling, device_round};
-ghost use Rattle.device_model.specs.Ethernet.Devices.{device_hand, device_forgotten};
+ghost use Rattle.device_model.specs.Ethernet.Devices.{device_hand, device_forgotten, free_post};
+ghost use Rattle.device_model.specs.Ethernet.Devices.{HoldingDeviceStands, HoldingDeviceRow};
+ghost use Rattle.device_model.specs.Ethernet.Devices.{frames_dropped, holding_device_round};
 
 use buffer_kit::{Recorder, fill};
 use cargo_core::{Body, FrameLog, Item, Memory, PoolId};
 use std::alloc::Global;
-use turn_kit::{Intake, Outlet, Turn, count_held};
+use turn_kit::{Intake, Outlet, Turn, count_held, take_or_drop};
 use wire_core::{Event, QueueId, Wires};
 
-/// The Ethernet device. It has put or holds in `load` the first `next` of its frames; `wire` takes
-/// what is to be sent.
+/// The Ethernet device. It has put, holds in `load` or has dropped the first `next` of its frames;
+/// `wire` takes what is to be sent. Where it `drops`, it drops the next frame in place of waiting
+/// for a free buffer.
 #[derive(Drop)]
 pub struct EthDevice {
     pub free: Intake,
@@ -32,13 +36,15 @@ pub struct EthDevice {
     pub frames: FrameLog,
     pub next: usize,
     pub wire: Recorder,
+    pub drops: bool,
     pub turn: Turn,
 }
 
 impl EthDevice {
     /// A device in its start state: it fills the buffers of `rx_free` with the frames, in order,
     /// and puts them to `rx_active`; it records the frames of `tx_active`, and puts their buffers
-    /// to `tx_free`. Each frame has at most 65,535 bytes.
+    /// to `tx_free`. Each frame has at most 65,535 bytes. `drops` says whether it drops a frame
+    /// for which no buffer is free.
     pub fn new(
         alloc: Global,
         rx_free: QueueId,
@@ -46,8 +52,9 @@ impl EthDevice {
         tx_active: QueueId,
         tx_free: QueueId,
         frames: FrameLog,
+        drops: bool,
     ) -> EthDevice
-        ensures new { IsNewDevice rx_free rx_active tx_active tx_free frames result }
+        ensures new { IsNewDevice rx_free rx_active tx_active tx_free frames drops result }
         ensures stands { DeviceStandsFor result nothing_passed }
     {
         EthDevice {
@@ -57,6 +64,7 @@ impl EthDevice {
             frames,
             next: 0,
             wire: Recorder::new(alloc, tx_active, tx_free),
+            drops,
             turn: Turn::new(),
         }
     }
@@ -119,7 +127,8 @@ impl EthDevice {
         self.turn.pass(choice)
     }
 
-    // The next call where free buffers come. What it takes is filled with the next frame.
+    // The next call where free buffers come. What it takes is filled with the next frame; where
+    // none is there, that frame may be dropped.
     fn step_free<W: Wires>(&mut self, wires: &mut W) -> Event
         requires { FitsDevice (W.ends wires.old) self.old }
         ensures fits { FitsDevice (W.ends wires.new) self.new }
@@ -127,18 +136,22 @@ impl EthDevice {
         ensures same { SameDevice self.old self.new }
         ensures stepped { Stepped DeviceStandsFor W.did wires.old wires.new
             self.old self.new result }
-        ensures posted { Posted (intake_post self.old.free) (is_filling self.old) result
-            (intake_post self.new.free) }
-        ensures still { is_mark result.op result.answer ≡ false → self.new.load ≡ self.old.load }
-        ensures stays { is_mark result.op result.answer ≡ false → self.new.next ≡ self.old.next }
+        ensures posted { Posted (free_post self.old) (is_filling self.old) result
+            (free_post self.new) }
+        ensures still { is_mark_at (free_post self.old) result ≡ false
+            → self.new.load ≡ self.old.load }
+        ensures stays { is_mark_at (free_post self.old) result ≡ false
+            → self.new.next ≡ self.old.next }
         ensures others { self.new ≡ record self.old
             { free = self.new.free; load = self.new.load; next = self.new.next } }
     {
         let need = self.is_filling();
-        let (event, got) = self.free.step(wires, need);
+        let (event, got, dropped) = take_or_drop(&mut self.free, wires, need, self.drops);
         if let Some(entry) = got {
             let filled = fill(entry, self.frames.get(self.next));
             self.load = Some(filled);
+            self.next += 1;
+        } else if dropped {
             self.next += 1;
         }
         event
@@ -232,6 +245,8 @@ impl EthDevice {
             → FitsDevice ends self.new }
         ensures lists { (passed : Passed) → DeviceStandsFor self.old passed
             → DeviceStandsFor self.new passed }
+        ensures held { (passed : Passed) → HoldingDeviceStands self.old passed
+            → HoldingDeviceStands self.new passed }
     {
         self.free.forget();
         self.active.forget();
@@ -248,4 +263,34 @@ pub fn row_law()
 pub fn hand_law()
     ensures { (d : EthDevice) (passed : Passed) → DeviceStandsFor d passed
         → DeviceBalances d passed }
+{}
+
+/// Where it waits each of its contracts is that of a device which never drops, word for word: what
+/// it stands for, its row, and its ends. And it drops no more frames than its looks for a free
+/// buffer were in vain.
+pub fn drop_law()
+    ensures stands { (d : EthDevice) (passed : Passed) → d.drops ≡ false
+        → DeviceStandsFor d passed → HoldingDeviceStands d passed }
+    ensures stood { (d : EthDevice) (passed : Passed) → d.drops ≡ false
+        → HoldingDeviceStands d passed → DeviceStandsFor d passed }
+    ensures holds { (d : EthDevice) (passed : Passed) → d.drops ≡ false → DeviceRow d passed
+        → HoldingDeviceRow d passed }
+    ensures held { (d : EthDevice) (passed : Passed) → d.drops ≡ false → HoldingDeviceRow d passed
+        → DeviceRow d passed }
+    ensures row { (d : EthDevice) (passed : Passed) → HoldingDeviceStands d passed
+        → HoldingDeviceRow d passed }
+    ensures balance { (d : EthDevice) (passed : Passed) → HoldingDeviceStands d passed
+        → DeviceBalances d passed }
+    ensures round { (d : EthDevice) → d.drops ≡ false → device_round d ≡ holding_device_round d }
+    ensures few { (d : EthDevice) (calls : List Event) → marked (frames_dropped d calls)
+        ≤ noes_at Consumer d.free.queue.0 calls }
+{}
+
+/// A turn of it is a drop exactly where it drops and a look for a free buffer was in vain: so the
+/// entry of a journal alone tells.
+pub fn turn_law()
+    ensures { (d n : EthDevice) (e : Event)
+        → (d.free.queue.0 ≡ d.wire.pipe.input.queue.0 → ⊥)
+        → (t : Turned (device_round d) e (device_round n)) → is_drop t.posted.post e
+        ≡ (d.drops && is_vain_at Consumer d.free.queue.0 e) }
 {}

@@ -1,2 +1,6 @@
+pub mod Core
+pub mod Words
 pub mod Standing
+pub mod Turns
 pub mod Holding
+pub mod Dropping

@@ -2,24 +2,28 @@
 //! buffers. That a client has a copier is sDDF's; the order of its turns is this project's own.
 #![tactic(auto)]
 
-ghost use Rattle.std.specs.Prelude.{◌≡◌, ◌<◌, ℕ, Some, true, false, is_none, is_some, length};
+ghost use Rattle.std.specs.Prelude.{◌≡◌, ◌<◌, ◌≤◌, ◌&&◌, ℕ, List, Some, true, false, is_none};
+ghost use Rattle.std.specs.Prelude.{is_some, length};
 ghost use Rattle.cargo_core.specs.Bodies.{buffers_of};
 ghost use Rattle.wire_core.specs.Deeds.{Cargo};
-ghost use Rattle.wire_core.specs.Ends.{role_of, Role, End};
+ghost use Rattle.wire_core.specs.Ends.{role_of, Role, Consumer, End};
 ghost use Rattle.wire_core.specs.Lists.{Passed, Stepped, nothing_passed};
 ghost use Rattle.wire_core.specs.Marks.{is_mark};
+ghost use Rattle.wire_core.specs.Fates.{marked, noes_at, is_vain_at};
 ghost use Rattle.turn_kit.specs.Turns.{Turned, Posted, choice_of, chosen_place, last_after};
-ghost use Rattle.turn_kit.specs.Turns.{is_at_rest};
+ghost use Rattle.turn_kit.specs.Turns.{is_at_rest, is_drop, is_mark_at};
 ghost use Rattle.turn_kit.specs.Posts.{intake_post, outlet_post};
 ghost use Rattle.net_copier.specs.Copying.{FitsCopier, CopierStandsFor, CopierRow, CopierBalances};
 ghost use Rattle.net_copier.specs.Copying.{CopierEnd, SameCopier, IsNewCopier, SameWork, IsAt};
 ghost use Rattle.net_copier.specs.Copying.{IsWork, is_copied, leased_bytes, is_stray, is_wanting};
-ghost use Rattle.net_copier.specs.Copying.{is_returning, copier_round, copier_hand};
-ghost use Rattle.net_copier.specs.Copying.{copier_forgotten};
+ghost use Rattle.net_copier.specs.Copying.{is_returning, copier_round, copier_hand, buffer_post};
+ghost use Rattle.net_copier.specs.Copying.{copier_forgotten, leases_dropped};
+ghost use Rattle.net_copier.specs.Copying.{HoldingCopierStands, HoldingCopierRow};
+ghost use Rattle.net_copier.specs.Copying.{holding_copier_round};
 
 use buffer_kit::fill;
 use cargo_core::{Body, Item, PoolId};
-use turn_kit::{Intake, Outlet, Turn, count_held};
+use turn_kit::{Intake, Outlet, Turn, count_held, take_or_drop};
 use wire_core::{Event, QueueId, Wires};
 
 /// The most bytes that a lease can have, since the length of an entry has 16 bits.
@@ -30,7 +34,7 @@ const LONGEST: usize = 65_535;
 pub enum Stage {
     /// Its bytes aren't in a client's buffer that was put.
     Taken,
-    /// The buffer was put, and the lease is to be given back.
+    /// The buffer was put or the frame dropped, and the lease is to be given back.
     Copied,
     /// It is no lease, or one that is too long. The copier takes and puts no more.
     Stray,
@@ -60,7 +64,8 @@ fn stage_of(entry: &(Item, Body)) -> Stage
 
 /// Copies leased frames into a client's buffers. It takes a buffer only while it has a lease, and
 /// gives the lease back when the buffer is put. `stage` says how far it is with `lease`; `buffer`
-/// is filled, and is to be put.
+/// is filled, and is to be put. Where it `drops`, it drops the frame of its lease in place of
+/// waiting for a buffer.
 #[derive(Drop)]
 pub struct NetCopier {
     pub lease_input: Intake,
@@ -70,6 +75,7 @@ pub struct NetCopier {
     pub lease: Option<(Item, Body)>,
     pub stage: Stage,
     pub buffer: Option<(Item, Body)>,
+    pub drops: bool,
     pub turn: Turn,
 }
 
@@ -80,8 +86,9 @@ impl NetCopier {
         lease_free: QueueId,
         rx_active: QueueId,
         rx_free: QueueId,
+        drops: bool,
     ) -> NetCopier
-        ensures new { IsNewCopier lease_active lease_free rx_active rx_free result }
+        ensures new { IsNewCopier lease_active lease_free rx_active rx_free drops result }
         ensures stands { CopierStandsFor result nothing_passed }
     {
         NetCopier {
@@ -92,6 +99,7 @@ impl NetCopier {
             lease: None,
             stage: Stage::Taken,
             buffer: None,
+            drops,
             turn: Turn::new(),
         }
     }
@@ -189,7 +197,8 @@ impl NetCopier {
         event
     }
 
-    // The next call where the client's buffers come. What it takes is filled.
+    // The next call where the client's buffers come. What it takes is filled; where none is there,
+    // the frame may be dropped.
     fn step_buffer_input<W: Wires>(&mut self, wires: &mut W) -> Event
         requires { FitsCopier (W.ends wires.old) self.old }
         ensures fits { FitsCopier (W.ends wires.new) self.new }
@@ -197,17 +206,23 @@ impl NetCopier {
         ensures same { SameCopier self.old self.new }
         ensures stepped { Stepped CopierStandsFor W.did wires.old wires.new
             self.old self.new result }
-        ensures posted { Posted (intake_post self.old.buffer_input) (is_wanting self.old) result
-            (intake_post self.new.buffer_input) }
-        ensures still { is_mark result.op result.answer ≡ false → SameWork self.old self.new }
-        ensures others { self.new ≡ record self.old
-            { buffer_input = self.new.buffer_input; buffer = self.new.buffer } }
+        ensures posted { Posted (buffer_post self.old) (is_wanting self.old) result
+            (buffer_post self.new) }
+        ensures still { is_mark_at (buffer_post self.old) result ≡ false
+            → SameWork self.old self.new }
+        ensures others { self.new ≡ record self.old {
+          buffer_input = self.new.buffer_input;
+          buffer = self.new.buffer;
+          stage = self.new.stage;
+        } }
     {
         let need = self.is_wanting();
-        let (event, got) = self.buffer_input.step(wires, need);
+        let (event, got, dropped) = take_or_drop(&mut self.buffer_input, wires, need, self.drops);
         if let Some(entry) = got {
             let buffer = fill(entry, self.bytes());
             self.buffer = Some(buffer);
+        } else if dropped {
+            self.stage = Stage::Copied;
         }
         event
     }
@@ -286,6 +301,8 @@ impl NetCopier {
             → FitsCopier ends self.new }
         ensures lists { (passed : Passed) → CopierStandsFor self.old passed
             → CopierStandsFor self.new passed }
+        ensures held { (passed : Passed) → HoldingCopierStands self.old passed
+            → HoldingCopierStands self.new passed }
     {
         self.lease_input.forget();
         self.buffer_input.forget();
@@ -303,4 +320,34 @@ pub fn row_law()
 pub fn hand_law()
     ensures { (c : NetCopier) (passed : Passed) → CopierStandsFor c passed
         → CopierBalances c passed }
+{}
+
+/// Where it waits each of its contracts is that of a copier which never drops, word for word: what
+/// it stands for, its row, and its ends. And it drops no more leases than its looks for a buffer
+/// were in vain.
+pub fn drop_law()
+    ensures stands { (c : NetCopier) (passed : Passed) → c.drops ≡ false
+        → CopierStandsFor c passed → HoldingCopierStands c passed }
+    ensures stood { (c : NetCopier) (passed : Passed) → c.drops ≡ false
+        → HoldingCopierStands c passed → CopierStandsFor c passed }
+    ensures holds { (c : NetCopier) (passed : Passed) → c.drops ≡ false → CopierRow c passed
+        → HoldingCopierRow c passed }
+    ensures held { (c : NetCopier) (passed : Passed) → c.drops ≡ false → HoldingCopierRow c passed
+        → CopierRow c passed }
+    ensures row { (c : NetCopier) (passed : Passed) → HoldingCopierStands c passed
+        → HoldingCopierRow c passed }
+    ensures balance { (c : NetCopier) (passed : Passed) → HoldingCopierStands c passed
+        → CopierBalances c passed }
+    ensures round { (c : NetCopier) → c.drops ≡ false → copier_round c ≡ holding_copier_round c }
+    ensures few { (c : NetCopier) (calls : List Event) → marked (leases_dropped c calls)
+        ≤ noes_at Consumer c.buffer_input.queue.0 calls }
+{}
+
+/// A turn of it is a drop exactly where it drops and a look for a buffer was in vain: so the entry
+/// of a journal alone tells.
+pub fn turn_law()
+    ensures { (c n : NetCopier) (e : Event)
+        → (c.lease_input.queue.0 ≡ c.buffer_input.queue.0 → ⊥)
+        → (t : Turned (copier_round c) e (copier_round n)) → is_drop t.posted.post e
+        ≡ (c.drops && is_vain_at Consumer c.buffer_input.queue.0 e) }
 {}

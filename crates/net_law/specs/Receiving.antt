@@ -13,9 +13,9 @@ use Rattle.turn_kit.specs.declared.pipe.Pipe.{Pipe}
 use Rattle.pipe_driver.specs.Drivers.{PipesRow}
 use Rattle.pipe_driver.specs.declared.pipes.Pipes.{Pipes}
 use Rattle.eth_driver.specs.Four.{four_pipes}
-use Rattle.device_model.specs.Ethernet.Devices.{DeviceRow}
+use Rattle.device_model.specs.Ethernet.Devices.{HoldingDeviceRow}
 use Rattle.device_model.specs.declared.ethernet.EthDevice.{EthDevice}
-use Rattle.net_copier.specs.Copying.{CopierRow, leased_bytes}
+use Rattle.net_copier.specs.Copying.{HoldingCopierRow, leased_bytes}
 use Rattle.net_copier.specs.declared.NetCopier.{NetCopier}
 use Rattle.buffer_kit.specs.Virtualising.{from_queues, to_queues}
 use Rattle.net_virt_rx.specs.Receiving.{RxRow}
@@ -49,10 +49,10 @@ AreRoomy (bytes ∷ rest) (c ∷ cs) = IsRoomy bytes c × AreRoomy rest cs
 pub record IsReceiving (d : EthDevice) (p : Pipes (Pipes (Pipes Pipe))) (v : NetVirtRx)
     (k : NetCopier) (c : NetClient) (mac : Mac) (passed : Passed) : Type 0 where
   pub hands_over : HandsOver passed
-  pub device : DeviceRow d passed
+  pub device : HoldingDeviceRow d passed
   pub driver : PipesRow (four_pipes p) passed
   pub virtualiser : RxRow v passed
-  pub copier : CopierRow k passed
+  pub copier : HoldingCopierRow k passed
   pub client : ClientRow c passed
   pub from_device : p.rest.first.input.queue.0 ≡ d.active.queue.0
   pub from_driver : v.ends.input.queue.0 ≡ p.rest.first.output.queue.0

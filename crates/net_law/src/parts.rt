@@ -16,11 +16,11 @@ ghost use Rattle.pipe_driver.specs.Drivers.{PipesRow};
 ghost use Rattle.pipe_driver.specs.declared.pipes.Pipes.{Pipes};
 ghost use Rattle.net_expect.specs.Expecting.{Program, frames_for};
 ghost use Rattle.buffer_kit.specs.Entries.{frame_of};
-ghost use Rattle.device_model.specs.Ethernet.Devices.{DeviceRow};
+ghost use Rattle.device_model.specs.Ethernet.Devices.{HoldingDeviceRow};
 ghost use Rattle.device_model.specs.declared.ethernet.EthDevice.{EthDevice};
 ghost use Rattle.client_programs.specs.Net.Clients.{ClientRow};
 ghost use Rattle.client_programs.specs.declared.net.NetClient.{NetClient};
-ghost use Rattle.net_copier.specs.Copying.{CopierRow, leased_bytes};
+ghost use Rattle.net_copier.specs.Copying.{HoldingCopierRow, leased_bytes};
 ghost use Rattle.net_copier.specs.declared.NetCopier.{NetCopier};
 ghost use Rattle.net_virt_rx.specs.Receiving.{RxRow};
 ghost use Rattle.net_virt_rx.specs.declared.NetVirtRx.{NetVirtRx};
@@ -51,7 +51,7 @@ pub fn table_law()
 pub fn row_law()
     ensures device { (scene : Scene) (d : EthDevice) (passed : Passed) (m : Moved)
         → AreItemsOf (net_sheet scene (device_part d)).ends passed m
-        → DeviceRow d passed → (net_sheet scene (device_part d)).row m }
+        → HoldingDeviceRow d passed → (net_sheet scene (device_part d)).row m }
     ensures driver { (scene : Scene) (ps : List Pipe) (passed : Passed) (m : Moved)
         → AreItemsOf (net_sheet scene (driver_part ps)).ends passed m → PipesRow ps passed
         → (net_sheet scene (driver_part ps)).row m }
@@ -62,7 +62,7 @@ pub fn row_law()
     ensures copier { (scene : Scene) (c : NetCopier) (passed : Passed) (m : Moved)
         → AreItemsOf (net_sheet scene (copier_part c)).ends passed m
         → AreLeases (passed.taken c.lease_input.queue.0)
-        → CopierRow c passed → (net_sheet scene (copier_part c)).row m }
+        → HoldingCopierRow c passed → (net_sheet scene (copier_part c)).row m }
     ensures client { (scene : Scene) (c : NetClient) (passed : Passed) (m : Moved)
         → HasBuffers c → AnswersInTurn scene.frames c
         → AreItemsOf (net_sheet scene (client_part c)).ends passed m

@@ -5,4 +5,4 @@ pub mod Apart
 pub mod Places
 pub mod Standing
 pub mod Numbering
-pub mod Sorting
+pub mod Hosting

@@ -267,6 +267,7 @@ module _ (rows : List QueueRow) (news : List Seated) (peers : (n : ℕ) (row : Q
         old = x.actor;
         there = map_there (λ (w : Seated). w.actor) sits k x at_k.1;
         own = made.own;
+        turned = made.turned;
         part = made.part;
         kept = made.kept;
         ends = seat_end l.call.seats;

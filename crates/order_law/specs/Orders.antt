@@ -13,7 +13,7 @@ use Rattle.spsc_queue.specs.Known.Ends.{EndIs}
 use Rattle.seat_wires.specs.Places.Are.{SeatsAre}
 use Rattle.seat_wires.specs.Places.{ends_of, stands_at, seats_taken, seats_sent}
 use Rattle.seat_wires.specs.Times.{times_at}
-use Rattle.actor_set.specs.Actors.{FitsActor, ActorStandsFor, IsActorCall, part_of}
+use Rattle.actor_set.specs.Actors.{FitsActor, ActorStandsFor, ActorTurned, IsActorCall, part_of}
 use Rattle.actor_set.specs.declared.actor.Actor.{Actor}
 use Rattle.order_law.specs.Tales.{Call, Goes}
 
@@ -51,13 +51,14 @@ pub record Turn : Type 0 where
   pub deed : Deed
   pub actor : Actor
 
--- it is the turn of one of these actors, at an end of its own or by a store of a hostile client;
--- it fits its ends then, and after its call what was taken at each queue is a beginning of what was
--- put there
+-- it is the turn of one of these actors, at an end of its own or by a store of a hostile client,
+-- whose calls are those of its acts; it fits its ends then, and after its call what was taken at
+-- each queue is a beginning of what was put there
 pub record IsTurn (actors : List Actor) (passed : Passed) (t : Turn) : Type 0 where
   pub old : Actor
   pub there : slice_get actors t.number ≡ Some old
   pub own : IsActorCall old t.deed.event
+  pub turned : ActorTurned old t.deed.event t.actor
   pub part : part_of t.actor ≡ part_of old
   pub kept : (p : Passed) → ActorStandsFor old p → ActorStandsFor t.actor (with_deed p t.deed)
   pub ends : Role → ℕ → End

@@ -6,7 +6,8 @@ use Rattle.wire_core.specs.Deeds.{Deed}
 use Rattle.wire_core.specs.Lists.{Passed, with_deed}
 use Rattle.seat_wires.specs.Places.Are.{SeatsAre}
 use Rattle.seat_wires.specs.Places.{SeatDid, seat_end}
-use Rattle.actor_set.specs.Actors.{FitsActor, ActorStandsFor, IsActorCall, actor_rests, part_of}
+use Rattle.actor_set.specs.Actors.{FitsActor, ActorStandsFor, ActorTurned, IsActorCall}
+use Rattle.actor_set.specs.Actors.{actor_rests, part_of}
 use Rattle.actor_set.specs.declared.actor.Actor.{Actor}
 
 -- a call, with the actor and its ends as they are then
@@ -29,12 +30,13 @@ is_waiting (Do.Settle s) = false
 is_waiting (Do.Ring s) = false
 is_waiting (Do.Store w v) = false
 
--- an actor made this call at an end of its own, and fits its ends then: whatever it stood for, it
--- now stands for that with what the call moved; at rest it only looked for a notification or wanted
--- none
+-- an actor made this call at an end of its own, and fits its ends then: it was its turn, or that of
+-- a hostile client's next act; whatever it stood for, it now stands for that with what the call
+-- moved; at rest it only looked for a notification or wanted none
 pub record Made (x : Actor) (s : SeatsAre) (c : Call) : Type 0 where
   pub did : SeatDid s c.deed c.seats
   pub own : IsActorCall x c.deed.event
+  pub turned : ActorTurned x c.deed.event c.actor
   pub due : actor_rests x ≡ true → is_waiting c.deed.event.op ≡ true
   pub part : part_of c.actor ≡ part_of x
   pub kept : (p : Passed) → ActorStandsFor x p → ActorStandsFor c.actor (with_deed p c.deed)

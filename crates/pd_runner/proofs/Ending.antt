@@ -7,12 +7,12 @@ use Rattle.actor_set.specs.declared.actor.Actor.{Actor}
 use Rattle.order_law.proofs.Telling.{goes_then}
 use Rattle.pd_runner.specs.declared.part.Part.{Part}
 use Rattle.pd_runner.specs.declared.part.Ran.{Ran}
-use Rattle.actor_set.specs.Laws.Kinds.{manner_of}
 use Rattle.pd_runner.specs.Running.{IsReady, HasNoWant, Comes, Came, CameAtWork}
 use Rattle.pd_runner.specs.Begun.{RanOf}
 use Rattle.pd_runner.specs.Ends.{RanReady, SettledOf, LawfulOf, SpentOf, Rests}
 use Rattle.pd_runner.specs.Each.{Each, Every, AnyOf, AnyPair}
 use Rattle.pd_runner.proofs.Eaches.{each_then}
+use Rattle.pd_runner.proofs.Wilding.{wild_on}
 
 comes_then : (a : Actor) (s : SeatsAre) (n : ℕ) (b : Actor) (t : SeatsAre) (m : ℕ) (c : Actor) (u : SeatsAre) → Comes a s n b t → Comes b t m c u → Comes a s (n + m) c u
 comes_then a s n b t m c u h k = record { same = k.same ∙ h.same; sits = k.sits; went = went_then s n t m u h.went k.went; calls = h.calls ++ k.calls; goes = goes_then a s h.calls b t k.calls c u h.goes k.goes }
@@ -26,13 +26,13 @@ module _ (rings : List RingIs) (limit : ℕ) where
   rans_ready [] [] were h fine = tt
   rans_ready [] (r ∷ rans) were h fine = absurd h
   rans_ready (x ∷ olds) [] were h fine = absurd h
-  rans_ready (x ∷ olds) (r ∷ rans) were h fine = ((record { stands = h.0.0.stands; calm = ap manner_of h.0.0.comes.same ∙ were.0.calm; fine = fine.0 }, h.0.1), rans_ready olds rans were.1 h.1 fine.1)
+  rans_ready (x ∷ olds) (r ∷ rans) were h fine = ((record { stands = h.0.0.stands; wild = wild_on _ _ r.made _ _ h.0.0.comes were.0.wild; fine = fine.0 }, h.0.1), rans_ready olds rans were.1 h.1 fine.1)
 
   pub lawful : (stop : Bool) (old : Part) (ran : Ran) (new : Part) → RanOf rings limit old ran → SettledOf rings limit stop ran new → LawfulOf rings limit old new
   lawful stop old ran new h k = record { steps = ran.made + k.more; within = k.within; came = came_then rings old ran.made ran.part k.more new h.0 k.came.came; fine = k.fine }
 
   spent : (old : Part) (n : ℕ) (new : Part) → Came rings old n new → limit ≤ n → SpentOf rings limit old new
-  spent old n new h below = let e = h.comes.went.least in omega (arith, e, below)
+  spent old n new h below = record { steps = n; reached = below; came = h }
 
   -- the last pass was made
   pub all_passed : (olds : List Part) (rans : List Ran) (news : List Part) → Each (RanOf rings limit) olds rans → Each (SettledOf rings limit false) rans news → Every Rests news ⊎ AnyPair (SpentOf rings limit) olds news

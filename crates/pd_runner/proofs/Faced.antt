@@ -8,17 +8,20 @@ use Rattle.wire_core.specs.Lists.{Passed}
 use Rattle.spsc_queue.specs.Known.Ends.{EndIs, RingIs}
 use Rattle.seat_wires.specs.Places.Are.{SeatsAre}
 use Rattle.seat_wires.specs.Places.{EndsOn, ends_of, stands_at}
-use Rattle.seat_wires.specs.Went.{NoneWild}
+use Rattle.play_core.specs.Manners.{is_hostile}
 use Rattle.actor_set.specs.Actors.{FitsActor, ActorStandsFor, actor_rests, part_of}
-use Rattle.actor_set.specs.Laws.Kinds.{manner_of}
+use Rattle.actor_set.specs.Laws.Kinds.{hostiles, manner_of}
+use Rattle.actor_set.specs.Parts.{Part as PartIs}
 use Rattle.actor_set.specs.declared.actor.Actor.{Actor}
 use Rattle.order_law.specs.declared.actor_parts.worker.Worker.{Worker}
 use Rattle.order_law.specs.ActorParts.Given.{Kept, apart_of}
 use Rattle.order_law.specs.ActorParts.Going.{AreSeatsOf}
 use Rattle.order_law.specs.ActorParts.Numbered.{numbered}
 use Rattle.order_law.specs.ActorParts.Placing.{placed}
-use Rattle.order_law.specs.ActorParts.Parting.{Apart, ends_at, end_in, apart_end, StandsApart, HasItsEnds, AreApart, IsRingOf}
-use Rattle.order_law.proofs.ActorParts.Sorting.{none_wild, numbered_plain}
+use Rattle.order_law.specs.ActorParts.Parting.{Apart, ends_at, end_in, apart_end, StandsApart, HasItsEnds, AreApart, IsRingOf, hostile_apart}
+use Rattle.wire_core.specs.Journal.{Hostiles}
+use Rattle.wire_core.specs.declared.names.QueueId.{QueueId}
+use Rattle.std.specs.List.{AllZip}
 use Rattle.pd_runner.specs.declared.part.Part.{Part}
 use Rattle.pd_runner.specs.Each.{Each, Every, AnyPair}
 use Rattle.pd_runner.specs.Ends.{LawfulOf, SpentOf, Rests}
@@ -28,7 +31,7 @@ use Rattle.pd_runner.specs.Seated.{IsApart, IsSeated, HasNumbers, IsNumbered}
 use Rattle.pd_runner.proofs.Eaches.{each_then, every_of}
 use Rattle.pd_runner.proofs.Seated.{stands_there}
 use Rattle.pd_runner.proofs.Stepping.{comes_none}
-use Rattle.pd_runner.proofs.Facing.{ends_same, passed_same, seats_numbered, numbered_once, numbered_on, own_ends}
+use Rattle.pd_runner.proofs.Facing.{WasThere, was_there, ends_same, passed_same, seats_numbered, numbered_once, numbered_on, own_ends}
 
 module _ (rings : List RingIs) (limit : ℕ) (k : Kept) (p q : Part) (l : Kept) (seated : IsSeated rings k p) (lawful : LawfulOf rings limit p q) (is : IsNumbered q l) where
   numbers : (r : Role) → ends_at (apart_of l) r ≡ numbered 0 (ends_of (part_seats rings q) r)
@@ -42,30 +45,33 @@ module _ (rings : List RingIs) (limit : ℕ) (k : Kept) (p q : Part) (l : Kept) 
   after_is : AreSeatsOf rings (apart_of l) (part_seats rings q)
   after_is = seats_numbered rings (apart_of l) (part_seats rings q) refl numbers
 
-  came_by : CameApart rings lawful.steps (apart_of k) (apart_of l)
-  came_by = record {
+  came_with : (n : ℕ) → Comes p.worker.actor (part_seats rings p) n q.worker.actor (part_seats rings q) → CameApart rings n (apart_of k) (apart_of l)
+  came_with n comes = record {
     before = part_seats rings p;
     after = part_seats rings q;
     began = seated.seats;
     ended = after_is;
-    comes = subst (λ (z : Actor × Actor). Comes z.0 (part_seats rings p) lawful.steps z.1 (part_seats rings q)) (λ i. ((seated.worker i).actor, (sym is.worker i).actor)) lawful.came.comes;
+    comes = subst (λ (z : Actor × Actor). Comes z.0 (part_seats rings p) n z.1 (part_seats rings q)) (λ i. ((seated.worker i).actor, (sym is.worker i).actor)) comes;
   }
 
   pub came_within : CameWithin rings limit (apart_of k) (apart_of l)
-  came_within = (lawful.steps, lawful.within, came_by)
+  came_within = (lawful.steps, lawful.within, came_with lawful.steps lawful.came.comes)
 
-  none_before : IsApart rings k → NoneWild (part_seats rings p)
-  none_before was = none_wild rings (apart_of k) (part_seats rings p) seated.seats was.plain
+  pub has_spent : SpentOf rings limit p q → HasSpent rings limit (apart_of k) (apart_of l)
+  has_spent spent = (spent.steps, spent.reached, came_with spent.steps spent.came.comes)
 
-  pub has_spent : IsApart rings k → SpentOf rings limit p q → HasSpent rings limit (apart_of k) (apart_of l)
-  has_spent was spent = (lawful.steps, (let e = lawful.came.comes.went.steps (none_before was) in omega (arith, e, spent)), came_by)
+  same_part : part_of l.0.actor ≡ part_of k.0.actor
+  same_part = ap (λ (w : Worker). part_of w.actor) is.worker ∙ (lawful.came.comes.same ∙ ap (λ (w : Worker). part_of w.actor) seated.worker)
+
+  was : (r : Role) (i : ℕ) (x : QueueId × EndIs) → slice_get (ends_at (apart_of l) r) i ≡ Some x → WasThere (apart_of k) r x
+  was r i x at = was_there rings lawful.steps (apart_of k) (apart_of l) (part_seats rings p) (part_seats rings q) seated.seats numbers lawful.came.comes.went r i x at
 
   pub still_apart : IsApart rings k → IsApart rings l
-  still_apart was = record {
+  still_apart apart = record {
     once = numbered_once (apart_of l) (part_seats rings q) numbers;
     on = numbered_on (apart_of l) (part_seats rings q) numbers ends_on;
-    calm = ap (λ (w : Worker). manner_of (part_of w.actor)) is.worker ∙ (ap manner_of lawful.came.comes.same ∙ (ap (λ (w : Worker). manner_of (part_of w.actor)) seated.worker ∙ was.calm));
-    plain = numbered_plain (apart_of l) (part_seats rings q) numbers (λ r m. lawful.came.comes.went.sorts r m ∙ none_before was r m);
+    sorts = λ r i x at ring there. let w = was r i x at in w.sort ∙ apart.sorts r w.place w.old w.there ring (ap (slice_get rings) w.queue ∙ there);
+    wild = λ hostile r i x at. let w = was r i x at in w.sort ∙ apart.wild (ap (λ (part : PartIs). is_hostile (manner_of part)) (sym same_part) ∙ hostile) r w.place w.old w.there;
     fits = subst (λ (z : (Role → ℕ → End) × Actor). FitsActor z.0 z.1) (λ i. (ends_same rings (apart_of l) (part_seats rings q) after_is i, (sym is.worker i).actor)) lawful.came.stands.sits.fits;
     stands = (lawful.came.stands.sits.lists.0, subst (λ (z : Actor × Passed). ActorStandsFor z.0 z.1) (λ i. ((sym is.worker i).actor, passed_same rings (apart_of l) (part_seats rings q) after_is lawful.came.stands.sits.lists.0 i)) lawful.came.stands.sits.lists.1);
     fine = ap (λ (w : Worker). w.wanted) is.worker ∙ lawful.fine;
@@ -104,7 +110,7 @@ pub all_apart : (rows : List QueueRow) (rings : List RingIs) (parts : List Kept)
 all_apart rows rings parts apart = every_of (IsApart rings) parts (λ n k at. apart.stand n (apart_of k) (map_get apart_of parts n k at))
 
 pub few_rings : (rows : List QueueRow) (rings : List RingIs) (parts : List Apart) → AreApart rows rings parts → length rows ≤ 65536 → length rings ≤ 65536
-few_rings rows rings parts apart few = let e = AllZip-long IsRingOf rows rings apart.rings_are in omega (arith, e, few)
+few_rings rows rings parts apart few = let e = AllZip-long (IsRingOf (hostile_apart parts)) rows rings apart.rings_are in omega (arith, e, few)
 
 -- no step of theirs wanted memory
 pub no_wants : (rows : List QueueRow) (rings : List RingIs) (parts : List Apart) → AreApart rows rings parts → (k : ℕ) (p : Apart) → slice_get parts k ≡ Some p → p.wanted ≡ None
@@ -179,14 +185,14 @@ all_rest (a ∷ gone) (b ∷ news) ended rest (suc k) l at = all_rest gone news 
 abbrev OneSpent : List RingIs → ℕ → List Kept → List Kept → Type 0
 OneSpent rings limit olds news = (k : ℕ) × (old : Kept) × (new : Kept) × (slice_get olds k ≡ Some old) × (slice_get news k ≡ Some new) × HasSpent rings limit (apart_of old) (apart_of new)
 
-one_spent : (rings : List RingIs) (limit : ℕ) (olds : List Kept) (seated gone : List Part) (news : List Kept) → Every (IsApart rings) olds → Each (IsSeated rings) olds seated → Each (LawfulOf rings limit) seated gone → Each IsNumbered gone news → AnyPair (SpentOf rings limit) seated gone → OneSpent rings limit olds news
-one_spent rings limit olds [] gone news were began lawful ended any = absurd any
-one_spent rings limit olds (p ∷ seated) [] news were began lawful ended any = absurd any
-one_spent rings limit [] (p ∷ seated) (q ∷ gone) news were began lawful ended any = absurd began
-one_spent rings limit (k ∷ olds) (p ∷ seated) (q ∷ gone) [] were began lawful ended any = absurd ended
-one_spent rings limit (k ∷ olds) (p ∷ seated) (q ∷ gone) (l ∷ news) were began lawful ended any = ⊎_elim
-    (λ spent. (0, k, l, refl, refl, has_spent rings limit k p q l began.0 lawful.0 ended.0 were.0 spent))
-    (λ later. let h = one_spent rings limit olds seated gone news were.1 began.1 lawful.1 ended.1 later in (suc h.0, h.1, h.2, h.3, h.4, h.5))
+one_spent : (rings : List RingIs) (limit : ℕ) (olds : List Kept) (seated gone : List Part) (news : List Kept) → Each (IsSeated rings) olds seated → Each (LawfulOf rings limit) seated gone → Each IsNumbered gone news → AnyPair (SpentOf rings limit) seated gone → OneSpent rings limit olds news
+one_spent rings limit olds [] gone news began lawful ended any = absurd any
+one_spent rings limit olds (p ∷ seated) [] news began lawful ended any = absurd any
+one_spent rings limit [] (p ∷ seated) (q ∷ gone) news began lawful ended any = absurd began
+one_spent rings limit (k ∷ olds) (p ∷ seated) (q ∷ gone) [] began lawful ended any = absurd ended
+one_spent rings limit (k ∷ olds) (p ∷ seated) (q ∷ gone) (l ∷ news) began lawful ended any = ⊎_elim
+    (λ spent. (0, k, l, refl, refl, has_spent rings limit k p q l began.0 lawful.0 ended.0 spent))
+    (λ later. let h = one_spent rings limit olds seated gone news began.1 lawful.1 ended.1 later in (suc h.0, h.1, h.2, h.3, h.4, h.5))
     any
 
 -- the rings stayed, each actor was seated, went and has its ends' numbers again
@@ -212,9 +218,18 @@ module _ (rings shared : List RingIs) (same : shared ≡ rings) (limit : ℕ) (o
       let h = each_at (IsFrom rings limit) olds news all_from k x.0 y.0 x.1 y.1 in
       subst (λ (z : Apart × Apart). CameWithin rings limit z.0 z.1) (λ i. (x.2 i, y.2 i)) (came_within rings limit x.0 h.seated h.gone y.0 h.began h.lawful h.ended)
 
+  same_hosts : hostile_apart (map apart_of news) ≡ hostile_apart (map apart_of olds)
+  same_hosts = ap hostiles (same_parts olds news all_from)
+    where
+      same_parts : (olds news : List Kept) → Each (IsFrom rings limit) olds news → map (λ (p : Apart). part_of p.actor) (map apart_of news) ≡ map (λ (p : Apart). part_of p.actor) (map apart_of olds)
+      same_parts [] [] h = refl
+      same_parts [] (l ∷ news) h = absurd h
+      same_parts (k ∷ olds) [] h = absurd h
+      same_parts (k ∷ olds) (l ∷ news) h = ap (λ (p : PartIs). p ∷ map (λ (p : Apart). part_of p.actor) (map apart_of news)) (same_part rings limit k h.0.seated h.0.gone l h.0.began h.0.lawful h.0.ended) ∙ ap (λ (ps : List PartIs). part_of k.0.actor ∷ ps) (same_parts olds news h.1)
+
   pub still_all : (rows : List QueueRow) → AreApart rows rings (map apart_of olds) → AreApart rows rings (map apart_of news)
   still_all rows apart = record {
-    rings_are = apart.rings_are;
+    rings_are = subst (λ (h : Hostiles). AllZip (IsRingOf h) rows rings) (sym same_hosts) apart.rings_are;
     ends = λ k new at. (
         let y = map_from apart_of news k new at in let x = each_left (IsFrom rings limit) olds news all_from k y.0 y.1 in
         let h = each_at (IsFrom rings limit) olds news all_from k x.0 y.0 x.1 y.1 in
@@ -227,8 +242,8 @@ module _ (rings shared : List RingIs) (same : shared ≡ rings) (limit : ℕ) (o
         );
   }
 
-  pub all_end : Every (IsApart rings) olds → Every Rests gone ⊎ AnyPair (SpentOf shared limit) seated gone
+  pub all_end : Every Rests gone ⊎ AnyPair (SpentOf shared limit) seated gone
       → ((k : ℕ) (new : Apart) → slice_get (map apart_of news) k ≡ Some new → IsResting new) ⊎ ((k : ℕ) × (old : Apart) × (new : Apart) × (slice_get (map apart_of olds) k ≡ Some old) × (slice_get (map apart_of news) k ≡ Some new) × HasSpent rings limit old new)
-  all_end apart = ⊎_elim
+  all_end = ⊎_elim
       (λ rest. inl (λ k new at. let y = map_from apart_of news k new at in subst IsResting y.2 (all_rest gone news ended rest k y.0 y.1)))
-      (λ spent. let h = one_spent rings limit olds seated gone news apart began lawful ended (subst (λ (z : List RingIs). AnyPair (SpentOf z limit) seated gone) same spent) in inr (h.0, apart_of h.1, apart_of h.2, map_get apart_of olds h.0 h.1 h.3, map_get apart_of news h.0 h.2 h.4, h.5))
+      (λ spent. let h = one_spent rings limit olds seated gone news began lawful ended (subst (λ (z : List RingIs). AnyPair (SpentOf z limit) seated gone) same spent) in inr (h.0, apart_of h.1, apart_of h.2, map_get apart_of olds h.0 h.1 h.3, map_get apart_of news h.0 h.2 h.4, h.5))

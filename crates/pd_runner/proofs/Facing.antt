@@ -8,7 +8,7 @@ use Rattle.wire_core.specs.Journal.{owner_of}
 use Rattle.spsc_queue.specs.Known.Ends.{EndIs, RingIs}
 use Rattle.seat_wires.specs.Places.Are.{SeatsAre}
 use Rattle.seat_wires.specs.Places.{EndsOn, ends_of, stands_at, joined_get, seat_end, end_known, entries_known}
-use Rattle.seat_wires.specs.Went.{Went, ring_known}
+use Rattle.seat_wires.specs.Went.{Went, ring_known, sort_known}
 use Rattle.order_law.specs.ActorParts.Parting.{Apart, ends_at, end_in, apart_end, apart_passed, HasItsEnds}
 use Rattle.order_law.specs.ActorParts.Numbered.{numbered}
 use Rattle.pd_runner.specs.Running.{passed_at}
@@ -50,9 +50,30 @@ numbered_once p s ends r i j x y at_x at_y same = once 0 (ends_of s r) i j x y (
 pub numbered_on : (p : Apart) (s : SeatsAre) → ((r : Role) → ends_at p r ≡ numbered 0 (ends_of s r)) → ((r : Role) → EndsOn s.rings (ends_of s r)) → (r : Role) (i : ℕ) (x : QueueId × EndIs) → slice_get (ends_at p r) i ≡ Some x → (ring : RingIs) × (slice_get s.rings x.0.0 ≡ Some ring) × (x.1.ring ≡ ring.id)
 numbered_on p s ends on r i x at = let h = numbered_from 0 (ends_of s r) i x (ap (λ l. slice_get l i) (sym (ends r)) ∙ at) in let o = on r h.0 x.1 h.2 in (o.0, ap (λ (m : ℕ). slice_get s.rings m) (let e = h.1 in omega (arith, e)) ∙ o.1, o.2)
 
-known_there : (x y : Option EndIs) (e : EndIs) → ring_known y ≡ ring_known x → x ≡ Some e → (f : EndIs) × (y ≡ Some f)
+pub known_there : (x y : Option EndIs) (e : EndIs) → ring_known y ≡ ring_known x → x ≡ Some e → (f : EndIs) × (y ≡ Some f)
 known_there x None e same is = absurd (let z : ring_known x ≡ Some e.ring = ap ring_known is in cc)
 known_there x (Some f) e same is = (f, refl)
+
+-- where its ends stayed, each was there and knew of the same sort of ring
+pub record WasThere (p : Apart) (r : Role) (x : QueueId × EndIs) : Type 0 where
+  pub place : ℕ
+  pub old : QueueId × EndIs
+  pub there : slice_get (ends_at p r) place ≡ Some old
+  pub queue : old.0.0 ≡ x.0.0
+  pub sort : x.1.knows.wild ≡ old.1.knows.wild
+
+pub was_there : (rings : List RingIs) (n : ℕ) (p q : Apart) (s t : SeatsAre) → AreSeatsOf rings p s → ((r : Role) → ends_at q r ≡ numbered 0 (ends_of t r)) → Went s n t → (r : Role) (i : ℕ) (x : QueueId × EndIs) → slice_get (ends_at q r) i ≡ Some x → WasThere p r x
+was_there rings n p q s t before ends went r i x at =
+    let h = numbered_from 0 (ends_of t r) i x (ap (λ l. slice_get l i) (sym (ends r)) ∙ at) in
+    let now : stands_at (ends_of t r) h.0 ≡ Some x.1 = ap joined_get h.2 in
+    let was = known_there (stands_at (ends_of t r) h.0) (stands_at (ends_of s r) h.0) x.1 (sym (went.ends r h.0)) now in
+    let f = found (ends_at p r) h.0 was.0 (sym (before.same r h.0) ∙ was.1) in record {
+      place = f.0;
+      old = f.1;
+      there = f.2;
+      queue = let a = f.3 in let b = h.1 in omega (arith, a, b);
+      sort = sym (ap sort_known now) ∙ (went.sorts r h.0 ∙ (ap sort_known was.1 ∙ sym (ap (λ (e : EndIs). e.knows.wild) f.4)));
+    }
 
 -- where its ends stayed, it has just those that the rows give it
 pub own_ends : (rows : List QueueRow) (k n : ℕ) (rings : List RingIs) (p q : Apart) (s t : SeatsAre) → AreSeatsOf rings p s → AreSeatsOf rings q t → Went s n t → HasItsEnds rows k p → HasItsEnds rows k q

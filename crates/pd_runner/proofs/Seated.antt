@@ -1,12 +1,11 @@
 -- An actor apart whose ends were put at the places of their queues sits there.
-use Rattle.std.proofs.Common.{◌≡◌, ◌∙◌, ◌≤◌, ℕ, List, length, refl, sym, ap, subst, arith, Option}
+use Rattle.std.proofs.Common.{◌≡◌, ◌∙◌, ◌≤◌, ℕ, List, length, refl, sym, ap, subst, arith, Option, slice_get}
 use Rattle.wire_core.specs.Ends.{Role, Consumer, Producer, End}
 use Rattle.wire_core.specs.Lists.{Passed}
 use Rattle.wire_core.specs.declared.names.QueueId.{QueueId}
 use Rattle.spsc_queue.specs.Known.Ends.{EndIs, RingIs}
-use Rattle.seat_wires.specs.Places.{stands_at, ends_of}
-use Rattle.actor_set.specs.Actors.{FitsActor, ActorStandsFor, part_of}
-use Rattle.actor_set.specs.Laws.Kinds.{manner_of}
+use Rattle.seat_wires.specs.Places.{IsWildRing, stands_at, ends_of}
+use Rattle.actor_set.specs.Actors.{FitsActor, ActorStandsFor}
 use Rattle.actor_set.specs.declared.actor.Actor.{Actor}
 use Rattle.order_law.specs.declared.actor_parts.worker.Worker.{Worker}
 use Rattle.order_law.specs.ActorParts.Given.{Kept, apart_of}
@@ -14,9 +13,9 @@ use Rattle.order_law.specs.ActorParts.Going.{AreSeatsOf}
 use Rattle.order_law.specs.ActorParts.Parting.{ends_at, end_in}
 use Rattle.order_law.specs.ActorParts.Placing.{AreWithin}
 use Rattle.order_law.proofs.ActorParts.Places.{get_within}
-use Rattle.order_law.proofs.ActorParts.Standing.{length_placed, stands_placed}
+use Rattle.order_law.proofs.ActorParts.Standing.{found, length_placed, stands_placed}
 use Rattle.pd_runner.specs.declared.part.Part.{Part}
-use Rattle.pd_runner.specs.Running.{Stands, part_seats}
+use Rattle.pd_runner.specs.Running.{AreWild, Stands, part_seats}
 use Rattle.pd_runner.specs.Seated.{ArePlaced, IsApart, IsSeated}
 use Rattle.pd_runner.proofs.Facing.{ends_same, passed_same, ends_on}
 
@@ -50,5 +49,11 @@ module _ (rings : List RingIs) (k : Kept) (apart : IsApart rings k) where
       };
     }
 
+    are_wild : AreWild k.0.actor (part_seats rings p)
+    are_wild hostile r n e at =
+        let f = found (ends_at (apart_of k) r) n e (sym (are_seats.same r n) ∙ at) in
+        let on = apart.on r f.0 f.1 f.2 in
+        (on.0, ap (slice_get rings) (sym f.3) ∙ on.1, sym (apart.sorts r f.0 f.1 f.2 on.0 on.1) ∙ apart.wild hostile r f.0 f.1 f.2)
+
     pub seated : IsSeated rings k p
-    seated = record { worker = same; seats = are_seats; ready = record { stands = stand; calm = ap (λ (w : Worker). manner_of (part_of w.actor)) same ∙ apart.calm; fine = ap (λ (w : Worker). w.wanted) same ∙ apart.fine } }
+    seated = record { worker = same; seats = are_seats; ready = record { stands = stand; wild = subst (λ (w : Worker). AreWild w.actor (part_seats rings p)) (sym same) are_wild; fine = ap (λ (w : Worker). w.wanted) same ∙ apart.fine } }

@@ -8,7 +8,7 @@ use Rattle.seat_wires.specs.Places.Are.{SeatsAre}
 use Rattle.seat_wires.specs.Places.{EndsOn, SeatDid, seat_end}
 use Rattle.seat_wires.proofs.Listing.{taken_grow, sent_grow}
 use Rattle.seat_wires.proofs.Going.{went_none, went_one, went_then}
-use Rattle.actor_set.specs.Actors.{FitsActor, ActorStandsFor, ActorRow, IsActorCall, actor_rests, part_of}
+use Rattle.actor_set.specs.Actors.{FitsActor, ActorStandsFor, ActorRow, ActorTurned, IsActorCall, actor_rests, part_of}
 use Rattle.actor_set.specs.declared.actor.Actor.{Actor}
 use Rattle.order_law.specs.Tales.{Call, Goes, is_waiting}
 use Rattle.order_law.proofs.Telling.{goes_on}
@@ -23,15 +23,15 @@ passed_on : (s : SeatsAre) (d : Deed) (t : SeatsAre) (calls : List Event) → Se
 passed_on s d t calls h = λ i. record { taken = taken_grow s d t h i; sent = sent_grow s d t h i; calls = calls ++ d.event ∷ [] }
 
 pub comes_on : (a : Actor) (s : SeatsAre) (n : ℕ) (b : Actor) (t : SeatsAre) (c : Actor) (u : SeatsAre) (e : Event)
-    → Comes a s n b t → FitsActor (seat_end u) c → part_of c ≡ part_of b → Stepped ActorStandsFor SeatDid t u b c e → IsActorCall b e → (actor_rests b ≡ true → is_waiting e.op ≡ true) → Comes a s (n + 1) c u
-comes_on a s n b t c u e h fits same st own due =
+    → Comes a s n b t → FitsActor (seat_end u) c → part_of c ≡ part_of b → Stepped ActorStandsFor SeatDid t u b c e → IsActorCall b e → ActorTurned b e c → (actor_rests b ≡ true → is_waiting e.op ≡ true) → Comes a s (n + 1) c u
+comes_on a s n b t c u e h fits same st own turned due =
     let d : Deed = record { event = e; body = st.body } in
     record {
       same = same ∙ h.same;
       sits = record { fits = fits; lists = (h.sits.lists.0 ++ e ∷ [], subst (ActorStandsFor c) (sym (passed_on t d u h.sits.lists.0 st.happened)) (st.kept (passed_at t h.sits.lists.0) h.sits.lists.1)) };
       went = went_then s n t 1 u h.went (went_one t d u st.happened);
       calls = h.calls ++ record { deed = d; actor = c; seats = u } ∷ [];
-      goes = goes_on a s h.calls b t (record { deed = d; actor = c; seats = u }) h.goes record { did = st.happened; own = own; due = due; part = same; kept = st.kept; fits = fits };
+      goes = goes_on a s h.calls b t (record { deed = d; actor = c; seats = u }) h.goes record { did = st.happened; own = own; turned = turned; due = due; part = same; kept = st.kept; fits = fits };
     }
 
 pub comes_same : (a : Actor) (s : SeatsAre) (n : ℕ) (b : Actor) (t : SeatsAre) (c : Actor) (u : SeatsAre) → c ≡ b → u ≡ t → Comes a s n b t → Comes a s n c u
@@ -51,10 +51,10 @@ unfolding comes_none
 worked_none a s t is h = subst (λ (z : SeatsAre). Worked a s 0 a z) (sym is) (record { comes = comes_none a s h; at_work = tt })
 
 pub worked_on : (a : Actor) (s : SeatsAre) (n : ℕ) (b : Actor) (t : SeatsAre) (c : Actor) (u : SeatsAre) (e : Event)
-    → Worked a s n b t → FitsActor (seat_end u) c → part_of c ≡ part_of b → Stepped ActorStandsFor SeatDid t u b c e → IsActorCall b e → (actor_rests b ≡ true → is_waiting e.op ≡ true) → actor_rests b ≡ false → Worked a s (n + 1) c u
+    → Worked a s n b t → FitsActor (seat_end u) c → part_of c ≡ part_of b → Stepped ActorStandsFor SeatDid t u b c e → IsActorCall b e → ActorTurned b e c → (actor_rests b ≡ true → is_waiting e.op ≡ true) → actor_rests b ≡ false → Worked a s (n + 1) c u
 unfolding comes_on
-worked_on a s n b t c u e h fits same st own due busy = record {
-  comes = comes_on a s n b t c u e h.comes fits same st own due;
+worked_on a s n b t c u e h fits same st own turned due busy = record {
+  comes = comes_on a s n b t c u e h.comes fits same st own turned due;
   at_work = at_work_on a s h.comes.calls b t (record { deed = record { event = e; body = st.body }; actor = c; seats = u }) h.comes.goes h.at_work busy;
 }
 

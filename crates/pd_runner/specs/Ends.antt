@@ -1,11 +1,10 @@
 -- How a run ends.
 use Rattle.std.specs.Prelude.{◌≡◌, ◌≤◌, ◌+◌, ◌⊎◌, ℕ, List, Bool, true}
 use Rattle.spsc_queue.specs.Known.Ends.{RingIs}
-use Rattle.seat_wires.specs.Went.{seats_steps}
 use Rattle.actor_set.specs.Actors.{actor_rests}
 use Rattle.pd_runner.specs.declared.part.Part.{Part}
 use Rattle.pd_runner.specs.declared.part.Ran.{Ran}
-use Rattle.pd_runner.specs.Running.{IsReady, HasNoWant, Came, CameAtWork, part_seats}
+use Rattle.pd_runner.specs.Running.{IsReady, HasNoWant, Came, CameAtWork}
 
 -- what a thread left may be stepped, and no more steps were made than are allowed
 abbrev pub RanReady : List RingIs → ℕ → Ran → Type 0
@@ -31,7 +30,8 @@ pub record LawfulOf (rings : List RingIs) (limit : ℕ) (old new : Part) : Type 
   pub came : Came rings old steps new
   pub fine : HasNoWant new
 
--- the ends of this actor made at least `limit` word steps
-abbrev pub SpentOf : List RingIs → ℕ → Part → Part → Type 0
-SpentOf rings limit old new =
-    seats_steps (part_seats rings old) + limit ≤ seats_steps (part_seats rings new)
+-- this actor made at least `limit` steps
+pub record SpentOf (rings : List RingIs) (limit : ℕ) (old new : Part) : Type 0 where
+  pub steps : ℕ
+  pub reached : limit ≤ steps
+  pub came : Came rings old steps new

@@ -1,12 +1,14 @@
 -- What a run leaves of each part.
-use Rattle.std.specs.Prelude.{◌≡◌, ◌≤◌, ℕ, false, None, List, [], ◌∷◌, length}
+use Rattle.std.specs.Prelude.{◌≡◌, ◌≤◌, ℕ, true, false, Some, None, List, [], ◌∷◌, length}
 use Rattle.wire_core.specs.declared.names.Event.{Event}
+use Rattle.wire_core.specs.Ends.{Role}
 use Rattle.wire_core.specs.Lists.{Passed}
-use Rattle.spsc_queue.specs.Known.Ends.{RingIs}
+use Rattle.spsc_queue.specs.Known.Ends.{EndIs, RingIs}
 use Rattle.seat_wires.specs.Places.Are.{SeatsAre}
-use Rattle.seat_wires.specs.Places.{EndsOn, seat_end, seats_taken, seats_sent}
+use Rattle.seat_wires.specs.Places.{EndsOn, IsWildRing, ends_of, seat_end, seats_taken}
+use Rattle.seat_wires.specs.Places.{seats_sent, stands_at}
 use Rattle.seat_wires.specs.Went.{Went}
-use Rattle.play_core.specs.Manners.{Calm}
+use Rattle.play_core.specs.Manners.{is_hostile}
 use Rattle.actor_set.specs.Actors.{FitsActor, ActorStandsFor, ActorRow, actor_rests, part_of}
 use Rattle.actor_set.specs.Laws.Kinds.{manner_of}
 use Rattle.actor_set.specs.declared.actor.Actor.{Actor}
@@ -52,10 +54,15 @@ pub record Stands (rings : List RingIs) (p : Part) : Type 0 where
 abbrev pub HasNoWant : Part → Type 0
 HasNoWant p = p.worker.wanted ≡ None
 
--- a part whose actor isn't hostile and may be stepped
+-- where an actor is hostile, the rings at which it has an end are wild
+abbrev pub AreWild : Actor → SeatsAre → Type 0
+AreWild a s = is_hostile (manner_of (part_of a)) ≡ true → (r : Role) (n : ℕ) (e : EndIs)
+    → stands_at (ends_of s r) n ≡ Some e → IsWildRing s.rings n
+
+-- a part whose actor may be stepped
 pub record IsReady (rings : List RingIs) (p : Part) : Type 0 where
   pub stands : Stands rings p
-  pub calm : manner_of (part_of p.worker.actor) ≡ Calm
+  pub wild : AreWild p.worker.actor (part_seats rings p)
   pub fine : HasNoWant p
 
 -- the part came of the old one by n steps, and its row holds

@@ -107,7 +107,7 @@ impl Floor {
         }
     }
 
-    /// No thread could be started for this actor: it makes no step, and counts as idle.
+    /// No thread steps this actor, since none could be started or its own ended: it counts as idle.
     pub(crate) fn leave_unmanned(&self, me: u16) {
         if let Some(desk) = self.desks.get(usize::from(me)) {
             desk.unmanned.store(true, Ordering::SeqCst);
@@ -115,7 +115,7 @@ impl Floor {
         self.count_idle();
     }
 
-    /// Whether no thread could be started for this actor.
+    /// Whether no thread steps this actor.
     pub(crate) fn is_unmanned(&self, me: u16) -> bool {
         match self.desks.get(usize::from(me)) {
             Some(desk) => desk.unmanned.load(Ordering::SeqCst),

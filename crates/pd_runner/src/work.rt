@@ -32,8 +32,9 @@ fn count_ends<T>(places: &[Option<T>]) -> u64 {
 }
 
 /// Steps the actor until the threads end. It waits where the actor is at rest and each of its ends
-/// has since then said that no notification is pending. Where a step wants memory it is the last,
-/// and the part's worker tells of it.
+/// has since then said that no notification is pending. A hostile actor at rest makes no call any
+/// more, so its thread ends there and counts as idle. Where a step wants memory it is the last, and
+/// the part's worker tells of it.
 pub(crate) fn work<R: Wait, G: Gate>(
     rt: &R,
     rings: &[Ring],
@@ -64,6 +65,10 @@ pub(crate) fn work<R: Wait, G: Gate>(
         }
         if made >= limit {
             floor.end();
+            break;
+        }
+        if worker.is_hostile() && worker.at_rest() {
+            floor.leave_unmanned(me);
             break;
         }
         if calm >= ends && worker.at_rest() {

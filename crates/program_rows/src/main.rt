@@ -5,12 +5,13 @@
 //! to its last byte, and whose answer is longer than a pipe holds.
 //!
 //! Each line of standard input is the name of a row, behind `#`; the words of one, whose texts are
-//! the files beside it; `COUNT | WORDS`, a play for each seed below a count; `COUNT at ACTORS |
-//! WORDS`, so many runs in threads behind a gate that holds each actor's first step until so many
-//! have arrived there; or `TABLE EVERY | WORDS`, a table of what fails, of which each EVERYth place
-//! is tried. Standard output has each name, what `serve` writes to these words, and the status
-//! code; of many seeds or runs what the first one gives, and how many give the same; of runs how
-//! many actors waited in vain; and of a table how many cases it has, and how many are right.
+//! the files beside it; `COUNT | WORDS`, a play for each seed below a count, and `COUNT bad MOST |
+//! WORDS` where the schedule decides how many entries are counted as bad, at most so many; `COUNT at
+//! ACTORS | WORDS`, so many runs in threads behind a gate that holds each actor's first step until
+//! so many have arrived there; or `TABLE EVERY | WORDS`, a table of what fails, of which each
+//! EVERYth place is tried. Standard output has each name, what `serve` writes to these words, and
+//! the status code; of many seeds or runs what the first one gives, and how many give the same; of
+//! runs how many actors waited in vain; and of a table how many cases it has, and how many are right.
 //!
 //! Behind the rows come an example, and calls with other outsides.
 #![tactic(auto)]
@@ -27,6 +28,7 @@ use example::print_example;
 use failing::print_cases;
 use outside::print_outsides;
 use sddf_top::{FileShelf, MemSink, Played, serve, serve_host};
+use std::alloc::Global;
 use std::io;
 use std::rt::Files;
 use std::sync::Wait;
@@ -131,18 +133,56 @@ fn told<R: Threads + Wait + Sync + Files + AllocGlobal>(
     Ok(text)
 }
 
+// Whether a line tells how many entries were bad, and not more than this.
+fn is_bad_within(line: &str, most: u64) -> bool {
+    match line.strip_prefix("bad ") {
+        Some(count) => count.parse::<u64>().unwrap_or(u64::MAX) <= most,
+        None => false,
+    }
+}
+
+// A text in which the number of bad entries stands as what it may be at most.
+fn with_bad_within(alloc: Global, text: &str, most: u64) -> io::Result<String> {
+    let mut to = String::new(alloc);
+    for line in text.lines() {
+        if is_bad_within(line, most) {
+            write!(to, "bad at most {most}\n")?;
+        } else {
+            write!(to, "{line}\n")?;
+        }
+    }
+    Ok(to)
+}
+
+// What these words give by a seed. Where the schedule decides how many entries are bad, that many
+// at most.
+fn told_by<R: Threads + Wait + Sync + Files + AllocGlobal>(
+    rt: &R,
+    row: &str,
+    seed: u64,
+    bad_most: Option<u64>,
+    gate: &Arrivals,
+) -> io::Result<String> {
+    let text = told(rt, row, Some(seed), gate)?;
+    match bad_most {
+        Some(most) => with_bad_within(rt.alloc(), text.as_str(), most),
+        None => Ok(text),
+    }
+}
+
 // Prints what these words give for each seed below a count.
 fn print_plays<R: Threads + Wait + Sync + Files + Print + AllocGlobal>(
     rt: &R,
     count: u64,
+    bad_most: Option<u64>,
     row: &str,
     gate: &Arrivals,
 ) -> io::Result<()> {
-    let first = told(rt, row, Some(0), gate)?;
+    let first = told_by(rt, row, 0, bad_most, gate)?;
     rt.print(first.as_str())?;
     let mut same = 0u64;
     for seed in 0..count {
-        let text = told(rt, row, Some(seed), gate)?;
+        let text = told_by(rt, row, seed, bad_most, gate)?;
         if text.as_str() == first.as_str() {
             same = same.saturating_add(1);
         }
@@ -188,9 +228,13 @@ fn print_many<R: Threads + Wait + Sync + Files + Print + AllocGlobal>(
         let runs = runs.parse::<u64>().unwrap_or(0);
         return print_runs(rt, runs, actors.parse::<u64>().unwrap_or(0), row);
     }
+    if let Some((count, most)) = head.split_once(" bad ") {
+        let count = count.parse::<u64>().unwrap_or(0);
+        return print_plays(rt, count, most.parse::<u64>().ok(), row, gate);
+    }
     match head.split_once(' ') {
         Some((table, every)) => print_cases(rt, table, every.parse::<usize>().unwrap_or(1), row),
-        None => print_plays(rt, head.parse::<u64>().unwrap_or(0), row, gate),
+        None => print_plays(rt, head.parse::<u64>().unwrap_or(0), None, row, gate),
     }
 }
 

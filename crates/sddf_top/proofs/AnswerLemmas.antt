@@ -44,8 +44,8 @@ come-status (PlayPorts ports schedule) s x p c = ending-status c.report.quiet c.
 -- an answer by a decision that is enough is `Ok`
 enough-status : (d : Decision) (s : Status) (x : List ℕ) (p : Played) → IsEnough d → Comes d s x p → s ≡ Ended.Ok
 enough-status (Say t y) s x p e c = c.0 ∙ e
-enough-status (Play q u o) s x p e c = c.bounded e
-enough-status (Run q u n) s x p e c = c.bounded e
+enough-status (Play q u o) s x p e c = c.bounded e.0 e.1
+enough-status (Run q u n) s x p e c = c.bounded e.0 e.1
 enough-status (PlayBus bus schedule) s x p e c = c.bounded e
 enough-status (PlayPorts ports schedule) s x p e c = c.bounded e
 

@@ -1,4 +1,4 @@
-use Rattle.std.proofs.Common.{◌≡◌, ℕ, None, List, refl, ap}
+use Rattle.std.proofs.Common.{◌≡◌, ℕ, List, refl, ap}
 use Rattle.std.specs.Prelude.{slice_get}
 use Rattle.sdf_plan.specs.declared.plan.Plan.{Plan}
 use Rattle.trace_text.specs.declared.trace.Trace.{Trace}
@@ -11,8 +11,7 @@ use Rattle.decision_core.specs.declared.showing.Asked.TheVariants as Ask
 use Rattle.decision_core.specs.declared.showing.Showing.TheVariants as Show
 use Rattle.decision_core.specs.Judged.{IsAcceptedPlan}
 use Rattle.decision_core.specs.Decided.{decision_of, IsSound, AsksToRun}
-use Rattle.decision_core.specs.Rogues.{first_rogue}
-use Rattle.decision_core.proofs.FriendlyLemmas.{IsFriendlyPlay, decided-friendly, no-net, no-serial, no-blk}
+use Rattle.decision_core.proofs.FriendlyLemmas.{IsFriendlyRun, decided-friendly, no-net, no-serial, no-blk}
 use Rattle.cast_core.proofs.HostileLemmas.{no_rogue}
 use Rattle.sddf_top.specs.Friendly.{IsFriendly}
 use Rattle.i2c_text.specs.Buses.{IsReadBus}
@@ -77,14 +76,11 @@ decided-sound (Is.Ports ports schedule) h = h
 pub sound : (R : List ℕ → List ℕ → Type 0) (words : List (List ℕ)) (d : Decided) → Decides R words (decision_of d) → IsSound d
 sound R words d h = decided-sound d (sound-decision R words (decision_of d) h)
 
--- and a plan that is played or run has no hostile client
-kept-friendly : (p : Plan) (t : Trace) (a : Asked) → IsFriendlyPlay (asked_on p t a) → first_rogue p ≡ None
-kept-friendly p t (Ask.Play o) h = h
-kept-friendly p t (Ask.Run n) h = h
-
-decided-calm : (d : Decided) → IsFriendlyPlay (decision_of d) → IsFriendly d
+-- and a plan that is run has no hostile client
+decided-calm : (d : Decided) → IsFriendlyRun (decision_of d) → IsFriendly d
 decided-calm (Is.Say s x) h = tt
-decided-calm (Is.Go p t a) h = let none = kept-friendly p t a h in no_rogue p (no-net p none) (no-serial p none) (no-blk p none)
+decided-calm (Is.Go p t (Ask.Play o)) h = tt
+decided-calm (Is.Go p t (Ask.Run n)) h = no_rogue p (no-net p h) (no-serial p h) (no-blk p h)
 decided-calm (Is.Bus bus schedule) h = tt
 decided-calm (Is.Ports ports schedule) h = tt
 

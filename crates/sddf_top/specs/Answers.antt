@@ -6,6 +6,7 @@ use Rattle.sdf_plan.specs.declared.plan.Plan.{Plan}
 use Rattle.trace_text.specs.declared.trace.Trace.{Trace}
 use Rattle.region_layout.specs.Layouts.{layout_of}
 use Rattle.expect_core.specs.Budgets.{budget_of}
+use Rattle.cast_core.specs.Hostile.{HasNoRogue}
 use Rattle.system_core.specs.declared.system.System.{System}
 use Rattle.system_core.specs.PlanPlays.{IsPlayed}
 use Rattle.system_core.specs.Reports.{report_of}
@@ -42,7 +43,9 @@ pub record Shows (plan : Plan) (trace : Trace) (showing : Showing) (status : Sta
   pub plays : IsPlayed plan trace (seed_of showing) (limit_of plan trace showing) system
   pub spent : (report_of system).quiet ≡ false → length system.journal ≡ limit_of plan trace showing
   pub status_is : status ≡ ending_of (report_of system).quiet (report_of system).steps
-  pub bounded : budget_of plan trace ≤ limit_of plan trace showing → status ≡ Ended.Ok
+  -- the budget is enough where no client is hostile
+  pub bounded : HasNoRogue plan → budget_of plan trace ≤ limit_of plan trace showing
+      → status ≡ Ended.Ok
   pub text_is : text ≡ shown_text (layout_of plan) showing (report_of system) system.journal
 
 -- a trace was run on a plan, with a thread for each actor: the system that took over what the
@@ -56,7 +59,9 @@ pub record ShowsRun (plan : Plan) (trace : Trace) (steps : Option ℕ) (status :
   pub spent : (report_of system).quiet ≡ false
       → length system.journal ≡ limit_or_budget plan trace steps
   pub status_is : status ≡ ending_of (report_of system).quiet (report_of system).steps
-  pub bounded : budget_of plan trace ≤ limit_or_budget plan trace steps → status ≡ Ended.Ok
+  -- the budget is enough where no client is hostile
+  pub bounded : HasNoRogue plan → budget_of plan trace ≤ limit_or_budget plan trace steps
+      → status ≡ Ended.Ok
   pub text_is : text ≡ report_text (report_of system)
 
 -- a bus was played: what is reported of its play, the status by whether it is quiet, and the text of
@@ -81,12 +86,14 @@ pub record ShowsPorts (ports : Ports) (schedule : Schedule) (status : Status) (t
   pub bounded : ports_bound ports ≤ ports_limit ports schedule → status ≡ Ended.Ok
   pub text_is : text ≡ ports_text report
 
--- a decision that leads to `Ok`: it says so, or a play or a run may make as many steps as its
--- budget, or as are enough for a bus or a switch
+-- a decision that leads to `Ok`: it says so, or a play or a run of a plan without hostile clients
+-- may make as many steps as its budget, or as are enough for a bus or a switch
 abbrev pub IsEnough : Decision → Type 0
 IsEnough (Say status text) = status ≡ Ended.Ok
-IsEnough (Play plan trace showing) = budget_of plan trace ≤ limit_of plan trace showing
-IsEnough (Run plan trace steps) = budget_of plan trace ≤ limit_or_budget plan trace steps
+IsEnough (Play plan trace showing) =
+    HasNoRogue plan × budget_of plan trace ≤ limit_of plan trace showing
+IsEnough (Run plan trace steps) =
+    HasNoRogue plan × budget_of plan trace ≤ limit_or_budget plan trace steps
 IsEnough (PlayBus bus schedule) = bus_bound bus ≤ bus_limit bus schedule
 IsEnough (PlayPorts ports schedule) = ports_bound ports ≤ ports_limit ports schedule
 

@@ -74,7 +74,6 @@ fn answer_ports(alloc: Global, ports: Ports, schedule: Schedule) -> Result<Outco
 /// The answer of what was decided, where no thread is asked for.
 fn answer_alone(alloc: Global, decided: Decided) -> Result<Outcome, Memory>
     requires sound { IsSound decided }
-    requires friendly { IsFriendly decided }
     requires alone { AsksToRun decided → ⊥ }
     ensures { IfOk result (Follows (decision_of decided)) }
 {

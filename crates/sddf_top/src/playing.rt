@@ -137,8 +137,7 @@ fn show_run(alloc: Global, system: &System) -> Result<(Status, String), Memory>
     Ok((ending_of(report.quiet, report.steps), text))
 }
 
-/// Plays a trace on a plan without hostile clients that is laid out, and makes the answer of what
-/// the system shows.
+/// Plays a trace on a plan that is laid out, and makes the answer of what the system shows.
 fn play_laid(
     alloc: Global,
     plan: &Plan,
@@ -149,7 +148,6 @@ fn play_laid(
     requires accepted { IsAcceptedPlan plan.now }
     requires layout { layout.now ≡ layout_of plan.now }
     requires read { IsReadFor plan.now trace.now }
-    requires friendly { HasNoRogue plan.now }
     ensures { IfOk result (Follows (Play plan.now trace.now showing)) }
 {
     let limit = limit_of(plan, trace, showing);
@@ -167,11 +165,10 @@ fn play_laid(
     }
 }
 
-/// Plays a trace on a plan without hostile clients, and makes the answer of what the system shows.
+/// Plays a trace on a plan, and makes the answer of what the system shows.
 pub fn play(alloc: Global, plan: &Plan, trace: &Trace, showing: Showing) -> Result<Outcome, Memory>
     requires accepted { IsAcceptedPlan plan.now }
     requires read { IsReadFor plan.now trace.now }
-    requires friendly { HasNoRogue plan.now }
     ensures { IfOk result (Follows (Play plan.now trace.now showing)) }
 {
     let layout = lay_out(alloc, plan)?;

@@ -8,5 +8,6 @@ pub mod Parts
 pub mod Bytes
 pub mod Table
 pub mod Serial
+pub mod Beside
 pub mod Hops
 pub mod Pools

@@ -4,17 +4,18 @@
 //! without pages.
 #![tactic(auto)]
 
-ghost use Rattle.std.specs.Prelude.{List};
+ghost use Rattle.std.specs.Prelude.{◌≡◌, ℕ, false, List, length};
 ghost use Rattle.wire_core.specs.declared.names.QueueRow.{QueueRow};
 ghost use Rattle.wire_core.specs.declared.names.Entry.{Entry};
 ghost use Rattle.wire_core.specs.Journal.{History, Hostiles, QueuesFlow};
-ghost use Rattle.play_core.specs.Moved.{moved};
+ghost use Rattle.play_core.specs.Moved.{Moved, moved};
 ghost use Rattle.play_core.specs.Wants.{Needful};
 ghost use Rattle.play_core.specs.Sheets.{IsOwn, NeedsFollow};
 ghost use Rattle.play_core.specs.Still.{IsStill, Plays};
 ghost use Rattle.serial_law.specs.Parts.{SerialPart};
 ghost use Rattle.serial_law.specs.Table.{serial_sheet};
 ghost use Rattle.serial_law.specs.Serial.{SerialClass, IsSerial, ArrivesInPart, ArrivesWhole};
+ghost use Rattle.serial_law.specs.Beside.{Rogues, IsSerialBeside, ArrivesBeside, said_beside};
 
 pub mod hops;
 pub mod pools;
@@ -29,7 +30,9 @@ pub fn table_law()
 /// Where the queues hand over in order and the rows of the class's actors hold, each client's
 /// record is a beginning of its part of the input, and the line is a merge of beginnings of the
 /// scripts. Where in addition nobody is runnable, each record is whole, and the line is a merge of
-/// the whole scripts.
+/// the whole scripts. Beside hostile clients of the class, of whose rows nothing is asked, each
+/// client's record is a beginning of its part all the same, and the line is a merge of beginnings
+/// of the others' scripts and of what was taken of the hostile ones; where none is, of the scripts.
 pub fn serial_law()
     ensures part { (hostile : Hostiles) (history : History) (rows : List QueueRow)
         (journal : List Entry) (class : SerialClass)
@@ -42,4 +45,11 @@ pub fn serial_law()
         → IsSerial (λ p. Plays hostile actors (moved history journal)
         (serial_sheet p)) hostile rows class
         → ArrivesWhole class (moved history journal) }
+    ensures beside { (history : History) (rows : List QueueRow) (journal : List Entry)
+        (rogues : Rogues) (class : SerialClass) → QueuesFlow history rows journal
+        → IsSerialBeside (λ p. (serial_sheet p).row (moved history journal)) rogues rows class
+        → ArrivesBeside rogues class (moved history journal) }
+    ensures all_say { (rogues : Rogues) (class : SerialClass) (m : Moved)
+        → ((k : ℕ) → rogues k ≡ false) → length class.client_tx ≡ length class.scripts
+        → said_beside rogues class m ≡ class.scripts }
 {}

@@ -1,4 +1,4 @@
-use Rattle.std.proofs.Common.{◌≡◌, ◌+◌, ℕ, Bool, true, false, not, Option, Some, None, is_some, is_none, List, [], ◌∷◌, length, map, refl, sym, ap, ◌∙◌, arith}
+use Rattle.std.proofs.Common.{◌≡◌, ◌+◌, ℕ, Bool, true, false, not, Option, Some, None, is_some, is_none, List, [], ◌∷◌, length, refl, sym, ap, ◌∙◌, arith}
 use Rattle.std.proofs.lemmas.List.{length-map}
 use Rattle.turn_kit.specs.Turns.{Post, Choosing, choice_with, offered_from, choosing, choice_of, lower_if, unsettled_from}
 use Rattle.turn_kit.specs.declared.turns.Stand.{Stand}
@@ -11,7 +11,8 @@ use Rattle.turn_kit.specs.declared.ends.Outlet.{Outlet}
 use Rattle.wire_core.specs.Deeds.{Cargo}
 use Rattle.serial_virt.specs.declared.tx.SerialVirtTx.{SerialVirtTx}
 use Rattle.serial_virt.specs.declared.rx.SerialVirtRx.{SerialVirtRx}
-use Rattle.serial_virt.specs.Receiving.{rx_round, place_loaded}
+use Rattle.turn_kit.proofs.Dropped.{drops_length, offered_same, unsettled_same}
+use Rattle.serial_virt.specs.Receiving.{rx_round, client_posts, place_loaded}
 use Rattle.serial_virt.specs.Sending.{tx_round}
 
 -- offering ends changes no count
@@ -45,11 +46,13 @@ pub rx_choice : (v : SerialVirtRx) (s : Bool) (owed : Option ℕ) (n : ℕ) (c0 
 rx_choice v s owed n c0 c1 c2 settled here count h0 h1 h2 =
     let long = length-map v.outputs.ends.items (λ (o : Outlet). o.queue) in
     let posts = length-map v.outputs.ends.items outlet_post in
-    let all : n ≡ length (rx_round v).posts = omega (arith, count, long, posts) in
+    let d = drops_length v.drops.items (outlet_posts v.outputs) in
+    let all : n ≡ length (rx_round v).posts = omega (arith, count, long, posts, d) in
     h2 ∙ (ap (λ (x : Option ℕ). offered_from c1 1 (outlet_posts v.outputs) (needs_from (is_here x) 0 (outlet_queues v.outputs))) here
-    ∙ ap (λ c. offered_from c 1 (outlet_posts v.outputs) (needs_from (is_here (place_loaded v)) 0 (outlet_queues v.outputs)))
+    ∙ (sym (offered_same c1 1 v.drops.items (outlet_posts v.outputs) (needs_from (is_here (place_loaded v)) 0 (outlet_queues v.outputs)))
+    ∙ ap (λ c. offered_from c 1 (client_posts v) (needs_from (is_here (place_loaded v)) 0 (outlet_queues v.outputs)))
     (h1 ∙ (ap (λ x. choice_with c0 (record { queue = v.input.queue.0; place = 0 }) x) settled
-    ∙ ap (λ c. choice_with c (record { queue = v.input.queue.0; place = 0 }) (is_settled v.input.state (is_none v.load))) (h0 ∙ ap (λ m. choosing m v.turn.last) all))))
+    ∙ ap (λ c. choice_with c (record { queue = v.input.queue.0; place = 0 }) (is_settled v.input.state (is_none v.load))) (h0 ∙ ap (λ m. choosing m v.turn.last) all)))))
 
 -- the lowest unsettled end of the sending virtualiser was found
 pub tx_first : (v : SerialVirtTx) (b s : Bool) (x0 x1 x2 : Option Stand) (one : Stand) → b ≡ is_none v.load → s ≡ is_settled v.output.state (is_some v.load) → x0 ≡ None
@@ -65,4 +68,5 @@ pub rx_first : (v : SerialVirtRx) (s : Bool) (owed : Option ℕ) (x0 x1 x2 : Opt
 rx_first v s owed x0 x1 x2 one settled here none e1 e2 is =
     let first : x1 ≡ lower_if (not (is_settled v.input.state (is_none v.load))) None (record { queue = v.input.queue.0; place = 0 }) = e1 ∙ (ap (λ b. lower_if (not b) x0 (record { queue = v.input.queue.0; place = 0 })) settled ∙ ap (λ (x : Option Stand). lower_if (not (is_settled v.input.state (is_none v.load))) x (record { queue = v.input.queue.0; place = 0 })) none) in
     sym (e2 ∙ (ap (λ (o : Option ℕ). unsettled_from x1 1 (outlet_posts v.outputs) (needs_from (is_here o) 0 (outlet_queues v.outputs))) here
-    ∙ ap (λ (x : Option Stand). unsettled_from x 1 (outlet_posts v.outputs) (needs_from (is_here (place_loaded v)) 0 (outlet_queues v.outputs))) first)) ∙ sym is
+    ∙ (sym (unsettled_same x1 1 v.drops.items (outlet_posts v.outputs) (needs_from (is_here (place_loaded v)) 0 (outlet_queues v.outputs)))
+    ∙ ap (λ (x : Option Stand). unsettled_from x 1 (client_posts v) (needs_from (is_here (place_loaded v)) 0 (outlet_queues v.outputs))) first))) ∙ sym is

@@ -1,4 +1,4 @@
-use Rattle.std.proofs.Common.{◌≡◌, ◌+◌, ◌<◌, ◌==◌, ℕ, zero, suc, Bool, true, false, Option, Some, None, is_some, List, [], ◌∷◌, ◌++◌, map, length, slice_get, slice_set, slice_index_or, option_to_list, if◌then◌else◌, refl, sym, ap, ◌∙◌, subst, arith, eq-eqb}
+use Rattle.std.proofs.Common.{◌≡◌, ◌+◌, ◌<◌, ℕ, zero, suc, true, Option, Some, None, is_some, List, [], ◌∷◌, ◌++◌, map, slice_get, slice_set, slice_index_or, option_to_list, if◌then◌else◌, refl, sym, ap, ◌∙◌, arith, eq-eqb}
 use Rattle.std.proofs.lemmas.Option.{slice_get-get_or}
 use Rattle.cargo_core.specs.declared.item.PoolId.{PoolId}
 use Rattle.cargo_core.specs.Lists.{Merge, merge_none, merge_next}
@@ -14,7 +14,9 @@ use Rattle.serial_switch.specs.Switching.{input_of}
 use Rattle.serial_switch.proofs.Carrying.{bytes_hold_none}
 use Rattle.serial_virt.specs.declared.rx.SerialVirtRx.{SerialVirtRx}
 use Rattle.serial_virt.specs.declared.tx.SerialVirtTx.{SerialVirtTx}
-use Rattle.serial_virt.specs.Receiving.{RxStandsFor, RxBalances, owed_to, clients_of}
+use Rattle.wire_core.specs.Fates.{without}
+use Rattle.serial_virt.specs.Shares.{byte_fate}
+use Rattle.serial_virt.specs.Receiving.{RxStandsFor, HoldingRxStands, RxBalances, owed_to, clients_of, taker_of}
 use Rattle.serial_virt.specs.Sending.{TxStandsFor, TxBalances, taken_from}
 
 some_eq : {X : Type 0} {a b : X} → Some a ≡ Some b → a ≡ b
@@ -78,21 +80,28 @@ tx_balance v passed h pool =
     omega (arith, came, all, parts, went)
 
 -- a client was given bytes, and is owed a byte
-module _ (v : SerialVirtRx) (passed : Passed) (h : RxStandsFor v passed) (pool : PoolId) where
+module _ (v : SerialVirtRx) (passed : Passed) (to : is_some v.load ≡ true → v.to < clients_of v) (bytes : (k : ℕ) (q : QueueId) → slice_get (outlet_queues v.outputs) k ≡ Some q → (bs : List ℕ) × (passed.sent q.0 ++ owed_to v.load v.to k ≡ map byte_cargo bs)) (pool : PoolId) where
   given_none : (k : ℕ) (q : QueueId) → slice_get (outlet_queues v.outputs) k ≡ Some q → buffers_of pool (bodies_of (passed.sent q.0)) + buffers_of pool (bodies_of (owed_to v.load v.to k)) ≡ 0
-  given_none k q at = sym (cargo-append pool (passed.sent q.0) (owed_to v.load v.to k)) ∙ (ap (λ cs. buffers_of pool (bodies_of cs)) (h.given k q at) ∙ bytes_hold_none pool (input_of (clients_of v) k (bytes_carried (passed.taken v.input.queue.0))))
+  given_none k q at = let bs = bytes k q at in sym (cargo-append pool (passed.sent q.0) (owed_to v.load v.to k)) ∙ (ap (λ cs. buffers_of pool (bodies_of cs)) bs.1 ∙ bytes_hold_none pool bs.0)
 
   none_of : (load : Option Cargo) → load ≡ v.load → buffers_of pool (bodies_of (option_to_list load)) ≡ 0
   none_of None is = refl
   none_of (Some c) is =
-      let there : v.to < clients_of v = h.to (ap is_some (sym is)) in
+      let there : v.to < clients_of v = to (ap is_some (sym is)) in
       let none = given_none v.to (slice_index_or (outlet_queues v.outputs) v.to (record { 0 = 0 })) (slice_get-get_or (outlet_queues v.outputs) v.to (record { 0 = 0 }) there) in
       let mine : owed_to v.load v.to v.to ≡ option_to_list v.load = ap (λ b. if b then option_to_list v.load else []) (eq-eqb v.to v.to refl) in
       let owed : buffers_of pool (bodies_of (owed_to v.load v.to v.to)) ≡ buffers_of pool (bodies_of (option_to_list (Some c))) = ap (λ cs. buffers_of pool (bodies_of cs)) (mine ∙ ap option_to_list (sym is)) in
       omega (arith, none, owed)
 
-pub rx_balance : (v : SerialVirtRx) (passed : Passed) → RxStandsFor v passed → RxBalances v passed
-rx_balance v passed h pool =
-    let went = none_at pool passed.sent (outlet_queues v.outputs) (λ k q at. let none = given_none v passed h pool k q at in omega (arith, none)) in
-    let hand = none_of v passed h pool v.load refl in
+balance_by : (v : SerialVirtRx) (passed : Passed) → (is_some v.load ≡ true → v.to < clients_of v) → ((k : ℕ) (q : QueueId) → slice_get (outlet_queues v.outputs) k ≡ Some q → (bs : List ℕ) × (passed.sent q.0 ++ owed_to v.load v.to k ≡ map byte_cargo bs)) → RxBalances v passed
+balance_by v passed to bytes pool =
+    let went = none_at pool passed.sent (outlet_queues v.outputs) (λ k q at. let none = given_none v passed to bytes pool k q at in omega (arith, none)) in
+    let hand = none_of v passed to bytes pool v.load refl in
     omega (arith, went, hand)
+
+pub rx_balance : (v : SerialVirtRx) (passed : Passed) → RxStandsFor v passed → RxBalances v passed
+rx_balance v passed h = balance_by v passed h.to (λ k q at. (without (byte_fate v.input.queue.0 (taker_of v k q) passed.calls).dropped (input_of (clients_of v) k (bytes_carried (passed.taken v.input.queue.0))), (h.clients k q at).given))
+
+-- the same of one that never drops
+pub held_balance : (v : SerialVirtRx) (passed : Passed) → HoldingRxStands v passed → RxBalances v passed
+held_balance v passed h = balance_by v passed h.to (λ k q at. (input_of (clients_of v) k (bytes_carried (passed.taken v.input.queue.0)), h.given k q at))

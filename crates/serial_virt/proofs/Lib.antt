@@ -3,6 +3,9 @@ pub mod Counting
 pub mod Rounds
 pub mod Places
 pub mod Forgets
+pub mod Loads
+pub mod Taking
 pub mod Sharing
+pub mod Dropping
 pub mod Sizes
 pub mod Holding

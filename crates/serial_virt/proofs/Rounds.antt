@@ -5,8 +5,8 @@ use Rattle.wire_core.specs.declared.names.Event.{Event}
 use Rattle.turn_kit.specs.declared.turns.Turn.{Turn}
 use Rattle.wire_core.specs.Marks.{is_mark}
 use Rattle.turn_kit.specs.Posts.{outlet_post, intake_post}
-use Rattle.turn_kit.specs.Turns.{Turned, Posted, PostedAt, choice_of, chosen_place, last_after}
-use Rattle.turn_kit.specs.ManyEnds.{intake_queues, intake_posts, outlet_queues, outlet_posts, needs_from, is_here}
+use Rattle.turn_kit.specs.Turns.{Turned, Post, Posted, PostedAt, is_mark_at, choice_of, chosen_place, last_after}
+use Rattle.turn_kit.specs.ManyEnds.{intake_queues, intake_posts, outlet_queues, needs_from, is_here}
 use Rattle.turn_kit.proofs.Offers.{first, later, get_need}
 use Rattle.turn_kit.proofs.Turning.{no_mark_at}
 use Rattle.serial_virt.proofs.Sizes.{rx_size, tx_size}
@@ -16,7 +16,7 @@ use Rattle.std.proofs.Math.Dec.{eqb}
 use Rattle.std.proofs.lemmas.Bool.Decides.{eqb_tells}
 use Rattle.wire_core.specs.Deeds.{Cargo}
 use Rattle.serial_virt.specs.declared.rx.SerialVirtRx.{SerialVirtRx}
-use Rattle.serial_virt.specs.Receiving.{rx_round, rx_queues, place_loaded, is_owed_at}
+use Rattle.serial_virt.specs.Receiving.{rx_round, rx_queues, client_posts, place_loaded, is_owed_at}
 use Rattle.serial_virt.specs.Sending.{tx_round, tx_queues}
 
 no_queue : QueueId
@@ -64,34 +64,37 @@ owed_at_place v k there = get_need (is_here (place_loaded v)) 0 (outlet_queues v
 
 -- a client's end of the receiving virtualiser had its turn
 pub rx_turned : (old mid new : SerialVirtRx) (t : Turn) (e : Event) (place k : ℕ) → mid ≡ record old { turn = t } → place ≡ chosen_place (choice_of (rx_round old)) → place ≡ suc k → k < length (outlet_queues old.outputs)
-    → PostedAt (outlet_posts mid.outputs) k (is_owed_at mid k) e (outlet_posts new.outputs) → new.input ≡ mid.input → (is_mark e.op e.answer ≡ false → new.load ≡ mid.load) → new.to ≡ mid.to → rx_queues new ≡ rx_queues mid → new.turn ≡ mid.turn → t.last ≡ last_after (choice_of (rx_round old)) → Turned (rx_round old) e (rx_round new)
+    → PostedAt (client_posts mid) k (is_owed_at mid k) e (client_posts new) → new.input ≡ mid.input → ((p : Post) → slice_get (client_posts mid) k ≡ Some p → is_mark_at p e ≡ false → new.load ≡ mid.load) → new.to ≡ mid.to → rx_queues new ≡ rx_queues mid → new.turn ≡ mid.turn → t.last ≡ last_after (choice_of (rx_round old)) → Turned (rx_round old) e (rx_round new)
 rx_turned old mid new t e place k after is place_is there posted input still to queues turn last =
-    let posted' : PostedAt (outlet_posts old.outputs) k (is_owed_at old k) e (outlet_posts new.outputs) = subst (λ v. PostedAt (outlet_posts v.outputs) k (is_owed_at v k) e (outlet_posts new.outputs)) after posted in
+    let posted' : PostedAt (client_posts old) k (is_owed_at old k) e (client_posts new) = subst (λ v. PostedAt (client_posts v) k (is_owed_at v k) e (client_posts new)) after posted in
     let into : new.input ≡ old.input = input ∙ ap (λ v. v.input) after in
     let load : mid.load ≡ old.load = ap (λ v. v.load) after in
     let to' : new.to ≡ old.to = to ∙ ap (λ v. v.to) after in
     let same : outlet_queues new.outputs ≡ outlet_queues old.outputs = ap (drop 1) queues ∙ ap (λ v. outlet_queues v.outputs) after in
-    let posted'' : PostedAt (rx_round old).posts place (is_owed_at old k) e (rx_round new).posts = rw (place_is, into) (later (intake_post old.input) (outlet_posts old.outputs) (outlet_posts new.outputs) k (is_owed_at old k) e posted') in
+    let posted'' : PostedAt (rx_round old).posts place (is_owed_at old k) e (rx_round new).posts = rw (place_is, into) (later (intake_post old.input) (client_posts old) (client_posts new) k (is_owed_at old k) e posted') in
+    let at : slice_get (client_posts old) k ≡ Some posted''.post = subst (λ n. slice_get (rx_round old).posts n ≡ Some posted''.post) place_is posted''.there in
+    let at' : slice_get (client_posts mid) k ≡ Some posted''.post = subst (λ v. slice_get (client_posts v) k ≡ Some posted''.post) (sym after) at in
     record {
       place = place;
       need = is_owed_at old k;
       is_chosen = is;
       needed = rw place_is (owed_at_place old k there);
       posted = posted'';
-      needs = λ m. rw (same, still (no_mark_at posted''.post e m), load, to') refl;
+      needs = λ m. rw (same, still posted''.post at' m, load, to') refl;
       size = rx_size new;
       last = ap (λ t. t.last) (turn ∙ ap (λ v. v.turn) after) ∙ last;
     }
 
 -- the input of the receiving virtualiser had its turn
 pub rx_input_turned : (old mid new : SerialVirtRx) (t : Turn) (e : Event) (place : ℕ) → mid ≡ record old { turn = t } → place ≡ chosen_place (choice_of (rx_round old)) → place ≡ 0
-    → Posted (intake_post mid.input) (is_none mid.load) e (intake_post new.input) → new.outputs ≡ mid.outputs → (is_mark e.op e.answer ≡ false → new.load ≡ mid.load) → (is_mark e.op e.answer ≡ false → new.to ≡ mid.to) → new.turn ≡ mid.turn → t.last ≡ last_after (choice_of (rx_round old)) → Turned (rx_round old) e (rx_round new)
-rx_input_turned old mid new t e place after is place_is posted outputs still to turn last =
+    → Posted (intake_post mid.input) (is_none mid.load) e (intake_post new.input) → new.outputs ≡ mid.outputs → new.drops.items ≡ mid.drops.items → (is_mark e.op e.answer ≡ false → new.load ≡ mid.load) → (is_mark e.op e.answer ≡ false → new.to ≡ mid.to) → new.turn ≡ mid.turn → t.last ≡ last_after (choice_of (rx_round old)) → Turned (rx_round old) e (rx_round new)
+rx_input_turned old mid new t e place after is place_is posted outputs policies still to turn last =
     let posted' : Posted (intake_post old.input) (is_none old.load) e (intake_post new.input) = subst (λ v. Posted (intake_post v.input) (is_none v.load) e (intake_post new.input)) after posted in
     let out : new.outputs ≡ old.outputs = outputs ∙ ap (λ v. v.outputs) after in
+    let flags : new.drops.items ≡ old.drops.items = policies ∙ ap (λ v. v.drops.items) after in
     let load : mid.load ≡ old.load = ap (λ v. v.load) after in
     let to' : mid.to ≡ old.to = ap (λ v. v.to) after in
-    let posted'' : PostedAt (rx_round old).posts place (is_none old.load) e (rx_round new).posts = rw (place_is, out) (first (intake_post old.input) (intake_post new.input) (outlet_posts old.outputs) (is_none old.load) e posted') in
+    let posted'' : PostedAt (rx_round old).posts place (is_none old.load) e (rx_round new).posts = rw (place_is, out, flags) (first (intake_post old.input) (intake_post new.input) (client_posts old) (is_none old.load) e posted') in
     record {
       place = place;
       need = is_none old.load;

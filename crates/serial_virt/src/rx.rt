@@ -1,14 +1,16 @@
 //! The virtualiser that shares out what was received.
 
-ghost use Rattle.std.specs.Prelude.{◌≡◌, ◌==◌, ◌<◌, ◌+◌, ◌^◌, ℕ, List, [], ◌++◌, None, IfOk};
-ghost use Rattle.std.specs.Prelude.{IfSome, length, map, is_none, is_some, false, if◌then◌else◌};
+ghost use Rattle.std.specs.Prelude.{◌≡◌, ◌==◌, ◌<◌, ◌≤◌, ◌+◌, ◌^◌, ℕ, Bool, List, [], ◌++◌, None};
+ghost use Rattle.std.specs.Prelude.{Some, IfOk, IfSome, length, map, slice_get, is_none, is_some};
+ghost use Rattle.std.specs.Prelude.{false, if◌then◌else◌};
 ghost use Rattle.std.specs.Option.{ForSome, option_to_list};
 ghost use Rattle.cargo_core.specs.Items.{kind_of};
 ghost use Rattle.wire_core.specs.Ends.{role_of, Role, End, Producer, Consumer};
 ghost use Rattle.wire_core.specs.Lists.{Passed, Stepped, nothing_passed};
 ghost use Rattle.wire_core.specs.Marks.{is_mark};
+ghost use Rattle.wire_core.specs.Fates.{marked, noes_at};
 ghost use Rattle.turn_kit.specs.Turns.{Turned, Posted, PostedAt, choice_of, chosen_place};
-ghost use Rattle.turn_kit.specs.Turns.{last_after, is_at_rest};
+ghost use Rattle.turn_kit.specs.Turns.{Post, last_after, is_at_rest, is_mark_at};
 ghost use Rattle.turn_kit.specs.Posts.{intake_post};
 ghost use Rattle.cargo_core.specs.Bodies.{buffers_of};
 ghost use Rattle.turn_kit.specs.ManyEnds.{outlet_queues, outlet_posts};
@@ -19,16 +21,19 @@ ghost use Rattle.serial_virt.specs.Forgetting.{outlet_forgotten};
 ghost use Rattle.serial_virt.specs.Receiving.{FitsRx, RxStandsFor, RxRow, RxBalances, RxEnd};
 ghost use Rattle.serial_virt.specs.Receiving.{IsNewRx, RxForgot, new_outlet, rx_queues, rx_round};
 ghost use Rattle.serial_virt.specs.Receiving.{rx_hand, loaded_with, loaded_for, is_owed_at};
-ghost use Rattle.serial_virt.specs.Receiving.{place_loaded};
+ghost use Rattle.serial_virt.specs.Receiving.{place_loaded, client_posts, taker_of};
+ghost use Rattle.serial_virt.specs.Receiving.{HoldingRxStands, HoldingRxRow, holding_rx_round};
+ghost use Rattle.serial_virt.specs.Shares.{AllHold, byte_fate};
 
 use cargo_core::{Body, Item, Memory, PoolId};
 use serial_switch::Switch;
 use std::alloc::Global;
-use turn_kit::{Intake, Lowest, Outlet, Outlets, Turn, count_held};
+use turn_kit::{Intake, Lowest, Outlet, Outlets, Turn, count_held, put_or_drop_at};
 use wire_core::{Event, QueueId, Wires};
 
 /// Shares out what the driver received, by the selections that stand in it. `load` is the byte that
-/// it owes to the client at the place `to`; while that client has no room, it waits.
+/// it owes to the client at the place `to`; while that client has no room, it waits, or drops the
+/// byte where `drops` says so of that client.
 #[derive(Drop)]
 pub struct SerialVirtRx {
     pub input: Intake,
@@ -36,18 +41,30 @@ pub struct SerialVirtRx {
     pub switch: Switch,
     pub load: Option<(Item, Body)>,
     pub to: usize,
+    pub drops: Vec<bool>,
     pub turn: Turn,
 }
 
 // Ends in their start state.
-fn outlets(alloc: Global, queues: &[QueueId]) -> Result<Outlets, Memory>
-    ensures { IfOk result (λ o. o.ends.items ≡ map new_outlet queues.now) }
+fn outlets(alloc: Global, clients: &[(QueueId, bool)]) -> Result<Outlets, Memory>
+    ensures { IfOk result (λ o. o.ends.items ≡ map (λ c. new_outlet c.0) clients.now) }
 {
-    let mut ends = Vec::with_capacity(alloc, queues.len())?;
-    for queue in queues {
-        ends.push(Outlet::new(*queue))?;
+    let mut ends = Vec::with_capacity(alloc, clients.len())?;
+    for client in clients {
+        ends.push(Outlet::new(client.0))?;
     }
     Ok(Outlets { ends })
+}
+
+// Of each client, whether bytes for it may be dropped.
+fn policies(alloc: Global, clients: &[(QueueId, bool)]) -> Result<Vec<bool>, Memory>
+    ensures { IfOk result (λ drops. drops.items ≡ map (λ c. c.1) clients.now) }
+{
+    let mut drops = Vec::with_capacity(alloc, clients.len())?;
+    for client in clients {
+        drops.push(client.1)?;
+    }
+    Ok(drops)
 }
 
 // Discards the last look of each end.
@@ -78,12 +95,17 @@ fn read(switch: &mut Switch, taken: Option<(Item, Body)>) -> Option<(u32, u8)>
 }
 
 impl SerialVirtRx {
-    /// A virtualiser in its start state, which shares out what comes at `rx` to the clients, one
-    /// queue a client.
-    pub fn new(alloc: Global, rx: QueueId, clients: Vec<QueueId>) -> Result<SerialVirtRx, Memory>
+    /// A virtualiser in its start state, which shares out what comes at `rx` to the clients: of
+    /// each its queue, and whether a byte for which this has no room is dropped.
+    pub fn new(
+        alloc: Global,
+        rx: QueueId,
+        clients: Vec<(QueueId, bool)>,
+    ) -> Result<SerialVirtRx, Memory>
         requires some { 0 < length clients.items }
         requires few { length clients.items < 2 ^ 32 }
-        ensures new { IfOk result (λ v. IsNewRx rx clients.items v) }
+        ensures new { IfOk result (λ v. IsNewRx rx (map (λ c. c.0) clients.items)
+            (map (λ c. c.1) clients.items) v) }
         ensures stands { IfOk result (λ v. RxStandsFor v nothing_passed) }
     {
         Ok(SerialVirtRx {
@@ -92,6 +114,7 @@ impl SerialVirtRx {
             switch: Switch::new(clients.len() as u32),
             load: None,
             to: 0,
+            drops: policies(alloc, &clients)?,
             turn: Turn::new(),
         })
     }
@@ -162,6 +185,7 @@ impl SerialVirtRx {
         ensures fits { FitsRx (W.ends wires.new) self.new }
         ensures own { RxEnd self.old (role_of result.op) result.queue.0 }
         ensures queues { rx_queues self.new ≡ rx_queues self.old }
+        ensures policies { self.new.drops.items ≡ self.old.drops.items }
         ensures stepped { Stepped RxStandsFor W.did wires.old wires.new self.old self.new result }
         ensures posted { Posted (intake_post self.old.input) (is_none self.old.load) result
             (intake_post self.new.input) }
@@ -176,26 +200,40 @@ impl SerialVirtRx {
         event
     }
 
-    // The next call of a client's end, which puts the byte that is owed to it.
+    // The next call of a client's end, which puts the byte that is owed to it, or drops it.
     fn step_output<W: Wires>(&mut self, wires: &mut W, k: usize) -> Event
         requires fits { FitsRx (W.ends wires.old) self.old }
         requires there { k < length (outlet_queues self.old.outputs) }
         ensures fits { FitsRx (W.ends wires.new) self.new }
         ensures own { RxEnd self.old (role_of result.op) result.queue.0 }
         ensures queues { rx_queues self.new ≡ rx_queues self.old }
+        ensures policies { self.new.drops.items ≡ self.old.drops.items }
         ensures stepped { Stepped RxStandsFor W.did wires.old wires.new self.old self.new result }
-        ensures posted { PostedAt (outlet_posts self.old.outputs) k (is_owed_at self.old k) result
-            (outlet_posts self.new.outputs) }
-        ensures still { is_mark result.op result.answer ≡ false → self.new.load ≡ self.old.load }
+        ensures posted { PostedAt (client_posts self.old) k (is_owed_at self.old k) result
+            (client_posts self.new) }
+        ensures still { (p : Post) → slice_get (client_posts self.old) k ≡ Some p
+            → is_mark_at p result ≡ false → self.new.load ≡ self.old.load }
         ensures to { self.new.to ≡ self.old.to }
         ensures input { self.new.input ≡ self.old.input }
         ensures turn { self.new.turn ≡ self.old.turn }
     {
+        let drops = self.drops[k];
         if k == self.to {
-            self.outputs.step(wires, k, &mut self.load)
+            let (event, dropped) = put_or_drop_at(
+                &mut self.outputs,
+                wires,
+                k,
+                &mut self.load,
+                drops,
+            );
+            if dropped {
+                self.load = None;
+            }
+            event
         } else {
             let mut nothing = None;
-            self.outputs.step(wires, k, &mut nothing)
+            let (event, _) = put_or_drop_at(&mut self.outputs, wires, k, &mut nothing, drops);
+            event
         }
     }
 
@@ -206,6 +244,7 @@ impl SerialVirtRx {
         ensures fits { FitsRx (W.ends wires.new) self.new }
         ensures own { RxEnd self.old (role_of result.op) result.queue.0 }
         ensures queues { rx_queues self.new ≡ rx_queues self.old }
+        ensures policies { self.new.drops.items ≡ self.old.drops.items }
         ensures stepped { Stepped RxStandsFor W.did wires.old wires.new self.old self.new result }
         ensures turned { Turned (rx_round self.old) result (rx_round self.new) }
     {
@@ -221,9 +260,12 @@ impl SerialVirtRx {
     pub fn forget(&mut self)
         ensures after { RxForgot self.old self.new }
         ensures queues { rx_queues self.new ≡ rx_queues self.old }
+        ensures policies { self.new.drops.items ≡ self.old.drops.items }
         ensures fits { (ends : Role → ℕ → End) → FitsRx ends self.old → FitsRx ends self.new }
         ensures lists { (passed : Passed) → RxStandsFor self.old passed
             → RxStandsFor self.new passed }
+        ensures held { (passed : Passed) → HoldingRxStands self.old passed
+            → HoldingRxStands self.new passed }
     {
         self.input.forget();
         forget_outputs(&mut self.outputs);
@@ -238,4 +280,26 @@ pub fn rx_row_law()
 /// What came and did not go out is kept for good, and its hand is new bytes.
 pub fn rx_hand_law()
     ensures { (v : SerialVirtRx) (passed : Passed) → RxStandsFor v passed → RxBalances v passed }
+{}
+
+/// Where it waits for each client each of its contracts is that of a virtualiser which never drops,
+/// word for word: what it stands for, its row, and its ends. And of each client it drops no more
+/// bytes than its looks for room were in vain.
+pub fn rx_drop_law()
+    ensures stands { (v : SerialVirtRx) (passed : Passed) → AllHold v.drops.items
+        → RxStandsFor v passed → HoldingRxStands v passed }
+    ensures stood { (v : SerialVirtRx) (passed : Passed) → AllHold v.drops.items
+        → HoldingRxStands v passed → RxStandsFor v passed }
+    ensures holds { (v : SerialVirtRx) (passed : Passed) → AllHold v.drops.items → RxRow v passed
+        → HoldingRxRow v passed }
+    ensures held { (v : SerialVirtRx) (passed : Passed) → AllHold v.drops.items
+        → HoldingRxRow v passed → RxRow v passed }
+    ensures row { (v : SerialVirtRx) (passed : Passed) → HoldingRxStands v passed
+        → HoldingRxRow v passed }
+    ensures balance { (v : SerialVirtRx) (passed : Passed) → HoldingRxStands v passed
+        → RxBalances v passed }
+    ensures round { (v : SerialVirtRx) → AllHold v.drops.items → rx_round v ≡ holding_rx_round v }
+    ensures few { (v : SerialVirtRx) (k : ℕ) (q : QueueId) (calls : List Event)
+        → marked (byte_fate v.input.queue.0 (taker_of v k q) calls).dropped
+        ≤ noes_at Producer q.0 calls }
 {}

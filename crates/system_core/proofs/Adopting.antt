@@ -22,7 +22,6 @@ use Rattle.play_core.specs.Sheets.{Scene}
 use Rattle.play_core.specs.Still.{IsPeopled}
 use Rattle.play_core.specs.Wants.{all_settled}
 use Rattle.play_core.proofs.Lists.{some_is, map_get, map_from, there_is, there_below}
-use Rattle.owner_law.specs.Pages.{CarryPages}
 use Rattle.play_core.specs.Rests.Showing.{HaveItems, HaveBells}
 use Rattle.actor_set.specs.Parts.{Part}
 use Rattle.actor_set.specs.Actors.{FitsActor, ActorStandsFor, ActorEnd, Forgot, IsWhole, part_of, actor_round, actor_rests}
@@ -38,10 +37,11 @@ use Rattle.actor_set.proofs.LawsLemmas.Starts.{fits_whole}
 use Rattle.actor_set.proofs.LawsLemmas.Told.{none_wild}
 use Rattle.wired_law.specs.Wiring.{AreAtWork, AreOfKind, ClientsSend}
 use Rattle.wired_law.proofs.Wiring.{turns_calm}
+use Rattle.cast_law.specs.Pools.Beside.{CarryBeside, is_rogues}
 use Rattle.cast_law.specs.Pools.Places.{PoolPlace, IsInPlace, IsPlaced, HasPools, cast_naming}
+use Rattle.cast_law.proofs.BesideLemmas.Carrying.{calm_asks}
 use Rattle.cast_law.proofs.TurnsLemmas.{noted_tell, told_turns}
-use Rattle.cast_law.specs.Pools.Pooling.{AreAtPlay, HasOwners}
-use Rattle.cast_law.proofs.PoolsLemmas.Playing.{rows_at}
+use Rattle.cast_law.specs.Pools.Owning.{HasOwnersBeside}
 use Rattle.plain_wires.specs.Adopted.{IsEndedOf, all_adopted}
 use Rattle.order_law.specs.ActorParts.Opening.{IsForgotten}
 use Rattle.order_law.specs.ActorParts.Parting.{Apart, AreApart, IsRingOf, apart_end}
@@ -55,7 +55,6 @@ use Rattle.order_law.proofs.EndedLemmas.Rounds.{fits_round}
 use Rattle.cast_law.specs.Runs.Running.{HaveHeld}
 use Rattle.cast_law.specs.Gone.Gone.{HaveGone, passed_of, left_at, actors_apart}
 use Rattle.cast_law.proofs.GoneLemmas.Gone.{have_gone as went_on, hand_over}
-use Rattle.cast_law.proofs.PastOwners.Past.{past_owned}
 use Rattle.sdf_plan.specs.declared.plan.Plan.{Plan}
 use Rattle.sdf_check.specs.Valid.{Valid}
 use Rattle.trace_text.specs.declared.trace.Trace.{Trace}
@@ -65,6 +64,7 @@ use Rattle.system_core.specs.Builds.{IsCastOf}
 use Rattle.system_core.specs.Crews.{net_crew, serial_crew, blk_crew}
 use Rattle.system_core.proofs.Fitting.{are_sized, fitted_place}
 use Rattle.cast_core.specs.Hostile.{HasNoRogue}
+use Rattle.system_core.proofs.Owned.{past_owners}
 use Rattle.system_core.proofs.PoolsLemmas.Placing.{cast_calm}
 use Rattle.system_core.proofs.Telling.{wants_plain}
 use Rattle.wire_core.specs.Sizes.{AreSized}
@@ -247,9 +247,6 @@ module _ (s : Setting) (rings : List RingIs) (parts : List Apart) (fitted : IsFi
   told_now : (k : ℕ) (x : Actor) → slice_get nows k ≡ Some x → ToldInTurn (scene_of (map part_of nows)) (wild_in (hostiles (map part_of nows)) rows) (told_by []) x passed
   told_now = told_turns (end_at world) rows s.pools nows passed in_place_now work sends_now (told_by []) (noted_tell (wild_in (hostiles (map part_of nows)) rows) [] passed noted)
 
-  turns_now : (k : ℕ) (x : Actor) → slice_get nows k ≡ Some x → InTurn (scene_of (map part_of nows)) x passed
-  turns_now k x at = turns_calm (scene_of (map part_of nows)) (wild_in (hostiles (map part_of nows)) rows) (told_by []) x passed none_kept (told_now k x at)
-
   no_rogue : (k : ℕ) (r : Rogue) → slice_get nows k ≡ Some (Kinds.Rogue r) → ⊥
   no_rogue k r at = let calm_r = calm_now k (part_of (Kinds.Rogue r)) (map_get part_of nows k (Kinds.Rogue r) at) in cc
 
@@ -264,12 +261,8 @@ module _ (s : Setting) (rings : List RingIs) (parts : List Apart) (fitted : IsFi
     queues = λ n row at. (left.each n row at).shown;
     fits = fits_now;
     stands = stands_now;
-    carry = λ calm_here place placed. (
-        let same = parts_same actors nows calm forgotten in
-        let none = none_wild (map part_of actors) calm rows in
-        let carried = held.carry place (subst (IsPlaced rows place) same placed) (λ blk is k q at is_wild. absurd (let no = none (blk.first + 4 + 2 * k) in cc)) (moved history []) items in
-        subst (λ (c : List Part). CarryPages (cast_naming (scene_of c) place) (moved history []) passed) (sym same) (record { sent = carried.sent; taken = carried.taken; bodies = λ n k c at b. carried.bodies n (none n) k c at b })
-        );
+    carry = λ place placed. subst (λ (c : List Part). CarryBeside (wild_in (hostiles c) rows) (is_rogues (wild_in (hostiles c) rows) place) (cast_naming (scene_of c) place) (moved history []) passed) (sym (parts_same actors nows calm forgotten)) (held.carry place (subst (IsPlaced rows place) (parts_same actors nows calm forgotten) placed) (calm_asks rows place (map part_of actors) passed calm) (moved history []) items);
+    asks = λ place placed. calm_asks rows place (map part_of nows) passed calm_now;
     sends = sends_now;
     noted = noted;
     in_turn = told_now;
@@ -285,29 +278,12 @@ module _ (s : Setting) (rings : List RingIs) (parts : List Apart) (fitted : IsFi
   pub before : HoldsBefore (record s { history = history })
   before = record { bells_hold = λ n row at calm. (left.each n row at).bells_hold; flows = λ n row at. (left.each n row at).flows }
 
-  -- the cast is at play
-  pub at_play : AreAtPlay history rows nows [] passed world
-  at_play = record {
-    over = record {
-      peopled = in_place_now.peopled;
-      seated = in_place_now.seated;
-      filled = in_place_now.filled;
-      stands_there = stands_there;
-      size = left.size;
-      kinds = kinds;
-      fits = fits_now;
-      stands = stands_now;
-    };
-    calm = calm_now;
-    legal = tt;
-    flows = (before.flows, tt);
-    rows_hold = (rows_at rows nows passed (moved history []) items turns_now stands_now, tt);
-    items = items;
-    in_turn = turns_now;
-  }
+  -- what passed shows the owners of buffers
+  pub owners_past : (place : PoolPlace) → IsPlaced rows place (map part_of nows) → HasPools s.pools place → HasOwnersBeside history rows place (map part_of nows)
+  owners_past = past_owners history rows [] world nows holds s.pools in_place_now before.flows
 
   -- where its pools have owners, it goes on from there
-  module _ (owners : (place : PoolPlace) → IsPlaced rows place (map part_of nows) → HasPools s.pools place → HasOwners history rows place (map part_of nows)) where
+  module _ (owners : (place : PoolPlace) → IsPlaced rows place (map part_of nows) → HasPools s.pools place → HasOwnersBeside history rows place (map part_of nows)) where
     refitted : IsFitted (record s { history = history })
     refitted = record {
       scene_is = fitted.scene_is;
@@ -318,7 +294,7 @@ module _ (s : Setting) (rings : List RingIs) (parts : List Apart) (fitted : IsFi
       split = fitted.split;
       wired = fitted.wired;
       pooled = fitted.pooled;
-      owners = λ calm_here place placed has. subst (HasOwners history rows place) cast_now (owners place (subst (IsPlaced rows place) (sym cast_now) placed) has);
+      owners = λ place placed has. subst (HasOwnersBeside history rows place) cast_now (owners place (subst (IsPlaced rows place) (sym cast_now) placed) has);
       numbered = fitted.numbered;
       places = fitted.places;
     }
@@ -388,8 +364,8 @@ module _ (s : Setting) (calm : AllCalm s.cast) (rings : List RingIs) (parts : Li
     cast_is : map part_of actors ≡ s.cast
     cast_is = held.1.parts ∙ old_cast
 
-    owners : (place : PoolPlace) → IsPlaced s.rows place (map part_of nows) → HasPools s.pools place → HasOwners (history_left ended) s.rows place (map part_of nows)
-    owners place placed has = past_owned (history_left ended) s.rows s.pools place nows (passed_of ended held.0) (all_adopted s.rows ended) placed has (at_play s rings parts come.fitted calm few come.after actors nows ended done forgotten cast_is (actors_apart come.olds) held.0 held.1 over)
+    owners : (place : PoolPlace) → IsPlaced s.rows place (map part_of nows) → HasPools s.pools place → HasOwnersBeside (history_left ended) s.rows place (map part_of nows)
+    owners = owners_past s rings parts come.fitted calm few come.after actors nows ended done forgotten cast_is (actors_apart come.olds) held.0 held.1 over
 
     many : length ended ≡ length s.rows
     many = done.many ∙ all_long IsRingOf s.rows rings come.after.rings_are

@@ -15,10 +15,10 @@ use Rattle.play_core.proofs.Lists.{map_from, there_is}
 use Rattle.actor_set.specs.Parts.{Part}
 use Rattle.actor_set.specs.Actors.{part_of}
 use Rattle.actor_set.specs.declared.actor.Actor.{Actor}
-use Rattle.actor_set.specs.Laws.Kinds.{AllCalm, sheet, scene_of, hostiles}
+use Rattle.actor_set.specs.Laws.Kinds.{sheet, scene_of, hostiles}
 use Rattle.cast_law.specs.Pools.Places.{PoolPlace, IsInPlace, IsPlaced, HasPools, ArePooled}
-use Rattle.cast_law.specs.Pools.Pooling.{HasOwners}
-use Rattle.cast_law.proofs.PoolsLemmas.Playing.{owners_anew}
+use Rattle.cast_law.specs.Pools.Owning.{HasOwnersBeside}
+use Rattle.cast_law.proofs.OwningLemmas.Beginning.{owners_beside}
 use Rattle.system_core.specs.Shows.{Crew, Setting}
 use Rattle.system_core.specs.States.{begun}
 use Rattle.cast_law.specs.Seats.{AreSeated}
@@ -69,7 +69,7 @@ module _ (rows : List QueueRow) (actors : List Actor) (s : AreSeated rows actors
       s.split row.producer.0 y.0 y.1 n (s.ends row.producer.0 y.0 y.1 n row at Consumer (sym same)) (s.ends row.producer.0 y.0 y.1 n row at Producer refl)
 
   -- with pools whose owners a history shows
-  module _ (history : History) (pools : List PoolRow) (net serial blk : Crew) (pooled : ArePooled rows pools (map part_of actors)) (owners : AllCalm (map part_of actors) → (place : PoolPlace) → IsPlaced rows place (map part_of actors) → HasPools pools place → HasOwners history rows place (map part_of actors)) where
+  module _ (history : History) (pools : List PoolRow) (net serial blk : Crew) (pooled : ArePooled rows pools (map part_of actors)) (owners : (place : PoolPlace) → IsPlaced rows place (map part_of actors) → HasPools pools place → HasOwnersBeside history rows place (map part_of actors)) where
     pub seated_fit : IsFitted (begun history rows pools actors net serial blk)
     seated_fit = record {
       scene_is = refl;
@@ -89,7 +89,7 @@ module _ (rows : List QueueRow) (actors : List Actor) (s : AreSeated rows actors
 pub start_goes : (rows : List QueueRow) (pools : List PoolRow) (actors : List Actor) (net serial blk : Crew) → AreSeated rows actors → ArePooled rows pools (map part_of actors) → GoesOn (begun (start_history rows) rows pools actors net serial blk) (starts rows) actors
 start_goes rows pools actors net serial blk s pooled =
     let start : Setting = begun (start_history rows) rows pools actors net serial blk in
-    let fitted : IsFitted start = seated_fit rows actors s (start_history rows) pools net serial blk pooled (λ calm place placed has. owners_anew rows (map part_of actors) calm (end_given rows actors s) place placed has.numbered) in record {
+    let fitted : IsFitted start = seated_fit rows actors s (start_history rows) pools net serial blk pooled (λ place placed has. owners_beside rows (map part_of actors) place pools placed has (end_given rows actors s) (seat_given rows actors s)) in record {
       fitted = fitted;
       before = record { bells_hold = starts_hold (hostiles (map part_of actors)) rows; flows = starts_flow rows };
       holds = start_holds rows pools actors (fitted_place start fitted) (seated_start rows actors s);

@@ -1,5 +1,5 @@
 -- A client of a class is there where the class is, and what it recorded is of what it must get.
-use Rattle.std.proofs.Common.{◌≡◌, ◌<◌, ℕ, true, Option, Some, None, List, [], ◌∷◌, length, slice_get, refl, sym, ap, subst, arith, eqb-true}
+use Rattle.std.proofs.Common.{◌≡◌, ◌<◌, ℕ, Bool, true, false, Option, Some, None, List, [], ◌∷◌, length, slice_get, refl, sym, ap, subst, arith, eqb-true}
 use Rattle.std.specs.Prelude.{◌==◌}
 use Rattle.std.specs.Option.{option_map_or}
 use Rattle.cargo_core.specs.declared.item.Reply.{Reply}
@@ -12,13 +12,14 @@ use Rattle.trace_text.specs.Events.{net_clients, serial_clients, blk_clients}
 use Rattle.net_expect.specs.Expecting.{frames_for}
 use Rattle.serial_switch.specs.Switching.{input_of}
 use Rattle.expect_core.specs.Expected.{client_asks, client_entry, replies_in}
-use Rattle.expect_core.specs.Isolation.{IsRecordOf}
+use Rattle.expect_core.specs.Isolation.{AreOfOne, IsRecordOf}
 use Rattle.cast_core.specs.Sources.{client_mac}
 use Rattle.cast_core.proofs.Listing.{value_at}
 use Rattle.system_core.specs.Shows.{Shown}
 use Rattle.system_core.specs.Plays.{runnable_now}
 use Rattle.system_core.specs.Reports.{report_of}
 use Rattle.system_core.specs.PlanPlays.{IsSystemOf}
+use Rattle.system_core.specs.Isolation.{AreOfOneList, BlkRests, IsRecordIn, NetRests, SerialRests}
 use Rattle.system_core.proofs.Scripts.{serials}
 
 -- where a list has no elements there are none
@@ -34,31 +35,45 @@ there_in : {T U : Type 0} (f : T → List U) (class : Option T) (c : ℕ) → c 
 there_in f None c lt = absurd (omega (arith, lt))
 there_in f (Some x) c lt = (x, refl)
 
-pub frames_of : (plan : Plan) (trace : Trace) (s : Shown) (c : ℕ) (got : List (List ℕ)) → IsSystemOf plan trace s → c < length (net_clients plan) → slice_get s.state.net c ≡ Some got → IsRecordOf (frames_for (client_mac plan c) trace.frames) (report_of s).quiet got
+-- of two records of lists that agree in what is for a client, as a law has it
+module _ {T : Type 0} (whole over : List T) (Rests Ends : Type 0) (got seen : List T) (law : (quiet rests : Bool) → IsRecordOf whole quiet got → IsRecordOf over rests seen → AreOfOne whole quiet got rests seen) where
+  as_begins : {list : List T} {Is : Type 0} {some : List T} → IsRecordIn list Is some → IsRecordOf list false some
+  as_begins x = record { begins = x.begins; all = λ e. cc }
+
+  pub of_one : IsRecordIn whole Rests got → IsRecordIn over Ends seen → AreOfOneList whole Rests got Ends seen
+  of_one x y = record {
+    one = x;
+    other = record {
+      begins = (law false false (as_begins x) (as_begins y)).other.begins;
+      all = λ ends. (law false true (as_begins x) (record { begins = y.begins; all = λ e. y.all ends })).other.all refl;
+    };
+  }
+
+pub frames_of : (plan : Plan) (trace : Trace) (s : Shown) (c : ℕ) (got : List (List ℕ)) → IsSystemOf plan trace s → c < length (net_clients plan) → slice_get s.state.net c ≡ Some got → IsRecordIn (frames_for (client_mac plan c) trace.frames) (NetRests plan s) got
 frames_of plan trace s c got h lt at =
     let has = there_in (λ (net : Net). net.client) plan.net c lt in
     let mac = value_at (length (net_clients plan)) (client_mac plan) c lt in
     record {
       begins = (h.shows_net has.0 has.1).records c (client_mac plan c) got mac at;
-      all = λ quiet. (h.whole_net (still s quiet) has.0 has.1).records c (client_mac plan c) got mac at;
+      all = λ rests. (h.whole_net (still s rests.0) rests.1 has.0 has.1).records c (client_mac plan c) got mac at;
     }
 
-pub input_for : (plan : Plan) (trace : Trace) (s : Shown) (c : ℕ) (got : List ℕ) → IsSystemOf plan trace s → c < length (serial_clients plan) → slice_get s.state.serial c ≡ Some got → IsRecordOf (input_of (length (serial_clients plan)) c trace.input) (report_of s).quiet got
+pub input_for : (plan : Plan) (trace : Trace) (s : Shown) (c : ℕ) (got : List ℕ) → IsSystemOf plan trace s → c < length (serial_clients plan) → slice_get s.state.serial c ≡ Some got → IsRecordIn (input_of (length (serial_clients plan)) c trace.input) (SerialRests plan s) got
 input_for plan trace s c got h lt at =
     let has = there_in (λ (serial : Serial). serial.client) plan.serial c lt in
-    let own : IsRecordOf (input_of (length has.0.client) c trace.input) (report_of s).quiet got = record {
+    let own : IsRecordIn (input_of (length has.0.client) c trace.input) (SerialRests plan s) got = record {
       begins = (h.shows has.0 has.1).records c got at;
-      all = λ quiet. (h.whole (still s quiet) has.0 has.1).records c got at;
+      all = λ rests. (h.whole (still s rests.0) rests.1 has.0 has.1).records c got at;
     } in
     let many : length (serial_clients plan) ≡ length has.0.client = ap (λ cs. length cs) (serials plan has.0 has.1) in
-    subst (λ n. IsRecordOf (input_of n c trace.input) (report_of s).quiet got) (sym many) own
+    subst (λ n. IsRecordIn (input_of n c trace.input) (SerialRests plan s) got) (sym many) own
 
-pub replies_for : (plan : Plan) (trace : Trace) (s : Shown) (c : ℕ) (got : List Reply) → IsSystemOf plan trace s → c < length (blk_clients plan) → slice_get s.state.blk c ≡ Some got → IsRecordOf (replies_in plan trace c) (report_of s).quiet got
+pub replies_for : (plan : Plan) (trace : Trace) (s : Shown) (c : ℕ) (got : List Reply) → IsSystemOf plan trace s → c < length (blk_clients plan) → slice_get s.state.blk c ≡ Some got → IsRecordIn (replies_in plan trace c) (BlkRests plan s) got
 replies_for plan trace s c got h lt at =
     let has = there_in (λ (blk : Blk). blk.client) plan.blk c lt in
     let entry = value_at (length (blk_clients plan)) (client_entry plan) c lt in
     let asks = value_at (length (blk_clients plan)) (client_asks trace) c lt in
     record {
       begins = (h.shows_blk has.0 has.1).records c (client_entry plan c) (client_asks trace c) got entry asks at;
-      all = λ quiet. (h.whole_blk (still s quiet) has.0 has.1).records c (client_entry plan c) (client_asks trace c) got entry asks at;
+      all = λ rests. (h.whole_blk (still s rests.0) rests.1 has.0 has.1).records c (client_entry plan c) (client_asks trace c) got entry asks at;
     }

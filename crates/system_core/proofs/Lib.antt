@@ -5,6 +5,7 @@ pub mod Hosts
 pub mod SystemStep
 pub mod Playing
 pub mod RunsNow
+pub mod Owned
 pub mod Starting
 pub mod Seating
 pub mod Fitting
@@ -15,11 +16,11 @@ pub mod Recording
 pub mod BadOnes
 pub mod Lining
 pub mod Counting
-pub mod Fewness
 pub mod Hearing
 pub mod Scripts
 pub mod Casting
 pub mod Begun
+pub mod Arriving
 pub mod Networking
 pub mod Bounded
 pub mod Replying

@@ -19,7 +19,9 @@ use Rattle.layout_laws.specs.Jobs.Jobs as jobs
 use Rattle.wire_core.specs.Queues.{items_of}
 use Rattle.play_core.specs.Sheets.{Scene}
 use Rattle.play_core.specs.Totals.{total}
-use Rattle.play_core.proofs.Lists.{map_get, there_is}
+use Rattle.play_core.specs.Names.{wild_in}
+use Rattle.play_core.proofs.Lists.{map_get, there_below, there_is}
+use Rattle.cast_law.proofs.Senders.{client_wild}
 use Rattle.play_core.proofs.Merges.{prefix_merge_whole}
 use Rattle.play_core.proofs.OneQueue.{whole_prefix}
 use Rattle.net_quiet.specs.Still.{ArrivesAll, SendsAll}
@@ -31,7 +33,7 @@ use Rattle.cast_core.specs.Sources.{client_mac, client_program}
 use Rattle.cast_core.proofs.Listing.{value_count, value_at, value_is}
 use Rattle.layout_laws.specs.Seats.Named.{AreNetNamed}
 use Rattle.layout_laws.proofs.SeatsLemmas.Naming.{net_named}
-use Rattle.system_core.specs.Shows.{Crew, Shown, moved_in, wild_by}
+use Rattle.system_core.specs.Shows.{Crew, Shown, hostile_in, moved_in, wild_by}
 use Rattle.system_core.specs.States.{crew_of, nobody}
 use Rattle.system_core.specs.Lawful.{IsTold, TellsFrames}
 use Rattle.system_core.specs.Crews.{number_named}
@@ -64,6 +66,15 @@ module _ (plan : Plan) (net : Net) (trace : Trace) (s : Shown) (cast : IsCastOf 
   many : length (net_clients plan) ≡ length net.client
   many = ap length (nets plan net has)
 
+  count_is : length s.state.net ≡ length place.macs
+  count_is = told.net ∙ (ap (λ (c : Crew). length c.clients) who ∙ (length-map net.client (λ (k : Client). number_named plan k.pd) ∙ (sym many ∙ sym (value_count (length (net_clients plan)) (client_mac plan)))))
+
+  -- the queue for sending of a client has a hostile end where the client is hostile
+  pub wild_is : (c : ℕ) → c < length net.client → wild_by s.setting (client_first 0 c + 4) ≡ is_net_rogue plan c
+  wild_is c below =
+      let client = there_is net.client c below in
+      subst (λ rs. wild_in (hostile_in s.setting) rs (client_first 0 c + 4) ≡ is_net_rogue plan c) (sym cast.rows) (client_wild plan trace s.setting.cast cast.parts net has c client.0 client.1)
+
   -- the client of a number, and its actor
   client_is : (c : ℕ) → c < length (net_clients plan) → (k : ℕ) × (slice_get s.setting.net.clients c ≡ Some k) × (slice_get s.setting.cast k ≡ job_part plan trace (jobs.NetClient c))
   client_is c below =
@@ -88,10 +99,10 @@ module _ (plan : Plan) (net : Net) (trace : Trace) (s : Shown) (cast : IsCastOf 
       calm_client c calm = rw calm refl
 
   -- and a hostile one nothing
-  hostile_record : (c : ℕ) (mac : Mac) (got : List (List ℕ)) → is_net_rogue plan c ≡ true → slice_get place.macs c ≡ Some mac → slice_get s.state.net c ≡ Some got → got ≡ []
-  hostile_record c mac got hostile address at =
-      let a = value_is (length (net_clients plan)) (client_mac plan) c mac address in
-      let client = client_is c a.0 in
+  silent : (c : ℕ) (got : List (List ℕ)) → is_net_rogue plan c ≡ true → slice_get s.state.net c ≡ Some got → got ≡ []
+  silent c got hostile at =
+      let lt = there_below s.state.net c got at in
+      let client = client_is c (omega (arith, lt, count_is, value_count (length (net_clients plan)) (client_mac plan))) in
       told.net_silent c client.0 (net_rogue_at 0 c (client_pools plan c) (acts_at trace.net_acts c)) got client.1 (client.2 ∙ hostile_client c hostile) at
     where
       hostile_client : (c : ℕ) → is_net_rogue plan c ≡ true → job_part plan trace (jobs.NetClient c) ≡ Some (HostilePart (net_rogue_at 0 c (client_pools plan c) (acts_at trace.net_acts c)))
@@ -101,7 +112,7 @@ module _ (plan : Plan) (net : Net) (trace : Trace) (s : Shown) (cast : IsCastOf 
   record_begins c mac got address at = by (is_net_rogue plan c) refl
     where
       by : (b : Bool) → is_net_rogue plan c ≡ b → IsPrefix got (frames_for mac trace.frames)
-      by true hostile = subst (λ xs. IsPrefix xs (frames_for mac trace.frames)) (sym (hostile_record c mac got hostile address at)) (frames_for mac trace.frames, refl)
+      by true hostile = subst (λ xs. IsPrefix xs (frames_for mac trace.frames)) (sym (silent c got hostile at)) (frames_for mac trace.frames, refl)
       by false calm = (calm_record c mac got calm address at).0
 
   -- the frames that the entries tell of the wire
@@ -121,10 +132,11 @@ module _ (plan : Plan) (net : Net) (trace : Trace) (s : Shown) (cast : IsCastOf 
   pub sends_are : NoneHostile (wild_by s.setting) place → sends trace.frames ≡ sends_at place.programs place.macs trace.frames
   sends_are none = subst (λ fs. sends fs ≡ sends_at place.programs place.macs fs) frames (tells.plain none)
 
-  pub shows_frames : ShowsFrames (wild_by s.setting) place trace.frames told.passed s.state
+  pub shows_frames : ShowsFrames (is_net_rogue plan) (wild_by s.setting) place trace.frames told.passed s.state
   shows_frames = record {
-    count_is = told.net ∙ (ap (λ (c : Crew). length c.clients) who ∙ (length-map net.client (λ (k : Client). number_named plan k.pd) ∙ (sym many ∙ sym (value_count (length (net_clients plan)) (client_mac plan)))));
+    count_is = count_is;
     records = record_begins;
+    hostile = silent;
     wire = wire_is.0;
     merges = wire_is.1;
   }

@@ -13,7 +13,7 @@ use Rattle.region_layout.specs.Rows.{disk_number}
 use Rattle.blk_expect.specs.Replies.{replies_of}
 use Rattle.blk_law.specs.Sheets.Numbers.{BlkPlace, blk_client_at}
 use Rattle.layout_laws.specs.Jobs.Jobs as jobs
-use Rattle.play_core.proofs.Lists.{map_get, there_is}
+use Rattle.play_core.proofs.Lists.{map_get, there_below, there_is}
 use Rattle.actor_set.specs.Parts.{BlockPart, HostilePart}
 use Rattle.cast_core.specs.Casts.{blk_place, calm_part, client_pool, job_part}
 use Rattle.cast_core.specs.Hostile.{acts_at, blk_rogue_at}
@@ -49,6 +49,9 @@ module _ (plan : Plan) (blk : Blk) (trace : Trace) (s : Shown) (cast : IsCastOf 
   many : length (blk_clients plan) ≡ length blk.client
   many = ap length (blks plan blk has)
 
+  count_is : length s.state.blk ≡ length place.entries
+  count_is = told.blk ∙ (ap (λ (c : Crew). length c.clients) who ∙ (length-map blk.client (λ (k : Client). number_named plan k.pd) ∙ (sym many ∙ sym (value_count (length (blk_clients plan)) (client_entry plan)))))
+
   -- the client of a number, and its actor
   client_is : (c : ℕ) → c < length (blk_clients plan) → (k : ℕ) × (slice_get s.setting.blk.clients c ≡ Some k) × (slice_get s.setting.cast k ≡ job_part plan trace (jobs.BlkClient c))
   client_is c below =
@@ -70,10 +73,10 @@ module _ (plan : Plan) (blk : Blk) (trace : Trace) (s : Shown) (cast : IsCastOf 
       calm_client c calm = rw calm refl
 
   -- and a hostile one nothing
-  hostile_record : (c : ℕ) (asks : List Ask) (got : List Reply) → is_blk_rogue plan c ≡ true → slice_get place.asks c ≡ Some asks → slice_get s.state.blk c ≡ Some got → got ≡ []
-  hostile_record c asks got hostile its at =
-      let a = value_is (length (blk_clients plan)) (client_asks trace) c asks its in
-      let client = client_is c a.0 in
+  silent : (c : ℕ) (got : List Reply) → is_blk_rogue plan c ≡ true → slice_get s.state.blk c ≡ Some got → got ≡ []
+  silent c got hostile at =
+      let lt = there_below s.state.blk c got at in
+      let client = client_is c (omega (arith, lt, count_is, value_count (length (blk_clients plan)) (client_entry plan))) in
       told.blk_silent c client.0 (blk_rogue_at (first_blk plan) c (client_pool plan c) (acts_at trace.blk_acts c)) got client.1 (client.2 ∙ hostile_client c hostile) at
     where
       hostile_client : (c : ℕ) → is_blk_rogue plan c ≡ true → job_part plan trace (jobs.BlkClient c) ≡ Some (HostilePart (blk_rogue_at (first_blk plan) c (client_pool plan c) (acts_at trace.blk_acts c)))
@@ -83,13 +86,14 @@ module _ (plan : Plan) (blk : Blk) (trace : Trace) (s : Shown) (cast : IsCastOf 
   record_begins c entry asks got of its at = by (is_blk_rogue plan c) refl
     where
       by : (b : Bool) → is_blk_rogue plan c ≡ b → IsPrefix got (replies_of place.image entry asks)
-      by true hostile = subst (λ xs. IsPrefix xs (replies_of place.image entry asks)) (sym (hostile_record c asks got hostile its at)) (replies_of place.image entry asks, refl)
+      by true hostile = subst (λ xs. IsPrefix xs (replies_of place.image entry asks)) (sym (silent c got hostile at)) (replies_of place.image entry asks, refl)
       by false calm = (calm_record c entry asks got calm of its at).0
 
-  pub shows_replies : ShowsReplies place s.state
+  pub shows_replies : ShowsReplies (is_blk_rogue plan) place s.state
   shows_replies = record {
-    count_is = told.blk ∙ (ap (λ (c : Crew). length c.clients) who ∙ (length-map blk.client (λ (k : Client). number_named plan k.pd) ∙ (sym many ∙ sym (value_count (length (blk_clients plan)) (client_entry plan)))));
+    count_is = count_is;
     records = record_begins;
+    hostile = silent;
   }
 
   -- where no client is hostile and each took a response to each of its requests, all replies are seen

@@ -25,8 +25,7 @@ use Rattle.actor_set.proofs.LawsLemmas.Calm.{manner_at}
 use Rattle.actor_set.proofs.RogueLemmas.Playing.{begins}
 use Rattle.wired_law.specs.Wiring.{AreAtWork, TellsKept}
 use Rattle.wired_law.proofs.Wiring.{nothing_sent}
-use Rattle.owner_law.proofs.PoolsLemmas.Handing.{carry_start}
-use Rattle.cast_law.specs.Pools.Places.{IsInPlace, cast_naming}
+use Rattle.cast_law.specs.Pools.Places.{IsInPlace}
 use Rattle.cast_law.proofs.TurnsLemmas.{noted_tell, told_turns}
 use Rattle.system_core.specs.Starts.{AreStarting}
 use Rattle.system_core.specs.Systems.{Holds}
@@ -59,7 +58,8 @@ module _ (rows : List QueueRow) (pools : List PoolRow) (actors : List Actor) (in
     queues = λ n row at. subst (IsShown row (queue_at (starts rows) n)) (sym (start_is rows n)) (starts_shown rows n row at);
     fits = s.fits;
     stands = s.stands;
-    carry = λ calm place placed. carry_start (cast_naming (scene_of (map part_of actors)) place) rows;
+    carry = λ place placed. record { sent = λ n. ap (λ t. t.sent) (start_is rows n); taken = λ n. ap (λ t. t.taken) (start_is rows n); bodies = λ n calm k c at b. cc; others = λ n is_wild k c at b off. cc };
+    asks = λ place placed blk is k q at is_wild. tt;
     sends = nothing_sent rows (map part_of actors);
     noted = nothing_noted wild;
     in_turn = told_turns (end_at (starts rows)) rows pools actors nothing_passed in_place work (nothing_sent rows (map part_of actors)) (told_by []) kept;

@@ -11,7 +11,7 @@ use Rattle.cargo_core.specs.declared.item.Body.{Body}
 use Rattle.wire_core.specs.Ends.{Role, role_of, word_role}
 use Rattle.wire_core.specs.Lists.{Stepped}
 use Rattle.wire_core.specs.Queues.{Queue, Happens, end_at, is_pending, is_store}
-use Rattle.wire_core.specs.Journal.{History, Hostiles, MayCall, EachMoment, EachFrom, LegalEntry, owner_of}
+use Rattle.wire_core.specs.Journal.{History, Hostiles, MayCall, EachMoment, EachFrom, LegalEntry, QueuesFlow, owner_of}
 use Rattle.wire_core.proofs.Tracks.{EachFrom-append}
 use Rattle.wire_core.proofs.Places.{slice_get_written}
 use Rattle.wire_core.specs.Marks.{no_drops, since, since_from, calls_at, AreFew, Brisk}
@@ -37,7 +37,8 @@ use Rattle.system_core.specs.Shows.{Crew, Setting, hostile_in, runs, NamesTell, 
 use Rattle.system_core.specs.Lawful.{IsFitted}
 use Rattle.player_kit.specs.Runnings.{removed_if, with_option, with_if}
 use Rattle.system_core.specs.Asking.{IsAsked, store_word}
-use Rattle.system_core.specs.Systems.{Holds}
+use Rattle.system_core.specs.Systems.{Holds, PutTheirOwn}
+use Rattle.system_core.proofs.Owned.{kept_on}
 use Rattle.actor_set.proofs.LawsLemmas.Calm.{manner_at}
 use Rattle.actor_set.proofs.LawsLemmas.Told.{told_own}
 use Rattle.system_core.proofs.Growing.{each_stands, each_tells, runs_on, told_seats}
@@ -47,7 +48,8 @@ use Rattle.system_core.proofs.RunsNow.{idle_here, rests_here, rows_now, tells_no
 use Rattle.actor_set.proofs.LawsLemmas.PartEnds.{from_part, seat_end}
 use Rattle.actor_set.proofs.LawsLemmas.Paces.{called_end}
 use Rattle.actor_set.proofs.LawsLemmas.Rounds.{rests_is}
-use Rattle.cast_law.specs.Pools.Places.{IsInPlace}
+use Rattle.cast_law.specs.Pools.Owning.{IsKeptBeside}
+use Rattle.cast_law.specs.Pools.Places.{IsInPlace, IsPlaced}
 use Rattle.system_core.proofs.Fitting.{fitted_place}
 use Rattle.wire_core.proofs.Sinces.{eqb_apart}
 use Rattle.wire_core.specs.declared.names.Op.{Op}
@@ -269,6 +271,7 @@ pub record StepThen (setting : Setting) (v : List Queue) (actors : List Actor) (
   pub rows_hold : EachMoment (RowsStand setting) journal
   pub names_tell : EachMoment (NamesTell setting) journal
   pub brisk : Brisk (hostile_in setting) setting.rows no_drops journal
+  pub own : PutTheirOwn setting journal
   pub running : list ≡ runs setting journal
   pub room_is : length actors ≤ room
   pub few : length list ≤ room
@@ -280,11 +283,11 @@ module _ (history : History) (rows : List QueueRow) (names : List Noted) (pools 
   abbrev notes : Option Body → List Noted
   notes body = notes_of (wild_in (hostiles (map part_of actors)) rows) (record { event = e; body = body })
 
-  pub system_then : IsFitted setting → Holds history rows names w actors journal → EachMoment (RowsStand setting) journal → EachMoment (NamesTell setting) journal → list ≡ runs setting journal → length actors ≤ room → Brisk (hostile_in setting) rows no_drops journal
+  pub system_then : IsFitted setting → Holds history rows names w actors journal → EachMoment (RowsStand setting) journal → EachMoment (NamesTell setting) journal → list ≡ runs setting journal → length actors ≤ room → Brisk (hostile_in setting) rows no_drops journal → QueuesFlow history rows [] → PutTheirOwn setting journal
       → slice_get list place ≡ Some k → x ≡ slice_index_or actors k x → IsActorCall x e → (st : Stepped ActorStandsFor Happens w v x x' e) → ActorTurned x e x' → FitsActor (end_at v) x' → part_of x' ≡ part_of x
       → y ≡ slice_index_or (slice_set actors k x') k y → row ≡ slice_index_or rows e.queue.0 row → idle ≡ idles (manner_of (part_of y)) (actor_rests y) (is_pending k v) → rung ≡ reach_of e.op row k → IsAsked (slice_set actors k x') v rung woken
       → StepThen (record setting { names = names ++ notes st.body }) v (slice_set actors k x') (journal ++ entry_of k e ∷ []) (with_option rung woken (removed_if idle list place)) room
-  system_then fitted old rows_old tell_old running le brisk at x_is own st turned fits part y_is row_is idle_is rung_is asked =
+  system_then fitted old rows_old tell_old running le brisk flows owned at x_is own st turned fits part y_is row_is idle_is rung_is asked =
       let ns : List Noted = names ++ notes st.body in
       let later : Setting = record setting { names = ns } in
       let begins : IsPrefix names ns = (notes st.body, refl) in
@@ -313,6 +316,9 @@ module _ (history : History) (rows : List QueueRow) (names : List Noted) (pools 
         rows_hold = (rows_then.0, EachFrom-append (λ b d. RowsStand later (b ++ d ∷ [])) [] journal (entry_of k e) rows_then.1 rows_next);
         names_tell = (tell_then.0, EachFrom-append (λ b d. NamesTell later (b ++ d ∷ [])) [] journal (entry_of k e) tell_then.1 tell_next);
         brisk = (brisk.0, EachFrom-append (λ b d. AreFew (hostile_in setting) rows no_drops (b ++ d ∷ [])) [] journal (entry_of k e) brisk.1 (subst (λ cast. AreFew (hostiles cast) rows no_drops (journal ++ entry_of k e ∷ [])) cast_is (few_holds history rows ns v (slice_set actors k x') (journal ++ entry_of k e ∷ []) new)));
+        own = λ there placed. subst (λ c. EachMoment (IsKeptBeside history rows there c) (journal ++ entry_of k e ∷ [])) cast_is
+            (kept_on history rows ns v (slice_set actors k x') journal (entry_of k e) new pools (subst (IsInPlace rows pools) (sym cast_is) in_place) flows there (subst (IsPlaced rows there) (sym cast_is) placed)
+            (subst (λ c. EachMoment (IsKeptBeside history rows there c) journal) (sym cast_is) (owned there placed)));
         running = list_is;
         room_is = rw length-set le;
         few = rw list_is (running_few history rows ns (map part_of actors) room (omega (arith, le, size)) (journal ++ entry_of k e ∷ []));

@@ -28,33 +28,30 @@ use Rattle.turn_kit.proofs.Plainness.{plain_next}
 use Rattle.actor_set.proofs.LawsLemmas.Paces.{post_end, post_waits}
 use Rattle.actor_set.specs.Actors.{FitsActor, ActorStandsFor, ActorEnd, ActorTurned, IsActorCall, IsWhole, part_of, actor_round}
 use Rattle.actor_set.specs.Rogues.{KeepsActs}
-use Rattle.actor_set.proofs.LawsLemmas.Rounds.{acted_is, own_is, turned_is}
-use Rattle.actor_set.proofs.LawsLemmas.Told.{none_wild}
+use Rattle.actor_set.proofs.LawsLemmas.Rounds.{acted_is, turned_is}
 use Rattle.actor_set.proofs.RogueLemmas.Playing.{beside as acts_beside, own as acts_next}
 use Rattle.play_core.specs.Manners.{Calm}
 use Rattle.play_core.specs.Names.{AreNoted, Noted, Wild, notes_of, told_by, wild_in}
 use Rattle.play_core.proofs.Noting.{notes_keep}
 use Rattle.actor_set.specs.Parts.{Part}
 use Rattle.play_core.specs.Moved.{moved}
-use Rattle.play_core.specs.Sheets.{RowsHold}
-use Rattle.owner_law.specs.Pages.{CarryPages}
-use Rattle.actor_set.specs.Laws.Kinds.{AllCalm, sheet, scene_of, hostiles, manner_of}
+use Rattle.play_core.specs.Sheets.{AreFilled, AreSeated}
+use Rattle.actor_set.specs.Laws.Kinds.{sheet, scene_of, hostiles, manner_of}
 use Rattle.actor_set.specs.Laws.Scenes.{ToldInTurn}
-use Rattle.actor_set.specs.Laws.Turning.{InTurn}
 use Rattle.system_core.specs.Systems.{Holds}
 use Rattle.actor_set.specs.declared.actor.Actor.{Actor}
 use Rattle.actor_set.specs.declared.actor.Actor.TheVariants as Kinds
 use Rattle.actor_set.proofs.LawsLemmas.Beside.{fits_beside, stands_beside}
 use Rattle.actor_set.proofs.LawsLemmas.PartEnds.{same_part}
 use Rattle.actor_set.proofs.LawsLemmas.Starts.{fits_whole}
-use Rattle.play_core.specs.Rests.Showing.{HaveItems}
 use Rattle.wired_law.specs.Wiring.{IsWired, AreAtWork, ClientsSend}
-use Rattle.cast_law.specs.Pools.Places.{PoolPlace, IsInPlace, IsPlaced, cast_naming}
-use Rattle.cast_law.proofs.TurnsLemmas.{noted_tell, told_turns, wired_place}
-use Rattle.cast_law.proofs.PoolsLemmas.Playing.{carry_call, rows_at}
-use Rattle.wired_law.proofs.Wiring.{sends_on, turns_calm}
+use Rattle.cast_law.specs.Pools.Beside.{CastCarries, RoguesAsk}
+use Rattle.cast_law.specs.Pools.Places.{PoolPlace, IsInPlace, IsPlaced}
+use Rattle.cast_law.proofs.BesideLemmas.Asking.{asks_on}
+use Rattle.cast_law.proofs.BesideLemmas.Carrying.{call_carries}
+use Rattle.cast_law.proofs.TurnsLemmas.{all_told, noted_tell, told_turns, wired_place}
+use Rattle.wired_law.proofs.Wiring.{sends_on}
 use Rattle.system_core.proofs.Hosts.{CallsAt, calls_at_end, calm_there, hostile_end, rogue_hostile, rogue_is, rogue_was, store_moves, store_puts, store_takes}
-use Rattle.system_core.proofs.RunsNow.{calm_turn}
 use Rattle.play_core.proofs.Lists.{some_is, map_get}
 use Rattle.player_kit.proofs.Showing.{no_row, taken_shown, sent_shown, still_there, moved_there, none_put, put_kind}
 
@@ -329,38 +326,40 @@ module _ (history : History) (rows : List QueueRow) (names : List Noted) (w v : 
     abbrev after_ : List Entry
     after_ = journal ++ entry_of k e ∷ []
 
-    -- where nobody is hostile, entries go on to carry what their items name
-    module _ (calm : AllCalm (map part_of actors)) where
-      calm_turns' : (j : ℕ) (y : Actor) → slice_get actors' j ≡ Some y → InTurn (scene_of (map part_of actors')) y passed'
-      calm_turns' j y at = turns_calm (scene_of (map part_of actors')) (wild_in (hostiles (map part_of actors')) rows) (told_by names') y passed' (none_wild (map part_of actors') (subst AllCalm (sym parts) calm) rows) (turns' j y at)
+    -- what it puts are reads and writes, where it is a hostile client of the block class
+    asks' : (place : PoolPlace) → IsPlaced rows place (map part_of actors) → RoguesAsk wild place passed'
+    unfolding passed' deed
+    asks' place placed = asks_on rows place actors old.passed deed k x x' (end_at w) placed in_place.seated here (old.fits k x here)
+        (λ put. elim calls.sort.1 [
+          | inl same ↦ subst (λ r. ActorEnd x r e.queue.0) (same ∙ ap role_of put) calls.own
+          | inr store ↦ let no : true ≡ false = sym store ∙ ap is_store put in absurd cc
+        ])
+        (λ n row at j c there. kinds' n row at j c there (eqb_tells e.queue.0 n)) turned (old.asks place placed)
 
-      -- rows hold before the call, and after it
-      rows_before : RowsHold (sheet (scene_of (map part_of actors))) (hostiles (map part_of actors)) (map part_of actors) (moved history journal)
-      rows_before = rows_at rows actors old.passed (moved history journal) (record { taken = old.shows_taken; sent = old.shows_sent }) (calm_turn history rows names w actors journal old calm) old.stands
-
-      carry' : (place : PoolPlace) → IsPlaced rows place (map part_of actors) → CarryPages (cast_naming (scene_of (map part_of actors)) place) (moved history after_) passed'
-      unfolding passed' deed
-      carry' place placed =
-          let items : HaveItems passed' (moved history after_) = record { taken = shows_taken'; sent = shows_sent' } in
-          let rows_new = rows_at rows actors' passed' (moved history after_) items calm_turns' (λ j y at. stands' j y at (eqb_tells j k)) in
-          carry_call rows place (map part_of actors) (moved history journal) (moved history after_) old.passed deed k x' (record {
-            calm = calm;
-            placed = placed;
-            seated = in_place.seated;
-            split = split;
-            carried = old.carry calm place placed;
-            rows_before = rows_before;
-            rows_after = subst (λ c. RowsHold (sheet (scene_of c)) (hostiles c) c (moved history after_)) parts rows_new;
-            began = λ n. ((queue_at w n).entries, sym (old.stands_there n));
-            items = items;
-            begins = λ n. ((queue_at v n).entries, sym (there_after n (eqb_tells e.queue.0 n)));
-            kinds = λ n row at j c there. kinds' n row at j c there (eqb_tells e.queue.0 n);
-            here = map_get part_of actors k x here ∙ ap Some (sym part);
-            in_turn = subst (λ c. InTurn (scene_of c) x' passed') parts (calm_turns' k x' (slice_get_written actors k x x' here));
-            stands = st.kept old.passed (old.stands k x here);
-            fits = fits_whole (end_at v) x' new;
-            own = same_part x' x (role_of e.op) e.queue.0 (sym part) (fits_whole (end_at w) x (old.fits k x here)) (own_is x e (calm k (part_of x) cast_here) call);
-          })
+    -- and entries go on to carry what their items name
+    carry' : (place : PoolPlace) → IsPlaced rows place (map part_of actors) → CastCarries rows place actors' (moved history after_) passed'
+    unfolding passed' deed
+    carry' place placed =
+        call_carries rows place actors actors' old.passed deed k (moved history journal) (moved history after_) (record {
+          placed = subst (IsPlaced rows place) (sym parts) placed;
+          seated = subst (λ c. AreSeated (sheet (scene_of c)) rows c) (sym parts) in_place.seated;
+          filled = subst (λ c. AreFilled (sheet (scene_of c)) rows c) (sym parts) in_place.filled;
+          split = split;
+          same = parts;
+          before = end_at w;
+          worked = works;
+          ends = end_at v;
+          works = works' new;
+          was_told = all_told (end_at w) rows pools actors old.passed in_place works old.sends;
+          told = all_told (end_at v) rows pools actors' passed' (subst (IsInPlace rows pools) (sym parts) in_place) (works' new) sent_good;
+          asks = subst (λ c. RoguesAsk (wild_in (hostiles c) rows) place passed') (sym parts) (asks' place placed);
+          there = x';
+          here = slice_get_written actors k x x' here;
+          own = elim calls.sort.1 [
+            | inl same ↦ inl (same_part x' x (role_of e.op) e.queue.0 (sym part) (fits_whole (end_at w) x (old.fits k x here)) (subst (λ r. ActorEnd x r e.queue.0) same calls.own))
+            | inr store ↦ inr store
+          ];
+        }) (record { taken = old.shows_taken; sent = old.shows_sent }) (record { taken = shows_taken'; sent = shows_sent' }) (old.carry place placed)
 
     -- all goes on to hold
     pub step_holds : Holds history rows names' v actors' after_
@@ -374,7 +373,8 @@ module _ (history : History) (rows : List QueueRow) (names : List Noted) (w v : 
       queues = queues';
       fits = λ j y at. fits' new j y at (eqb_tells j k);
       stands = λ j y at. stands' j y at (eqb_tells j k);
-      carry = λ calm place placed. subst (λ c. CarryPages (cast_naming (scene_of c) place) (moved history after_) passed') (sym parts) (carry' (subst AllCalm parts calm) place (subst (IsPlaced rows place) parts placed));
+      carry = λ place placed. carry' place (subst (IsPlaced rows place) parts placed);
+      asks = λ place placed. subst (λ c. RoguesAsk (wild_in (hostiles c) rows) place passed') (sym parts) (asks' place (subst (IsPlaced rows place) parts placed));
       sends = sent_good;
       noted = noted_there;
       in_turn = turns';

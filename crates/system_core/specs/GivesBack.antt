@@ -1,5 +1,5 @@
--- Which classes of a plan have no hostile client: there each client gives back what it gets, so that
--- all that is meant for the class's clients arrives.
+-- Which classes of a plan have no hostile client: there each client gives back what it gets, so
+-- that all that is meant for the class's clients arrives.
 use Rattle.std.specs.Prelude.{◌≡◌, ℕ, false}
 use Rattle.sdf_plan.specs.declared.plan.Plan.{Plan}
 use Rattle.trace_text.specs.Events.{is_net_rogue, is_serial_rogue, is_blk_rogue}

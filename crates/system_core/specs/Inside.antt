@@ -7,7 +7,7 @@ use Rattle.play_core.specs.Names.{wild_in}
 use Rattle.system_core.specs.Shows.{Setting, Shown, hostile_in, runs, NamesTell, RowsStand}
 use Rattle.system_core.specs.States.{state_of, history_of, begun}
 use Rattle.system_core.specs.Lawful.{IsFitted}
-use Rattle.system_core.specs.Systems.{Holds, HoldsBefore}
+use Rattle.system_core.specs.Systems.{Holds, HoldsBefore, PutTheirOwn}
 use Rattle.system_core.specs.declared.system.System.TheInside.{Inside}
 
 -- what stays the same, with the names that are kept
@@ -33,6 +33,7 @@ pub record IsSystem (a : Inside) : Type 0 where
   pub rows_hold : EachMoment (RowsStand (setting_of a)) a.journal.items
   pub names_tell : EachMoment (NamesTell (setting_of a)) a.journal.items
   pub brisk : Brisk (hostile_in (setting_of a)) (setting_of a).rows no_drops a.journal.items
+  pub own : PutTheirOwn (setting_of a) a.journal.items
   -- of which queues names are kept is kept, and each name that was put is among those that are
   pub kept : (n : ℕ) → kept_at a.wires.kept.items n
       ≡ wild_in (hostile_in (setting_of a)) (setting_of a).rows n

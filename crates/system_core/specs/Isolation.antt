@@ -1,6 +1,7 @@
--- What a client of each class must get, and what the plans and the traces of two systems have to
--- agree in for it: all that its records follow from.
-use Rattle.std.specs.Prelude.{◌≡◌, ◌<◌, ℕ, List, length}
+-- What a client of each class must get, what the plans and the traces of two systems have to agree
+-- in for it, all that its records follow from, and what is then said of its two records.
+use Rattle.std.specs.Prelude.{◌≡◌, ◌<◌, ℕ, true, List, length}
+use Rattle.cargo_core.specs.Lists.{IsPrefix}
 use Rattle.cargo_core.specs.declared.item.Reply.{Reply}
 use Rattle.sdf_plan.specs.declared.plan.Plan.{Plan}
 use Rattle.trace_text.specs.declared.trace.Trace.{Trace}
@@ -10,6 +11,9 @@ use Rattle.serial_switch.specs.Switching.{input_of}
 use Rattle.expect_core.specs.Expected.{client_asks, client_entry, replies_in}
 use Rattle.expect_core.specs.Isolation.{AgreeOnFrames, AgreeOnInput, AgreeOnPartition}
 use Rattle.cast_core.specs.Sources.{client_mac}
+use Rattle.system_core.specs.GivesBack.{BlkGivesBack, NetGivesBack, SerialGivesBack}
+use Rattle.system_core.specs.Shows.{Shown}
+use Rattle.system_core.specs.Reports.{report_of}
 
 -- what network client c must get: the frames for its address
 abbrev pub net_expected : Plan → Trace → (c : ℕ) → List (List ℕ)
@@ -48,3 +52,26 @@ pub record AgreeOnBlk (plan : Plan) (trace : Trace) (c : ℕ) (other : Plan) (to
   pub asks : client_asks trace c ≡ client_asks told d
   pub partition : AgreeOnPartition trace.image (client_entry plan c) told.image
       (client_entry other d)
+
+-- a system is quiet, and the network's clients give back what they get
+abbrev pub NetRests : Plan → Shown → Type 0
+NetRests plan s = ((report_of s).quiet ≡ true) × NetGivesBack plan
+
+-- it is quiet, and the serial clients take what they get
+abbrev pub SerialRests : Plan → Shown → Type 0
+SerialRests plan s = ((report_of s).quiet ≡ true) × SerialGivesBack plan
+
+-- it is quiet, and the block clients give back what they get
+abbrev pub BlkRests : Plan → Shown → Type 0
+BlkRests plan s = ((report_of s).quiet ≡ true) × BlkGivesBack plan
+
+-- a record is a beginning of a list, and all of it where this holds
+pub record IsRecordIn {T : Type 0} (whole : List T) (Rests : Type 0) (got : List T) : Type 0 where
+  pub begins : IsPrefix got whole
+  pub all : Rests → got ≡ whole
+
+-- two records are of one list, each all of it where this holds of its system
+pub record AreOfOneList {T : Type 0} (whole : List T) (Rests : Type 0) (got : List T)
+    (Ends : Type 0) (seen : List T) : Type 0 where
+  pub one : IsRecordIn whole Rests got
+  pub other : IsRecordIn whole Ends seen

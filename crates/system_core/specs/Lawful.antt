@@ -10,6 +10,7 @@ use Rattle.wire_core.specs.Lists.{Passed}
 use Rattle.wire_core.specs.Marks.{no_drops, Brisk}
 use Rattle.cargo_core.specs.Capacities.{IsCapacity}
 use Rattle.cargo_core.specs.Lists.{IsPrefix, PrefixMerge}
+use Rattle.cargo_core.specs.declared.census.Census.{Census}
 use Rattle.cargo_core.specs.declared.item.Ask.{Ask}
 use Rattle.cargo_core.specs.declared.item.Reply.{Reply}
 use Rattle.blk_expect.specs.Replies.{replies_of}
@@ -26,7 +27,7 @@ use Rattle.play_core.specs.Moved.{Seat}
 use Rattle.play_core.specs.Rests.Showing.{HaveItems}
 use Rattle.play_core.specs.Sheets.{AreSeated, IsSeat}
 use Rattle.play_core.specs.Still.{IsPeopled}
-use Rattle.owner_law.specs.Owners.{Table, replay}
+use Rattle.owner_law.specs.Owners.{OneOwner, Table, replay}
 use Rattle.owner_law.specs.Keeping.{start_table}
 use Rattle.cast_law.specs.PoolLines.PoolLines.{table_lines}
 use Rattle.actor_set.specs.Parts.{Part, RoguePart, NetworkPart, BlockPart, HostilePart}
@@ -36,7 +37,8 @@ use Rattle.wired_law.specs.Wiring.{HasWholeIn, HasNoNetwork, HasBlkIn, HasNoBloc
 use Rattle.cast_law.specs.Pages.Paging.{part_pools, pools_weigh}
 use Rattle.cast_law.specs.Pools.Places.{PoolPlace, IsPlaced, HasPools, ArePooled, cast_naming}
 use Rattle.cast_law.specs.Pools.Places.{place_sizes}
-use Rattle.cast_law.specs.Pools.Pooling.{keepers_at, BeginsWith, HasOwners, AreKindly}
+use Rattle.cast_law.specs.Pools.Owning.{BeginsBeside, HasOwnersBeside, owner_naming}
+use Rattle.cast_law.specs.Pools.Pooling.{keepers_at, BeginsWith, AreKindly}
 use Rattle.system_core.specs.BadOnes.{bad_among}
 use Rattle.system_core.specs.Shows.{Crew, Setting, Shown, hostile_in, wild_by, moved_in}
 use Rattle.system_core.specs.Shows.{NamesTell, RowsStand}
@@ -60,12 +62,12 @@ pub record IsFitted (s : Setting) : Type 0 where
   -- the actors of the network, if there are any, are the whole class at the layout's queues, and so
   -- are those of the block class
   pub wired : IsWiredIn s.scene s.rows s.cast
-  -- its pools are those of these classes, where it has them, and none else; and where nobody is
-  -- hostile, what was put and taken before the journal begins shows a table of owners, in which
-  -- each of their buffers has its place
+  -- its pools are those of these classes, where it has them, and none else; and what was put and
+  -- taken before the journal begins shows a table of owners, in which each buffer of a pool that
+  -- isn't a hostile client's has its place
   pub pooled : ArePooled s.rows s.pools s.cast
-  pub owners : AllCalm s.cast → (place : PoolPlace) → IsPlaced s.rows place s.cast
-      → HasPools s.pools place → HasOwners s.history s.rows place s.cast
+  pub owners : (place : PoolPlace) → IsPlaced s.rows place s.cast → HasPools s.pools place
+      → HasOwnersBeside s.history s.rows place s.cast
   -- each queue has a number of 16 bits
   pub numbered : length s.rows ≤ 65536
   -- and can hold an entry
@@ -73,8 +75,9 @@ pub record IsFitted (s : Setting) : Type 0 where
 
 -- each queue hands over what was put, once and in order, each call is in discipline, at each moment
 -- bells, queues and rows hold, names tell what rows and needs ask, and queues have what is of their
--- kind; and between two marks no actor makes more than 8 calls on an end, but a hostile one or one
--- that has a queue with a hostile end
+-- kind; between two marks no actor makes more than 8 calls on an end, but a hostile one or one that
+-- has a queue with a hostile end; and each move of a buffer of a pool that isn't a hostile client's
+-- finds it in the place that it leaves, from any table of owners on with which the journal begins
 pub record IsLawful (s : Setting) (journal : List Entry) : Type 0 where
   pub legal : LegalJournal (hostile_in s) s.history s.rows journal
   pub bells_hold : EachMoment (BellsHold (hostile_in s) s.history s.rows) journal
@@ -83,6 +86,9 @@ pub record IsLawful (s : Setting) (journal : List Entry) : Type 0 where
   pub names_tell : EachMoment (NamesTell s) journal
   pub kinds : EachMoment (AreKindly s.history s.rows) journal
   pub brisk : Brisk (hostile_in s) s.rows no_drops journal
+  pub owners : (place : PoolPlace) → IsPlaced s.rows place s.cast → (start : Table)
+      → BeginsBeside s.history s.rows place s.cast start
+      → EachMoment (OneOwner (owner_naming s.rows place s.cast) s.history start) journal
 
 -- the bytes that the actor at a place recorded
 abbrev pub record_at : Shown → ℕ → List ℕ
@@ -143,12 +149,17 @@ pub record TellsBuffers (place : PoolPlace) (s : Shown) : Type 0 where
       → slice_get (part_pools p) j ≡ Some q → 1 ≤ q.buffers
       → counted (of_other_length (record { 0 = q.number }) q.size) s.state.bodies ≡ 0
 
--- a hostile client records nothing: where the actor at this place is one, the records of the clients
--- of this crew that it is are empty
+-- hostile clients record nothing: of the clients of this crew, each has an empty record whose actor
+-- is one
 abbrev pub IsSilent : {T : Type 0} → Shown → Crew → List (List T) → Type 0
 IsSilent {T} s crew records = (c k : ℕ) (p : RoguePart) (got : List T)
     → slice_get crew.clients c ≡ Some k → slice_get s.setting.cast k ≡ Some (HostilePart p)
     → slice_get records c ≡ Some got → got ≡ []
+
+-- of each line the buffers in queues and in hands and the lent ones are all that the pool has
+abbrev pub AllAdd : List Census → Type 0
+AllAdd lines = (k : ℕ) (l : Census) → slice_get lines k ≡ Some l
+    → l.queues + l.hands + l.lent ≡ l.buffers
 
 -- line and records are what the journal says that device and clients took; those of the network and
 -- of the block class, whose frames and blocks no journal has, are what their places say of them
@@ -185,10 +196,11 @@ pub record IsTold (s : Shown) : Type 0 where
       s.setting.pools
   -- without a network and a block class there are none
   pub no_pools : HasNoNetwork s.setting.cast → HasNoBlock s.setting.cast → s.state.pools ≡ []
-  -- where nobody is hostile, the buffers are those of these pools, one by one
-  pub buffers : AllCalm s.setting.cast → (place : PoolPlace)
-      → IsPlaced s.setting.rows place s.setting.cast → HasPools s.setting.pools place
-      → TellsBuffers place s
+  -- whoever is hostile, the numbers of each line are all buffers of its pool, and the buffers are
+  -- those of these pools, one by one
+  pub adds : AllAdd s.state.pools
+  pub buffers : (place : PoolPlace) → IsPlaced s.setting.rows place s.setting.cast
+      → HasPools s.setting.pools place → TellsBuffers place s
   -- as bad was counted what the virtualisers took of their clients that was bad: where nobody is
   -- hostile, nothing
   pub bad : s.state.bad ≡ bad_among passed s.setting.cast

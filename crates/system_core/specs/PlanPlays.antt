@@ -1,6 +1,6 @@
 -- What a system of a plan and a trace shows, however it was played, and what one play of it shows:
 -- all that a caller learns of it.
-use Rattle.std.specs.Prelude.{◌≡◌, ◌+◌, ◌<◌, ◌≤◌, ℕ, Some, List, [], length, slice_get}
+use Rattle.std.specs.Prelude.{◌≡◌, ◌+◌, ◌<◌, ◌≤◌, ℕ, Bool, true, Some, List, [], length, slice_get}
 use Rattle.cargo_core.specs.Lists.{IsPrefix, Merge, PrefixMerge}
 use Rattle.wire_core.specs.Picks.{PickedFrom}
 use Rattle.wire_core.specs.Journal.{EachMoment}
@@ -8,13 +8,15 @@ use Rattle.wire_core.specs.Lists.{Passed}
 use Rattle.serial_switch.specs.Switching.{input_of}
 use Rattle.frame_core.specs.declared.mac.Mac.{Mac}
 use Rattle.net_expect.specs.Expecting.{frames_for}
+use Rattle.net_law.specs.Parts.Numbers.{client_first}
 use Rattle.net_law.specs.TxParts.Numbers.{NetPlace}
 use Rattle.net_quiet.specs.TxCast.Casting.{sends_at, sends_beside, wire_beside}
 use Rattle.cast_core.specs.Casts.{net_place, blk_place}
 use Rattle.cast_core.specs.Hostile.{HasNoRogue}
 use Rattle.cast_core.specs.Sources.{first_serial}
+use Rattle.play_core.specs.Moved.{Moved}
 use Rattle.play_core.specs.Names.{Wild}
-use Rattle.serial_law.specs.Serial.{ArrivesInPart}
+use Rattle.serial_law.specs.Beside.{ArrivesBeside, said_beside}
 use Rattle.sdf_plan.specs.declared.plan.Plan.{Plan}
 use Rattle.sdf_plan.specs.declared.plan.Net.{Net}
 use Rattle.sdf_plan.specs.declared.plan.Blk.{Blk}
@@ -25,6 +27,7 @@ use Rattle.blk_law.specs.Sheets.Numbers.{BlkPlace}
 use Rattle.sdf_plan.specs.declared.plan.Serial.{Serial}
 use Rattle.trace_text.specs.declared.trace.Trace.{Trace}
 use Rattle.trace_text.specs.Traces.{IsReadFor}
+use Rattle.trace_text.specs.Events.{is_net_rogue, is_serial_rogue, is_blk_rogue}
 use Rattle.sdf_check.specs.Valid.{Valid}
 use Rattle.actor_set.specs.Laws.Kinds.{AllCalm}
 use Rattle.cast_law.specs.Places.{pool_place}
@@ -33,18 +36,28 @@ use Rattle.system_core.specs.Shows.{State, Shown, runs, moved_in, wild_by}
 use Rattle.system_core.specs.Plays.{runnable_now}
 use Rattle.system_core.specs.Lawful.{StandsLawful}
 use Rattle.system_core.specs.Builds.{IsCastOf, BeginsAnew, serial_class}
-use Rattle.system_core.specs.GivesBack.{BlkGivesBack, NetGivesBack}
+use Rattle.system_core.specs.GivesBack.{SerialGivesBack, BlkGivesBack, NetGivesBack}
 use Rattle.system_core.specs.Pools.{TellsOwners}
 use Rattle.system_core.specs.declared.system.Ending.{Ending}
 use Rattle.system_core.specs.declared.system.Ending.TheVariants as Ends
 
--- each serial client recorded a beginning of its part of the input, and what was sent on the line
--- is a merge of beginnings of the scripts
-pub record ShowsInPart (count : ℕ) (trace : Trace) (s : State) : Type 0 where
-  pub count_is : length s.serial ≡ count
+-- what the serial clients of a plan say: each its script, but a hostile one all the bytes that the
+-- sending virtualiser took of it
+abbrev pub serial_says : Plan → Trace → Serial → Moved → List (List ℕ)
+serial_says plan trace serial m = said_beside (is_serial_rogue plan)
+    (serial_class (first_serial plan) (length serial.client) trace) m
+
+-- each serial client of a plan recorded a beginning of its part of the input, and a hostile one
+-- nothing; and what was sent on the line is a merge of beginnings of what the clients say
+pub record ShowsInPart (plan : Plan) (trace : Trace) (serial : Serial) (m : Moved) (s : State) :
+    Type 0 where
+  pub count_is : length s.serial ≡ length serial.client
   pub records : (c : ℕ) (got : List ℕ) → slice_get s.serial c ≡ Some got
-      → IsPrefix got (input_of count c trace.input)
-  pub line : (said : List ℕ) × (s.line ≡ Some said) × PrefixMerge trace.says said
+      → IsPrefix got (input_of (length serial.client) c trace.input)
+  pub hostile : (c : ℕ) (got : List ℕ) → is_serial_rogue plan c ≡ true
+      → slice_get s.serial c ≡ Some got → got ≡ []
+  pub line : (said : List ℕ) × (s.line ≡ Some said)
+      × PrefixMerge (serial_says plan trace serial m) said
 
 -- each serial client recorded its whole part of the input, and what was sent on the line is a merge
 -- of the whole scripts
@@ -53,15 +66,17 @@ pub record ShowsWhole (count : ℕ) (trace : Trace) (s : State) : Type 0 where
       → got ≡ input_of count c trace.input
   pub line : (said : List ℕ) × (s.line ≡ Some said) × Merge trace.says said
 
--- each network client recorded a beginning of the frames for its address, and what was sent on the
--- wire is what the entries tell that the device took, a merge of beginnings of what the clients
--- send: each by its program, but one at whose queue a hostile actor has an end the frames of the
--- good descriptors that were taken of it
-pub record ShowsFrames (wild : Wild) (net : NetPlace) (frames : List (List ℕ)) (passed : Passed)
-    (s : State) : Type 0 where
+-- each network client recorded a beginning of the frames for its address, and a hostile one
+-- nothing; and what was sent on the wire is what the entries tell that the device took, a merge of
+-- beginnings of what the clients send: each by its program, but one at whose queue a hostile actor
+-- has an end the frames of the good descriptors that were taken of it
+pub record ShowsFrames (rogue : ℕ → Bool) (wild : Wild) (net : NetPlace) (frames : List (List ℕ))
+    (passed : Passed) (s : State) : Type 0 where
   pub count_is : length s.net ≡ length net.macs
   pub records : (c : ℕ) (mac : Mac) (got : List (List ℕ)) → slice_get net.macs c ≡ Some mac
       → slice_get s.net c ≡ Some got → IsPrefix got (frames_for mac frames)
+  pub hostile : (c : ℕ) (got : List (List ℕ)) → rogue c ≡ true → slice_get s.net c ≡ Some got
+      → got ≡ []
   pub wire : s.wire ≡ Some (wire_beside wild net frames passed)
   pub merges : PrefixMerge (sends_beside wild net frames passed)
       (wire_beside wild net frames passed)
@@ -74,12 +89,14 @@ pub record ShowsAllFrames (net : NetPlace) (frames : List (List ℕ)) (s : State
   pub wire : (sent : List (List ℕ)) × (s.wire ≡ Some sent) × Merge
       (sends_at net.programs net.macs frames) sent
 
--- each block client recorded a beginning of what it must get
-pub record ShowsReplies (blk : BlkPlace) (s : State) : Type 0 where
+-- each block client recorded a beginning of what it must get, and a hostile one nothing
+pub record ShowsReplies (rogue : ℕ → Bool) (blk : BlkPlace) (s : State) : Type 0 where
   pub count_is : length s.blk ≡ length blk.entries
   pub records : (c entry : ℕ) (asks : List Ask) (got : List Reply)
       → slice_get blk.entries c ≡ Some entry → slice_get blk.asks c ≡ Some asks
       → slice_get s.blk c ≡ Some got → IsPrefix got (replies_of blk.image entry asks)
+  pub hostile : (c : ℕ) (got : List Reply) → rogue c ≡ true → slice_get s.blk c ≡ Some got
+      → got ≡ []
 
 -- each block client recorded all that it must get
 pub record ShowsAllReplies (blk : BlkPlace) (s : State) : Type 0 where
@@ -96,23 +113,29 @@ pub record IsSystemOf (plan : Plan) (trace : Trace) (s : Shown) : Type 0 where
   -- and whoever counts, the whole journal is shorter than the budget
   pub bounded : HasNoRogue plan → length s.journal < budget_of plan trace
   pub stands : StandsLawful s
-  -- each buffer has one owner at each moment, or its counted receivers
-  pub owners : HasNoRogue plan → TellsOwners plan (pool_place plan trace) s
-  pub arrives : HasNoRogue plan → (serial : Serial) → plan.serial ≡ Some serial → EachMoment (λ j.
-      ArrivesInPart (serial_class (first_serial plan) (length serial.client) trace)
-      (moved_in s.setting j)) s.journal
-  pub shows : HasNoRogue plan → (serial : Serial) → plan.serial ≡ Some serial
-      → ShowsInPart (length serial.client) trace s.state
+  -- each buffer but those of hostile clients has one owner at each moment, or its counted receivers
+  pub owners : TellsOwners plan (pool_place plan trace) s
+  pub arrives : (serial : Serial) → plan.serial ≡ Some serial → EachMoment (λ j.
+      ArrivesBeside (is_serial_rogue plan)
+      (serial_class (first_serial plan) (length serial.client) trace) (moved_in s.setting j))
+      s.journal
+  pub shows : (serial : Serial) → plan.serial ≡ Some serial
+      → ShowsInPart plan trace serial (moved_in s.setting s.journal) s.state
   pub shows_net : (net : Net) → plan.net ≡ Some net
-      → ShowsFrames (wild_by s.setting) (net_place plan trace) trace.frames stands.told.passed
-      s.state
+      → ShowsFrames (is_net_rogue plan) (wild_by s.setting) (net_place plan trace) trace.frames
+      stands.told.passed s.state
+  -- of its clients' queues for sending those have a hostile end whose client is hostile
+  pub wild_net : (net : Net) → plan.net ≡ Some net → (c : ℕ) → c < length net.client
+      → wild_by s.setting (client_first 0 c + 4) ≡ is_net_rogue plan c
   -- where no client of the network is hostile, all send by their programs
   pub plain : NetGivesBack plan → (net : Net) → plan.net ≡ Some net
       → sends_beside (wild_by s.setting) (net_place plan trace) trace.frames stands.told.passed
       ≡ sends_at (net_place plan trace).programs (net_place plan trace).macs trace.frames
-  pub shows_blk : (blk : Blk) → plan.blk ≡ Some blk → ShowsReplies (blk_place plan trace) s.state
-  -- where nobody is runnable, all bytes of the serial class arrived
-  pub whole : runnable_now s ≡ [] → HasNoRogue plan → (serial : Serial)
+  pub shows_blk : (blk : Blk) → plan.blk ≡ Some blk
+      → ShowsReplies (is_blk_rogue plan) (blk_place plan trace) s.state
+  -- where nobody is runnable, all bytes of the serial class arrived, if none of its clients is
+  -- hostile
+  pub whole : runnable_now s ≡ [] → SerialGivesBack plan → (serial : Serial)
       → plan.serial ≡ Some serial → ShowsWhole (length serial.client) trace s.state
   -- and all frames of the network, where none of its clients is hostile, whoever else is
   pub whole_net : runnable_now s ≡ [] → NetGivesBack plan → (net : Net) → plan.net ≡ Some net

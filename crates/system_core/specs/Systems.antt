@@ -7,19 +7,20 @@ use Rattle.wire_core.specs.Ends.{Role}
 use Rattle.wire_core.specs.Lists.{Passed}
 use Rattle.wire_core.specs.Queues.{Queue, queue_at, end_at, items_of}
 use Rattle.wire_core.specs.Journal.{History, track, IsShown, LegalJournal, BellsHold, QueuesFlow}
-use Rattle.wire_core.specs.Journal.{owner_of, is_calm}
+use Rattle.wire_core.specs.Journal.{EachMoment, owner_of, is_calm}
 use Rattle.wire_core.specs.Marks.{HasCalmQueues, no_drops, since}
 use Rattle.play_core.specs.Moved.{moved}
 use Rattle.play_core.specs.Names.{AreNoted, Noted, told_by, wild_in}
-use Rattle.owner_law.specs.Pages.{CarryPages}
 use Rattle.turn_kit.specs.Pace.{Paced, pendings}
 use Rattle.actor_set.specs.Actors.{FitsActor, ActorStandsFor, ActorEnd, part_of, actor_round}
-use Rattle.actor_set.specs.Laws.Kinds.{AllCalm, hostiles, scene_of}
+use Rattle.actor_set.specs.Laws.Kinds.{hostiles, scene_of}
 use Rattle.actor_set.specs.Laws.Scenes.{ToldInTurn}
 use Rattle.actor_set.specs.Rogues.{KeepsActs}
 use Rattle.client_programs.specs.declared.rogue.Rogue.{Rogue}
 use Rattle.wired_law.specs.Wiring.{AreOfKind, ClientsSend}
-use Rattle.cast_law.specs.Pools.Places.{PoolPlace, IsPlaced, cast_naming}
+use Rattle.cast_law.specs.Pools.Beside.{CastCarries, RoguesAsk}
+use Rattle.cast_law.specs.Pools.Owning.{IsKeptBeside}
+use Rattle.cast_law.specs.Pools.Places.{PoolPlace, IsPlaced}
 use Rattle.system_core.specs.Shows.{Setting, hostile_in}
 use Rattle.system_core.specs.Lawful.{IsFitted}
 use Rattle.actor_set.specs.declared.actor.Actor.{Actor}
@@ -41,12 +42,13 @@ pub record Holds (history : History) (rows : List QueueRow) (names : List Noted)
       → IsShown row (queue_at world n) (track history n journal)
   pub fits : (k : ℕ) (x : Actor) → slice_get actors k ≡ Some x → FitsActor (end_at world) x
   pub stands : (k : ℕ) (x : Actor) → slice_get actors k ≡ Some x → ActorStandsFor x passed
-  -- where nobody is hostile entries carry the pages that their items name, where the classes with
-  -- pools stand
-  pub carry : AllCalm (map part_of actors) → (place : PoolPlace)
-      → IsPlaced rows place (map part_of actors)
-      → CarryPages (cast_naming (scene_of (map part_of actors)) place) (moved history journal)
-      passed
+  -- where the classes with pools stand, entries carry the pages that their items name at all queues
+  -- but those of hostile clients, and at these no page of another's pool
+  pub carry : (place : PoolPlace) → IsPlaced rows place (map part_of actors)
+      → CastCarries rows place actors (moved history journal) passed
+  -- and hostile clients of the block class asked for reads and writes alone
+  pub asks : (place : PoolPlace) → IsPlaced rows place (map part_of actors)
+      → RoguesAsk (wild_in (hostiles (map part_of actors)) rows) place passed
   -- the network's clients that aren't hostile put good descriptors alone, those of the block class
   -- good requests
   pub sends : ClientsSend rows (map part_of actors) passed
@@ -73,6 +75,12 @@ pub record Holds (history : History) (rows : List QueueRow) (names : List Noted)
       → owner_of row r < length actors
   pub few : length actors ≤ 65536
   pub legal : LegalJournal (hostiles (map part_of actors)) history rows journal
+
+-- at each moment each actor that isn't hostile put only what was in its hand, of all pools but
+-- those of hostile clients, where the classes with pools stand
+abbrev pub PutTheirOwn : Setting → List Entry → Type 0
+PutTheirOwn s journal = (place : PoolPlace) → IsPlaced s.rows place s.cast
+    → EachMoment (IsKeptBeside s.history s.rows place s.cast) journal
 
 -- bells and queues hold before the journal begins
 pub record HoldsBefore (s : Setting) : Type 0 where

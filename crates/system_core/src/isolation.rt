@@ -1,44 +1,45 @@
 //! Isolation: what a client records is told by what determines it alone, whatever others are and
-//! do.
+//! do, hostile or not.
 ghost use Rattle.std.specs.Prelude.{◌≡◌, ℕ, Some, List, slice_get};
 ghost use Rattle.cargo_core.specs.declared.item.Reply.{Reply};
 ghost use Rattle.sdf_plan.specs.declared.plan.Plan.{Plan};
 ghost use Rattle.trace_text.specs.declared.trace.Trace.{Trace};
-ghost use Rattle.expect_core.specs.Isolation.{AreOfOne};
 ghost use Rattle.system_core.specs.Shows.{Shown};
 ghost use Rattle.system_core.specs.Reports.{report_of};
 ghost use Rattle.system_core.specs.PlanPlays.{IsSystemOf};
 ghost use Rattle.system_core.specs.Isolation.{net_expected, serial_expected, blk_expected};
-ghost use Rattle.system_core.specs.Isolation.{AgreeOnNet, AgreeOnSerial, AgreeOnBlk};
+ghost use Rattle.system_core.specs.Isolation.{AgreeOnNet, AgreeOnSerial, AgreeOnBlk, AreOfOneList};
+ghost use Rattle.system_core.specs.Isolation.{NetRests, SerialRests, BlkRests};
 
-/// Of two systems, of whatever plans and traces, however they were played: where these agree in
-/// what determines a client, its records are of the one list that it must get in the first. Both
-/// are beginnings of it, and each is all of it where its system is quiet.
+/// Of two systems, of whatever plans and traces, with hostile clients or without, however they were
+/// played: where these agree in what determines a client, its records are of the one list that it
+/// must get in the first. Both are beginnings of it, and each is all of it where its system is
+/// quiet and no client of its class is hostile there. A hostile client's own record is empty.
 ///
 /// A network client is determined by its address and the frames for it; a serial client by its
 /// number, the number of serial clients and its part of the input; a block client by what it asks
-/// and by how many blocks its partition has, with which bytes. All else may differ: other classes
-/// and clients with their programs, scripts and partitions, buffers and capacities, what the queues
-/// had before, seeds, limits and journals; of a network or a block client its number too, and of a
-/// block client where its partition begins. It is of systems as they are: hostile clients don't
-/// play yet, so none stands beside the client.
+/// and by how many blocks its partition has, with which bytes. All else may differ: who is hostile
+/// and what they do, other classes and clients with their programs, scripts and partitions, buffers
+/// and capacities, what the queues had before, seeds, limits and journals; of a network or a block
+/// client its number too, and of a block client where its partition begins.
 pub fn isolation_law()
     ensures net { (plan other : Plan) (trace told : Trace) (s t : Shown) (c d : ℕ)
         (got seen : List (List ℕ)) → IsSystemOf plan trace s → IsSystemOf other told t
         → AgreeOnNet plan trace c other told d
         → slice_get (report_of s).net c ≡ Some got → slice_get (report_of t).net d ≡ Some seen
-        → AreOfOne (net_expected plan trace c) (report_of s).quiet got (report_of t).quiet seen }
+        → AreOfOneList (net_expected plan trace c) (NetRests plan s) got (NetRests other t) seen }
     ensures serial { (plan other : Plan) (trace told : Trace) (s t : Shown) (c : ℕ)
         (got seen : List ℕ) → IsSystemOf plan trace s → IsSystemOf other told t
         → AgreeOnSerial plan trace other told c
         → slice_get (report_of s).serial c ≡ Some got
         → slice_get (report_of t).serial c ≡ Some seen
-        → AreOfOne (serial_expected plan trace c) (report_of s).quiet got (report_of t).quiet seen }
+        → AreOfOneList (serial_expected plan trace c) (SerialRests plan s) got
+        (SerialRests other t) seen }
     ensures blk { (plan other : Plan) (trace told : Trace) (s t : Shown) (c d : ℕ)
         (got seen : List Reply) → IsSystemOf plan trace s → IsSystemOf other told t
         → AgreeOnBlk plan trace c other told d
         → slice_get (report_of s).blk c ≡ Some got → slice_get (report_of t).blk d ≡ Some seen
-        → AreOfOne (blk_expected plan trace c) (report_of s).quiet got (report_of t).quiet seen }
+        → AreOfOneList (blk_expected plan trace c) (BlkRests plan s) got (BlkRests other t) seen }
 {
     expect_core::isolation_law();
 }

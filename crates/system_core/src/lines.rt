@@ -109,7 +109,7 @@ pub fn lines(
     Ok(lines)
 }
 
-/// How many descriptors these actors counted as bad. The count stands still at its type's end.
+/// How many entries these actors counted as bad. The count stands still at its type's end.
 pub fn bad(actors: &[Actor]) -> u64
     ensures { result ≡ bad_in actors.now }
 {

@@ -12,23 +12,36 @@
 //! A row `network FILE | TRACE | FIRST | COUNT` stands for plays of a description with a network and
 //! a trace by so many seeds from the first on, a line for each; with `| pools` behind it the line
 //! has also where the buffers of each pool are.
+//!
+//! A row `hostile FILE | TRACE | CLASSES | FIRST | COUNT` stands for so many plays beside hostile
+//! clients of these classes, whose acts are drawn by the number of the play, from the first on. The
+//! line says how many were right, and how many of those with ample steps got quiet. Right is a play
+//! within its limit in which each other client's record is a beginning of what the trace gives it,
+//! and so is what it sends, each all of it where the play is quiet and no client of its class is
+//! hostile; in which the lines of the pools add up, what goes to a driver names a buffer of a client
+//! and of each other client's no more than it put, the disk is asked for blocks of the client's own
+//! partition, and in which, where it is quiet, the buffers of other clients are in queues and with
+//! them.
 #![tactic(auto)]
 
 ghost use Rattle.std.specs.Prelude.{◌≡◌, ◌<◌, length};
 ghost use Rattle.sdf_check.specs.Valid.{Valid};
 ghost use Rattle.trace_text.specs.Events.{blk_clients};
 ghost use Rattle.trace_text.specs.Traces.{IsReadFor};
-ghost use Rattle.cast_core.specs.Hostile.{HasNoRogue};
 
+mod hostile;
 mod judging;
 mod naming;
 mod network;
 mod numbering;
+mod placing;
 mod playing;
+mod scripts;
+mod watching;
 
 use cargo_core::{Memory, Reply};
-use cast_core::has_no_rogue;
 use expect_core::{Report, input_of, replies_of};
+use hostile::print_hostile;
 use judging::judged;
 use network::print_network;
 use playing::{played_in_a_row, played_once};
@@ -143,8 +156,8 @@ fn add_replies(
     Ok(())
 }
 
-// How many block clients a plan has.
-fn block_clients(plan: &Plan) -> usize
+/// How many block clients a plan has.
+pub(crate) fn block_clients(plan: &Plan) -> usize
     ensures { result ≡ length (blk_clients plan.now) }
 {
     match &plan.blk {
@@ -205,7 +218,6 @@ fn play(
 ) -> Result<String, Memory>
     requires valid { Valid plan.now }
     requires trace { IsReadFor plan.now trace.now }
-    requires friendly { HasNoRogue plan.now }
 {
     let layout = lay_out(alloc, plan)?;
     let seeds = seeds_of(alloc, seeds)?;
@@ -227,9 +239,6 @@ fn play_lines(
 ) -> Result<String, Memory>
     requires { Valid plan.now }
 {
-    if !has_no_rogue(plan) {
-        return Ok(String::from_str(alloc, "hostile\n")?);
-    }
     let text = trace_of(alloc, lines)?;
     match read_trace(alloc, text.as_str().as_bytes(), plan) {
         Ok(trace) => play(alloc, plan, &trace, seeds, steps),
@@ -272,6 +281,9 @@ fn trace_of(alloc: Global, lines: &str) -> Result<String, Memory> {
 fn print_row<R: Files + Print + AllocGlobal>(rt: &R, row: &str) -> io::Result<()> {
     if let Some(row) = row.strip_prefix("network ") {
         return print_network(rt, row);
+    }
+    if let Some(row) = row.strip_prefix("hostile ") {
+        return print_hostile(rt, row);
     }
     let Some((name, rest)) = row.split_once(" | ") else {
         return rt.println("no row");

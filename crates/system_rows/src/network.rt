@@ -5,13 +5,11 @@
 ghost use Rattle.std.specs.Prelude.{◌≡◌, ◌<◌, length};
 ghost use Rattle.sdf_check.specs.Valid.{Valid};
 ghost use Rattle.trace_text.specs.Traces.{IsReadFor};
-ghost use Rattle.cast_core.specs.Hostile.{HasNoRogue};
 ghost use Rattle.region_layout.specs.Layouts.{layout_of};
 
 use crate::judging::judged;
 use crate::playing::played_once;
 use cargo_core::{FrameLog, Memory};
-use cast_core::has_no_rogue;
 use expect_core::{Report, frames_for};
 use frame_core::read_mac;
 use net_expect::answers_for;
@@ -59,8 +57,8 @@ fn stand_in_order(frames: &FrameLog, among: &FrameLog) -> bool {
     found == frames.len()
 }
 
-// The frames that a client must record.
-fn to_record(alloc: Global, net: &Net, trace: &Trace, client: usize) -> Result<FrameLog, Memory>
+/// The frames that a client must record.
+pub fn to_record(alloc: Global, net: &Net, trace: &Trace, client: usize) -> Result<FrameLog, Memory>
     requires { client < length net.now.client }
 {
     match read_mac(net.client.get(client).mac.as_str()) {
@@ -88,8 +86,8 @@ fn copied(alloc: Global, frames: &FrameLog) -> Result<FrameLog, Memory> {
     Ok(copy)
 }
 
-// The frames that a client must send.
-fn to_send(
+/// The frames that a client must send.
+pub fn to_send(
     alloc: Global,
     plan: &Plan,
     net: &Net,
@@ -205,7 +203,6 @@ fn play(
     requires valid { Valid plan.now }
     requires layout { layout.now ≡ layout_of plan.now }
     requires trace { IsReadFor plan.now trace.now }
-    requires friendly { HasNoRogue plan.now }
 {
     let (ending, report) = played_once(alloc, plan, layout, trace, seed, STEPS)?;
     told(alloc, plan, &report, trace, ending, pools)
@@ -215,7 +212,6 @@ fn play(
 fn plays(alloc: Global, plan: &Plan, trace: &Trace, seeds: Seeds) -> Result<String, Memory>
     requires valid { Valid plan.now }
     requires trace { IsReadFor plan.now trace.now }
-    requires friendly { HasNoRogue plan.now }
 {
     let layout = lay_out(alloc, plan)?;
     let mut text = String::new(alloc);
@@ -231,9 +227,6 @@ fn plays(alloc: Global, plan: &Plan, trace: &Trace, seeds: Seeds) -> Result<Stri
 fn plays_of(alloc: Global, plan: &Plan, text: &str, seeds: Seeds) -> Result<String, Memory>
     requires { Valid plan.now }
 {
-    if !has_no_rogue(plan) {
-        return Ok(String::from_str(alloc, "hostile\n")?);
-    }
     match read_trace(alloc, text.as_bytes(), plan) {
         Ok(trace) => plays(alloc, plan, &trace, seeds),
         Err(TraceFault::BadLine(_)) => Ok(String::from_str(alloc, "bad trace\n")?),

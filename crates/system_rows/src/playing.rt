@@ -46,10 +46,9 @@ pub fn played_in_a_row(
     requires valid { Valid plan.now }
     requires layout { layout.now ≡ layout_of plan.now }
     requires trace { IsReadFor plan.now trace.now }
-    requires friendly { HasNoRogue plan.now }
     ensures { IfOk result (λ r. (s : Shown) × (r.1 ≡ report_of s) × IsSystemOf plan.now trace.now s
         × LegalJournal (hostile_in s.setting) s.setting.history s.setting.rows s.journal
-        × (length s.journal < budget_of plan.now trace.now)
+        × (HasNoRogue plan.now → length s.journal < budget_of plan.now trace.now)
         × (r.0 ≡ Ending.Quiet → runnable_now s ≡ [])) }
 {
     let mut system = System::build(alloc, plan, layout, trace)?;
@@ -70,7 +69,6 @@ pub fn played_once(
     requires valid { Valid plan.now }
     requires layout { layout.now ≡ layout_of plan.now }
     requires trace { IsReadFor plan.now trace.now }
-    requires friendly { HasNoRogue plan.now }
 {
     let (system, ending) = System::played(alloc, plan, layout, trace, seed, steps)?;
     Ok((ending, system.into_report()?))

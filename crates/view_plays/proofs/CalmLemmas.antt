@@ -1,5 +1,5 @@
 -- A reply that was decided is no fault of reading.
-use Rattle.std.proofs.Common.{◌≡◌, inl, inr, ℕ, Bool, true, false, None, List, ◌∷◌}
+use Rattle.std.proofs.Common.{◌≡◌, inl, inr, ℕ, Bool, true, false, List, ◌∷◌}
 use Rattle.sdf_plan.specs.declared.plan.Plan.{Plan}
 use Rattle.trace_text.specs.declared.trace.Trace.{Trace}
 use Rattle.decision_core.specs.declared.showing.Asked.{Asked}
@@ -13,9 +13,6 @@ use Rattle.decision_core.specs.Decisions.{Decision, Say, Play, Run, PlayBus, Pla
 use Rattle.decision_core.specs.declared.deciding.Decided.{Decided}
 use Rattle.decision_core.specs.declared.deciding.Decided.TheVariants as Kept
 use Rattle.decision_core.specs.Decided.{decision_of, IsPlayable}
-use Rattle.decision_core.specs.Rogues.{first_rogue}
-use Rattle.decision_core.proofs.FriendlyLemmas.{IsFriendlyPlay, no-net, no-serial, no-blk}
-use Rattle.cast_core.proofs.HostileLemmas.{no_rogue}
 use Rattle.play_words.specs.declared.ask.Drawing.{Drawing}
 use Rattle.view_plays.specs.Deciding.{IsOnPlan, Answered, Drawn, Refused, DrawsPlay, no_drawing, refused, drawn, IsDrawnOf, drawn_of, ending_of}
 use Rattle.view_plays.specs.Viewed.{EndsFor}
@@ -128,12 +125,8 @@ ends-calm (Refused why line) status n (inr e) f = cc (e, f)
 pub answered-calm : (reads : List ℕ → List ℕ → Type 0) (words : List (List ℕ)) (a : Answered) (status : Status) → DrawsPlay reads words a → EndsFor a status → status ≡ Ended.ReadFault → ⊥
 answered-calm reads words a status h e f = ends-calm a status (decided-calm reads words a h) e f
 
-kept-friendly : (p : Plan) (t : Trace) (a : Asked) → IsFriendlyPlay (asked_on p t a) → first_rogue p ≡ None
-kept-friendly p t (Ask.Play o) h = h
-kept-friendly p t (Ask.Run n) h = h
-
-pub on-plan : (d : Decided) → OfPlan (decision_of d) → IsFriendlyPlay (decision_of d) → IsPlayable d → IsOnPlan d
-on-plan (Kept.Say status line) o f p = tt
-on-plan (Kept.Go plan trace asked) o f p = let none = kept-friendly plan trace asked f in (p.0, p.1, p.2, no_rogue plan (no-net plan none) (no-serial plan none) (no-blk plan none))
-on-plan (Kept.Bus bus schedule) o f p = absurd o
-on-plan (Kept.Ports ports schedule) o f p = absurd o
+pub on-plan : (d : Decided) → OfPlan (decision_of d) → IsPlayable d → IsOnPlan d
+on-plan (Kept.Say status line) o p = tt
+on-plan (Kept.Go plan trace asked) o p = p
+on-plan (Kept.Bus bus schedule) o p = absurd o
+on-plan (Kept.Ports ports schedule) o p = absurd o

@@ -13,7 +13,6 @@ use Rattle.decision_core.specs.declared.status.Status.TheVariants as Ended
 use Rattle.decision_core.specs.Decisions.{Say, asked_on, Decides}
 use Rattle.decision_core.specs.Judged.{IsAcceptedPlan}
 use Rattle.decision_core.specs.Readings.{OpensInTurn}
-use Rattle.cast_core.specs.Hostile.{HasNoRogue}
 use Rattle.expect_core.specs.Budgets.{budget_of}
 use Rattle.region_layout.specs.Layouts.{layout_of}
 use Rattle.report_text.specs.Answers.{usage_text}
@@ -60,12 +59,11 @@ pub data IsDrawnOf (plan : Plan) (trace : Trace) (drawing : Drawing) : Answered 
       → IsDrawnOf plan trace drawing (Drawn (ending_of (report_of s).quiet (report_of s).steps)
       (drawn_text plan (layout_of plan) s.journal (report_of s) drawing))
 
--- what was decided is of a plan, and can be played beside no hostile client: it is no bus and no
--- switch
+-- what was decided is of a plan, and can be played: it is no bus and no switch
 abbrev pub IsOnPlan : Decided → Type 0
 IsOnPlan (Kept.Say status line) = Unit {0}
 IsOnPlan (Kept.Go plan trace asked) =
-    IsAcceptedPlan plan × IsNumbered plan × IsReadFor plan trace × HasNoRogue plan
+    IsAcceptedPlan plan × IsNumbered plan × IsReadFor plan trace
 IsOnPlan (Kept.Bus bus schedule) = ⊥
 IsOnPlan (Kept.Ports ports schedule) = ⊥
 

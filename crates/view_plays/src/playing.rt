@@ -3,7 +3,6 @@
 ghost use Rattle.std.specs.Prelude.{◌≡◌, IfOk};
 ghost use Rattle.sdf_plan.specs.Elements.{IsNumbered};
 ghost use Rattle.trace_text.specs.Traces.{IsReadFor};
-ghost use Rattle.cast_core.specs.Hostile.{HasNoRogue};
 ghost use Rattle.command_words.specs.Words.{texts_of};
 ghost use Rattle.shelf_core.specs.Reading.{WasRead};
 ghost use Rattle.shelf_core.specs.Shelves.{ReadsFrom};
@@ -68,7 +67,7 @@ fn limit_of(plan: &Plan, trace: &Trace, settings: &[Setting]) -> u64
     }
 }
 
-// Plays a trace on a plan without hostile clients, and draws the play.
+// Plays a trace on a plan, and draws the play.
 #[tactic(auto, using(crate::proofs::ToldPlays::SliceLemmas::no_progress))]
 fn play<E: Sink>(
     alloc: Global,
@@ -80,7 +79,6 @@ fn play<E: Sink>(
     requires accepted { IsAcceptedPlan plan.now }
     requires numbered { IsNumbered plan.now }
     requires read { IsReadFor plan.now trace.now }
-    requires friendly { HasNoRogue plan.now }
     ensures drawn { IfOk result (λ reply. IsDrawnOf plan.now trace.now drawing.now
         (decided_of reply)) }
     ensures told { IsProgress E.written err.old err.new }

@@ -18,7 +18,7 @@ use Rattle.pipe_driver.specs.Drivers.{PipesStandFor, pipes_hand}
 use Rattle.pipe_driver.specs.declared.pipes.Pipes.{Pipes}
 use Rattle.eth_driver.specs.Four.{four_pipes}
 use Rattle.eth_driver.specs.declared.EthDriver.{EthDriver}
-use Rattle.device_model.specs.Ethernet.Devices.{DeviceStandsFor}
+use Rattle.device_model.specs.Ethernet.Devices.{HoldingDeviceStands}
 use Rattle.device_model.specs.declared.ethernet.EthDevice.{EthDevice}
 use Rattle.device_model.specs.Disk.Disks.{DiskRow, DiskStandsFor, req}
 use Rattle.device_model.specs.Disk.Serving.{is_stray}
@@ -129,7 +129,7 @@ module _ (scene : Scene) (ends : Role → ℕ → End) (rows : List QueueRow) (a
     way : IsWay down d.wire.pipe up input output passed
     way =
         let moves : PipesStandFor (four_pipes p.driver.pipes) passed = work.stands j (Kinds.EthDriver p) driver in
-        let wires : DeviceStandsFor d passed = work.stands i (Kinds.EthDevice d) device in
+        let wires : HoldingDeviceStands d passed = work.stands i (Kinds.EthDevice d) device in
         let wire = device_sends net.first scene.frames d device_is in
         let driven = driver_sends net.first p.driver.pipes driver_is in
         let own = sender_queues net.first net.most net.pools v part_is in

@@ -15,11 +15,11 @@ use Rattle.play_core.proofs.Lists.{map_get, map_from, prefix_trans, some_is, the
 use Rattle.net_law.proofs.Beginnings.{begins_map}
 use Rattle.net_virt_tx.specs.Sending.{TxRow}
 use Rattle.device_model.specs.declared.ethernet.EthDevice.{EthDevice}
-use Rattle.device_model.specs.Ethernet.Devices.{DeviceRow}
+use Rattle.device_model.specs.Ethernet.Devices.{HoldingDeviceRow}
 use Rattle.eth_driver.specs.Four.{four_pipes}
 use Rattle.pipe_driver.proofs.Holding.{row_of as driver_row}
 use Rattle.net_expect.specs.Expecting.{Program, frames_for}
-use Rattle.net_copier.proofs.Holding.{row_of as copier_row}
+use Rattle.net_copier.proofs.Holding.{held_row as copier_row}
 use Rattle.net_virt_rx.proofs.Rounds.{row_of as receiver_row}
 use Rattle.net_virt_rx.specs.declared.NetVirtRx.{NetVirtRx}
 use Rattle.net_virt_tx.proofs.Rounds.{row_of as sender_row}
@@ -140,7 +140,7 @@ module _ (scene : Scene) (ends : Role → ℕ → End) (rows : List QueueRow) (a
     short_frames k frame at = let high = (whole.frames k frame at).1 in let fits = whole.fits in let told = whole.told in (omega (arith, high, fits), omega (arith, high, told))
 
     -- the receive half with this device and this receiving virtualiser
-    half_with : (d : EthDevice) → device_part d ≡ device_at net.first frames → DeviceRow d passed → (v : NetVirtRx) → IsReceiverAt net.first net.pool net.macs v passed → IsCast net.first frames net.pool net.macs passed
+    half_with : (d : EthDevice) → device_part d ≡ device_at net.first frames → HoldingDeviceRow d passed → (v : NetVirtRx) → IsReceiverAt net.first net.pool net.macs v passed → IsCast net.first frames net.pool net.macs passed
     half_with d part row v at =
         let y = actor_of (NetworkPart (driver_at net.first)) whole.driver in
         let p = driver_actor net.first y.0 y.1 in
@@ -159,7 +159,7 @@ module _ (scene : Scene) (ends : Role → ℕ → End) (rows : List QueueRow) (a
         }
 
     -- the device and the virtualisers of the cast
-    device_there : (d : EthDevice) × (device_part d ≡ device_at net.first frames) × DeviceRow d passed
+    device_there : (d : EthDevice) × (device_part d ≡ device_at net.first frames) × HoldingDeviceRow d passed
     device_there =
         let x = actor_of (NetworkPart (device_at net.first frames)) whole.device in
         let d = device_actor net.first frames x.0 x.1 in
@@ -194,7 +194,7 @@ module _ (scene : Scene) (ends : Role → ℕ → End) (rows : List QueueRow) (a
         (c.0, client_at_work k program mac q c.0 c.2 (whole.some k q of.pools) (subst (FitsActor ends) c.1 x.2) (subst (λ a. ActorStandsFor a passed) c.1 x.3))
 
     -- the whole network with this device and this sending virtualiser
-    whole_with : (d : EthDevice) → device_part d ≡ device_at net.first frames → DeviceRow d passed → (v : NetVirtTx) → IsSenderAt net v passed → IsWholeCast net frames passed
+    whole_with : (d : EthDevice) → device_part d ≡ device_at net.first frames → HoldingDeviceRow d passed → (v : NetVirtTx) → IsSenderAt net v passed → IsWholeCast net frames passed
     unfolding half_with
     whole_with d part row v at = record {
       pools_many = whole.pools_many;

@@ -99,6 +99,7 @@ module _ (ends ends' : Role → ℕ → End) where
     hears = (same Consumer v.input.queue.0 refl).kind ∙ f.hears;
     says = λ k q at. (same Producer q.0 (k, q, at, refl)).kind ∙ f.says k q at;
     load = f.load;
+    policies = f.policies;
   }
 
   tx_anew : (x v : SerialVirtTx) → TxForgot x v → ((r : Role) (n : ℕ) → TxEnd v r n → Same r n) → FitsTx ends v → FitsTx ends' v
@@ -233,13 +234,13 @@ module _ (ends ends' : Role → ℕ → End) where
   pub fits_anew : (x y : Actor) → Forgot x y → ((r : Role) (n : ℕ) → ActorEnd y r n → Same r n) → FitsActor ends y → FitsActor ends' y
   fits_anew (Kinds.UartDevice x) (Kinds.UartDevice y) is same f = terminal_anew x.terminal y.terminal is same f
   fits_anew (Kinds.UartDriver x) (Kinds.UartDriver y) is same f = pipes_anew (two_pipes x.driver.pipes) (two_pipes y.driver.pipes) is.0 same f
-  fits_anew (Kinds.SerialVirtRx x) (Kinds.SerialVirtRx y) is same f = rx_anew x y is same f
+  fits_anew (Kinds.SerialVirtRx x) (Kinds.SerialVirtRx y) is same f = (rx_anew x y is same f.0, f.1)
   fits_anew (Kinds.SerialVirtTx x) (Kinds.SerialVirtTx y) is same f = tx_anew x y is same f
   fits_anew (Kinds.SerialClient x) (Kinds.SerialClient y) is same f = terminal_anew x.terminal y.terminal is same f
-  fits_anew (Kinds.EthDevice x) (Kinds.EthDevice y) is same f = device_anew x y is same f
+  fits_anew (Kinds.EthDevice x) (Kinds.EthDevice y) is same f = (device_anew x y is same f.0, f.1)
   fits_anew (Kinds.EthDriver x) (Kinds.EthDriver y) is same f = pipes_anew (four_pipes x.driver.pipes) (four_pipes y.driver.pipes) is.0 same f
   fits_anew (Kinds.NetVirtRx x) (Kinds.NetVirtRx y) is same f = record { ends_fit = virt_anew x.ends y.ends is.ends same f.ends_fit; work = f.work; from_each = f.from_each; to_each = f.to_each }
-  fits_anew (Kinds.NetCopier x) (Kinds.NetCopier y) is same f = copier_anew x y is same f
+  fits_anew (Kinds.NetCopier x) (Kinds.NetCopier y) is same f = (copier_anew x y is same f.0, f.1)
   fits_anew (Kinds.NetClient x) (Kinds.NetClient y) is same f = (client_anew x y is same f.0, f.1)
   fits_anew (Kinds.NetVirtTx x) (Kinds.NetVirtTx y) is same f = record { ends_fit = virt_anew x.ends y.ends is.ends same f.ends_fit; work = f.work; from_each = f.from_each; to_each = f.to_each }
   fits_anew (Kinds.DiskDevice x) (Kinds.DiskDevice y) is same f = disk_anew x.device y.device is.0 same f

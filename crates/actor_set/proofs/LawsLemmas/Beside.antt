@@ -10,7 +10,7 @@ use Rattle.wire_core.specs.declared.names.QueueId.{QueueId}
 use Rattle.turn_kit.specs.ManyEnds.{intake_queues}
 use Rattle.turn_kit.specs.declared.ends.Intake.{Intake}
 use Rattle.turn_kit.specs.declared.ends.Outlet.{Outlet}
-use Rattle.serial_virt.specs.Receiving.{FitsRx, RxStandsFor, RxEnd}
+use Rattle.serial_virt.specs.Receiving.{FitsRx, HoldingRxStands, RxEnd}
 use Rattle.serial_virt.specs.declared.rx.SerialVirtRx.{SerialVirtRx}
 use Rattle.serial_virt.specs.Sending.{FitsTx, TxStandsFor, TxEnd}
 use Rattle.serial_virt.specs.declared.tx.SerialVirtTx.{SerialVirtTx}
@@ -44,6 +44,7 @@ module _ (ends ends' : Role → ℕ → End) where
     hears = ap (λ (e : End). e.kind) (same Consumer v.input.queue.0 refl) ∙ f.hears;
     says = λ k q at. ap (λ (e : End). e.kind) (same Producer q.0 (k, q, at, refl)) ∙ f.says k q at;
     load = f.load;
+    policies = f.policies;
   }
 
   fits_tx : (v : SerialVirtTx) → ((r : Role) (n : ℕ) → TxEnd v r n → ends' r n ≡ ends r n) → FitsTx ends v → FitsTx ends' v
@@ -61,13 +62,13 @@ module _ (ends ends' : Role → ℕ → End) where
   pub fits_beside : (x : Actor) → ((r : Role) (n : ℕ) → ActorEnd x r n → ends' r n ≡ ends r n) → FitsActor ends x → FitsActor ends' x
   fits_beside (Kinds.UartDevice x) same f = fits_terminal x.terminal (same Consumer x.terminal.input.queue.0 refl) (same Producer x.terminal.output.queue.0 refl) f
   fits_beside (Kinds.SerialClient x) same f = fits_terminal x.terminal (same Consumer x.terminal.input.queue.0 refl) (same Producer x.terminal.output.queue.0 refl) f
-  fits_beside (Kinds.SerialVirtRx x) same f = fits_rx x same f
+  fits_beside (Kinds.SerialVirtRx x) same f = (fits_rx x same f.0, f.1)
   fits_beside (Kinds.SerialVirtTx x) same f = fits_tx x same f
   fits_beside (Kinds.UartDriver x) same f = fits_pipes ends ends' (two_pipes x.driver.pipes) same f
-  fits_beside (Kinds.EthDevice x) same f = fits_device ends ends' x same f
+  fits_beside (Kinds.EthDevice x) same f = (fits_device ends ends' x same f.0, f.1)
   fits_beside (Kinds.EthDriver x) same f = fits_pipes ends ends' (four_pipes x.driver.pipes) same f
   fits_beside (Kinds.NetVirtRx x) same f = fits_receiver ends ends' x same f
-  fits_beside (Kinds.NetCopier x) same f = fits_copier ends ends' x same f
+  fits_beside (Kinds.NetCopier x) same f = (fits_copier ends ends' x same f.0, f.1)
   fits_beside (Kinds.NetClient x) same f = (fits_client ends ends' x same f.0, f.1)
   fits_beside (Kinds.NetVirtTx x) same f = fits_sender ends ends' x same f
   fits_beside (Kinds.DiskDevice x) same f = fits_disk ends ends' x.device same f
@@ -81,7 +82,7 @@ module _ (passed passed' : Passed) where
   stands_terminal : (t : Terminal) → passed'.taken t.input.queue.0 ≡ passed.taken t.input.queue.0 → passed'.sent t.output.queue.0 ≡ passed.sent t.output.queue.0 → TerminalStandsFor t passed → TerminalStandsFor t passed'
   stands_terminal t i o f = record { sent_is = o ∙ f.sent_is; record_is = rw i f.record_is }
 
-  stands_rx : (v : SerialVirtRx) → ((n : ℕ) → RxEnd v Consumer n → passed'.taken n ≡ passed.taken n) → ((n : ℕ) → RxEnd v Producer n → passed'.sent n ≡ passed.sent n) → RxStandsFor v passed → RxStandsFor v passed'
+  stands_rx : (v : SerialVirtRx) → ((n : ℕ) → RxEnd v Consumer n → passed'.taken n ≡ passed.taken n) → ((n : ℕ) → RxEnd v Producer n → passed'.sent n ≡ passed.sent n) → HoldingRxStands v passed → HoldingRxStands v passed'
   stands_rx v ins outs f = record {
     switched = rw (ins v.input.queue.0 refl) f.switched;
     to = f.to;

@@ -17,7 +17,7 @@ use Rattle.turn_kit.specs.declared.ends.Intake.{Intake}
 use Rattle.turn_kit.specs.declared.ends.Outlet.{Outlet}
 use Rattle.pipe_driver.specs.Drivers.{EachPipe, PipesEnd, FitsPipes, PipesStandFor}
 use Rattle.play_core.proofs.Lists.{map_get, map_from, some_is, there_is, there_below}
-use Rattle.device_model.specs.Ethernet.Devices.{FitsDevice, DeviceStandsFor, DeviceEnd, rx_free, rx_active, tx_active, tx_free}
+use Rattle.device_model.specs.Ethernet.Devices.{FitsDevice, HoldingDeviceStands, DeviceEnd, rx_free, rx_active, tx_active, tx_free}
 use Rattle.device_model.specs.declared.ethernet.EthDevice.{EthDevice}
 use Rattle.buffer_kit.specs.Virtualising.{FitsVirt, VirtOwns, from_queues, to_queues, virt_came, virt_went}
 use Rattle.buffer_kit.specs.declared.virt_ends.VirtEnds.{VirtEnds}
@@ -26,7 +26,7 @@ use Rattle.net_virt_rx.specs.Sharing.{IsFrameInTurn, IsLeaseInTurn, SharerStands
 use Rattle.net_virt_rx.specs.declared.NetVirtRx.{NetVirtRx}
 use Rattle.net_virt_rx.proofs.Standing.{as_lists}
 use Rattle.net_virt_rx.proofs.Steps.{queue_is}
-use Rattle.net_copier.specs.Copying.{FitsCopier, CopierStandsFor, CopierEnd}
+use Rattle.net_copier.specs.Copying.{FitsCopier, HoldingCopierStands, CopierEnd}
 use Rattle.net_copier.specs.declared.NetCopier.{NetCopier}
 use Rattle.client_programs.specs.Net.Clients.{FitsClient, ClientStandsFor, ClientEnd}
 use Rattle.client_programs.specs.Net.Clients as client
@@ -141,7 +141,7 @@ module _ (passed passed' : Passed) where
   stands_pipes [] ins outs f = tt
   stands_pipes (p ∷ ps) ins outs f = (stands_pipe p (ins p.input.queue.0 (inl refl)) (outs p.output.queue.0 (inl refl)) f.0, stands_pipes ps (λ n e. ins n (inr e)) (λ n e. outs n (inr e)) f.1)
 
-  pub stands_device : (d : EthDevice) → ((n : ℕ) → DeviceEnd d Consumer n → passed'.taken n ≡ passed.taken n) → ((n : ℕ) → DeviceEnd d Producer n → passed'.sent n ≡ passed.sent n) → DeviceStandsFor d passed → DeviceStandsFor d passed'
+  pub stands_device : (d : EthDevice) → ((n : ℕ) → DeviceEnd d Consumer n → passed'.taken n ≡ passed.taken n) → ((n : ℕ) → DeviceEnd d Producer n → passed'.sent n ≡ passed.sent n) → HoldingDeviceStands d passed → HoldingDeviceStands d passed'
   stands_device d ins outs f = record {
     filled = rw (ins (rx_free d) (inl refl), outs (rx_active d) (inl refl)) f.filled;
     takes = rw (ins (rx_free d) (inl refl)) f.takes;
@@ -152,7 +152,7 @@ module _ (passed passed' : Passed) where
     };
   }
 
-  pub stands_copier : (c : NetCopier) → ((n : ℕ) → CopierEnd c Consumer n → passed'.taken n ≡ passed.taken n) → ((n : ℕ) → CopierEnd c Producer n → passed'.sent n ≡ passed.sent n) → CopierStandsFor c passed → CopierStandsFor c passed'
+  pub stands_copier : (c : NetCopier) → ((n : ℕ) → CopierEnd c Consumer n → passed'.taken n ≡ passed.taken n) → ((n : ℕ) → CopierEnd c Producer n → passed'.sent n ≡ passed.sent n) → HoldingCopierStands c passed → HoldingCopierStands c passed'
   stands_copier c ins outs f =
       let li : passed'.taken c.lease_input.queue.0 ≡ passed.taken c.lease_input.queue.0 = ins c.lease_input.queue.0 (inl refl) in
       let bi : passed'.taken c.buffer_input.queue.0 ≡ passed.taken c.buffer_input.queue.0 = ins c.buffer_input.queue.0 (inr refl) in

@@ -21,7 +21,7 @@ use Rattle.actor_set.specs.declared.actor.Actor.{Actor}
 use Rattle.actor_set.specs.declared.actor.Actor.TheVariants as Kinds
 use Rattle.device_model.specs.declared.serial_terminal.Terminal.{Terminal}
 use Rattle.device_model.specs.SerialTerminal.Terminals.{terminal_round}
-use Rattle.serial_virt.proofs.Sizes.{rx_size, tx_size}
+use Rattle.serial_virt.proofs.Sizes.{held_size, tx_size}
 use Rattle.eth_driver.specs.Four.{four_pipes}
 use Rattle.device_model.specs.Ethernet.Devices as device
 use Rattle.client_programs.specs.Net.Clients as client
@@ -127,7 +127,7 @@ sizes : (x : Actor) → length (actor_round x).needs ≡ length (actor_round x).
 sizes (Kinds.UartDevice x) = refl
 sizes (Kinds.SerialClient x) = refl
 sizes (Kinds.UartDriver x) = refl
-sizes (Kinds.SerialVirtRx x) = rx_size x
+sizes (Kinds.SerialVirtRx x) = held_size x
 sizes (Kinds.SerialVirtTx x) = tx_size x
 sizes (Kinds.EthDevice x) = refl
 sizes (Kinds.EthDriver x) = pipes_size (four_pipes x.driver.pipes)

@@ -27,7 +27,7 @@ use Rattle.serial_switch.specs.Switching.{input_of}
 use Rattle.actor_set.proofs.LawsLemmas.Rows.{carried_in}
 use Rattle.play_core.proofs.Merges.{merge_total}
 use Rattle.play_core.specs.Totals.{total}
-use Rattle.serial_virt.specs.Receiving.{FitsRx, RxStandsFor, rx_round, owed_to, clients_of, place_loaded}
+use Rattle.serial_virt.specs.Receiving.{FitsRx, HoldingRxStands, holding_rx_round, owed_to, clients_of, place_loaded}
 use Rattle.serial_virt.specs.declared.rx.SerialVirtRx.{SerialVirtRx}
 use Rattle.serial_virt.specs.Sending.{FitsTx, TxStandsFor, tx_round}
 use Rattle.serial_virt.specs.declared.tx.SerialVirtTx.{SerialVirtTx}
@@ -116,14 +116,14 @@ module _ (scene : Scene) (w : List Queue) (passed : Passed) (items : Moved) (h :
   free : (p : Pipe) → PipeStandsFor p passed → is_none p.load ≡ not (is_owed (items.sent p.output.queue.0) (items.taken p.input.queue.0))
   free p st = none_is p.load ∙ ap not (loaded p st)
 
-  rx_owed : (v : SerialVirtRx) → RxStandsFor v passed → (k : ℕ) (q : QueueId) → slice_get (outlet_queues v.outputs) k ≡ Some q → is_here (place_loaded v) (0 + k) ≡ is_owed (items.sent q.0) (input_of (clients_of v) (0 + k) (bytes_carried (passed.taken v.input.queue.0)))
+  rx_owed : (v : SerialVirtRx) → HoldingRxStands v passed → (k : ℕ) (q : QueueId) → slice_get (outlet_queues v.outputs) k ≡ Some q → is_here (place_loaded v) (0 + k) ≡ is_owed (items.sent q.0) (input_of (clients_of v) (0 + k) (bytes_carried (passed.taken v.input.queue.0)))
   rx_owed v st k q at =
       let z : k ≡ 0 + k = omega arith in
       let put : length (passed.sent q.0) ≡ length (items.sent q.0) = sym (length-map (passed.sent q.0) (λ (c : Cargo). c.0)) ∙ ap length (h.sent q.0) in
       let all : length (passed.sent q.0) + length (owed_to v.load v.to k) ≡ length (input_of (clients_of v) k (bytes_carried (passed.taken v.input.queue.0))) = sym (length-append (passed.sent q.0) (owed_to v.load v.to k)) ∙ (ap length (st.given k q at) ∙ length-map (input_of (clients_of v) k (bytes_carried (passed.taken v.input.queue.0))) byte_cargo) in
       subst (λ i. is_here (place_loaded v) i ≡ nat_lt (length (items.sent q.0)) (length (input_of (clients_of v) i (bytes_carried (passed.taken v.input.queue.0))))) z (owed_here v.load v.to k (length (items.sent q.0)) (length (input_of (clients_of v) k (bytes_carried (passed.taken v.input.queue.0)))) (omega arith) (eqb_tells v.to k))
 
-  rx_meets : (v : SerialVirtRx) → FitsRx (end_at w) v → RxStandsFor v passed → Meet (end_at w) (rx_round v).posts (rx_round v).needs ((sheet scene (part_of (Kinds.SerialVirtRx v))).wants items)
+  rx_meets : (v : SerialVirtRx) → FitsRx (end_at w) v → HoldingRxStands v passed → Meet (end_at w) (holding_rx_round v).posts (holding_rx_round v).needs ((sheet scene (part_of (Kinds.SerialVirtRx v))).wants items)
   rx_meets v f st =
       let n : length (numbers (outlet_queues v.outputs)) ≡ clients_of v = simp length-map in
       let heard : bytes_in (items.taken v.input.queue.0) ≡ bytes_carried (passed.taken v.input.queue.0) = sym (carried_in (passed.taken v.input.queue.0) ∙ ap bytes_in (h.taken v.input.queue.0)) in
@@ -172,13 +172,13 @@ module _ (history : History) (journal : List Entry) (w : List Queue) (bells : Ha
   rest_of : (x : Actor) → manner_of (part_of x) ≡ Calm → InTurn scene x passed → FitsActor (end_at w) x → ActorStandsFor x passed → actor_rests x ≡ all_settled history journal ((sheet scene (part_of x)).wants (moved history journal))
   rest_of (Kinds.UartDevice x) calm turn f st = settled_so (Kinds.UartDevice x) calm (terminal_meets scene w passed (moved history journal) has x.terminal f st)
   rest_of (Kinds.SerialClient x) calm turn f st = settled_so (Kinds.SerialClient x) calm (terminal_meets scene w passed (moved history journal) has x.terminal f st)
-  rest_of (Kinds.SerialVirtRx x) calm turn f st = settled_so (Kinds.SerialVirtRx x) calm (rx_meets scene w passed (moved history journal) has x f st)
+  rest_of (Kinds.SerialVirtRx x) calm turn f st = settled_so (Kinds.SerialVirtRx x) calm (rx_meets scene w passed (moved history journal) has x f.0 st)
   rest_of (Kinds.SerialVirtTx x) calm turn f st = settled_so (Kinds.SerialVirtTx x) calm (tx_meets scene w passed (moved history journal) has x f st)
   rest_of (Kinds.UartDriver x) calm turn f st = settled_so (Kinds.UartDriver x) calm (driver_meets scene w passed (moved history journal) has x f st)
-  rest_of (Kinds.EthDevice x) calm turn f st = device_rest scene history journal w passed has bells x f st
+  rest_of (Kinds.EthDevice x) calm turn f st = device_rest scene history journal w passed has bells x f.0 st
   rest_of (Kinds.EthDriver x) calm turn f st = driver_rest scene history journal w passed has bells (four_pipes x.driver.pipes) x.driver.turn.last f st
   rest_of (Kinds.NetVirtRx x) calm turn f st = receiver_rest scene history journal w passed has bells x turn f st
-  rest_of (Kinds.NetCopier x) calm turn f st = copier_rest scene history journal w passed has bells x turn f st
+  rest_of (Kinds.NetCopier x) calm turn f st = copier_rest scene history journal w passed has bells x turn f.0 st
   rest_of (Kinds.NetClient x) calm turn f st = client_rest scene history journal w passed has bells x turn.1 f.0 st
   rest_of (Kinds.NetVirtTx x) calm turn f st = sender_rest history journal w passed has bells x turn.good turn.in_turn f st
   rest_of (Kinds.DiskDevice x) calm turn f st = block.disk_rest scene history journal w passed has bells x.start.value x.device turn f st

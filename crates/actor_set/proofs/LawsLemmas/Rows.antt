@@ -17,7 +17,7 @@ use Rattle.wire_core.specs.declared.names.QueueId.{QueueId}
 use Rattle.turn_kit.specs.ManyEnds.{intake_queues, outlet_queues}
 use Rattle.serial_switch.specs.Carried.{bytes_carried, byte_of}
 use Rattle.serial_switch.specs.Switching.{input_of}
-use Rattle.serial_virt.specs.Receiving.{RxStandsFor, owed_to, clients_of}
+use Rattle.serial_virt.specs.Receiving.{HoldingRxStands, owed_to, clients_of}
 use Rattle.serial_virt.specs.declared.rx.SerialVirtRx.{SerialVirtRx}
 use Rattle.serial_virt.specs.Sending.{TxStandsFor}
 use Rattle.serial_virt.specs.declared.tx.SerialVirtTx.{SerialVirtTx}
@@ -27,7 +27,7 @@ use Rattle.play_core.proofs.Merges.{merge_map}
 use Rattle.play_core.specs.Moved.{Moved}
 use Rattle.play_core.specs.Sheets.{Scene}
 use Rattle.eth_driver.specs.Four.{four_pipes}
-use Rattle.net_copier.proofs.Holding.{row_of as copier_row_of}
+use Rattle.net_copier.proofs.Holding.{held_row as copier_row_of}
 use Rattle.net_virt_rx.proofs.Rounds.{row_of as receiver_row_of}
 use Rattle.net_virt_tx.proofs.Rounds.{row_of as sender_row_of}
 use Rattle.net_law.specs.Parts.Table.{net_sheet}
@@ -84,7 +84,7 @@ module _ (scene : Scene) (passed : Passed) (items : Moved) (h : HaveItems passed
   pipe_row p f = (items_of (option_to_list p.load), rw (← h.sent p.output.queue.0, ← h.taken p.input.queue.0, f) (sym (map-append (λ (c : Cargo). c.0) (passed.sent p.output.queue.0) (option_to_list p.load))))
 
   -- the bytes that entries carry are those of their items
-  rx_row : (v : SerialVirtRx) → RxStandsFor v passed → (sheet scene (part_of (Kinds.SerialVirtRx v))).row (items)
+  rx_row : (v : SerialVirtRx) → HoldingRxStands v passed → (sheet scene (part_of (Kinds.SerialVirtRx v))).row (items)
   rx_row v f = record {
     owner = v.to;
     owed = items_of (option_to_list v.load);

@@ -23,6 +23,7 @@ use Rattle.turn_kit.specs.Pipes.{FitsPipe, PipeStandsFor, IsNewPipe}
 use Rattle.turn_kit.specs.declared.pipe.Pipe.{Pipe}
 use Rattle.device_model.specs.SerialTerminal.Terminals.{FitsTerminal, TerminalStandsFor, IsNewTerminal}
 use Rattle.device_model.specs.declared.serial_terminal.Terminal.{Terminal}
+use Rattle.serial_virt.specs.Shares.{AllHold}
 use Rattle.serial_virt.specs.Receiving.{FitsRx, IsNewRx, new_outlet}
 use Rattle.serial_virt.specs.declared.rx.SerialVirtRx.{SerialVirtRx}
 use Rattle.serial_virt.specs.Sending.{FitsTx, IsNewTx, new_intake}
@@ -56,6 +57,12 @@ queue_starts (a ∷ rows) (suc n) row h = queue_starts rows n row h
 end_is : (kind : QueueKind) (r : Role) → end_of true kind start_bells r ≡ start_end kind r
 end_is kind Consumer = refl
 end_is kind Producer = refl
+
+-- where no client's bytes may be dropped
+all_hold : (qs : List QueueId) → AllHold (map (λ (q : QueueId). false) qs)
+all_hold [] k = refl
+all_hold (q ∷ qs) zero = refl
+all_hold (q ∷ qs) (suc k) = all_hold qs k
 
 module _ (rows : List QueueRow) (k : ℕ) where
   abbrev ends : Role → ℕ → End
@@ -126,7 +133,7 @@ module _ (rows : List QueueRow) (k : ℕ) where
     load = λ c h. let no : None ≡ Some c = sym new.load ∙ h in cc;
   }
 
-  rx_fits : (v : SerialVirtRx) → IsNewRx v.input.queue (outlet_queues v.outputs) v → HasApartEnds (Kinds.SerialVirtRx v) → ((r : Role) (n : ℕ) → ActorEnd (Kinds.SerialVirtRx v) r n → HasSeat rows Kind.Byte k r n) → FitsRx ends v
+  rx_fits : (v : SerialVirtRx) → IsNewRx v.input.queue (outlet_queues v.outputs) (map (λ q. false) (outlet_queues v.outputs)) v → HasApartEnds (Kinds.SerialVirtRx v) → ((r : Role) (n : ℕ) → ActorEnd (Kinds.SerialVirtRx v) r n → HasSeat rows Kind.Byte k r n) → FitsRx ends v
   rx_fits v new apart seats = record {
     input = consumer_agrees v.input.queue.0 v.input.state (seats Consumer v.input.queue.0 refl) new.input_state;
     outputs = record {
@@ -136,6 +143,7 @@ module _ (rows : List QueueRow) (k : ℕ) where
     hears = consumer_kind v.input.queue.0 (seats Consumer v.input.queue.0 refl);
     says = λ j q at. producer_kind q.0 (seats Producer q.0 (j, q, at, refl));
     load = λ c h. let no : None ≡ Some c = sym new.load ∙ h in cc;
+    policies = ap length new.policies ∙ length-map (outlet_queues v.outputs) (λ (q : QueueId). false);
   }
 
   tx_fits : (v : SerialVirtTx) → IsNewTx v.output.queue (intake_queues v.inputs) v → HasApartEnds (Kinds.SerialVirtTx v) → ((r : Role) (n : ℕ) → ActorEnd (Kinds.SerialVirtTx v) r n → HasSeat rows Kind.Byte k r n) → FitsTx ends v
@@ -162,12 +170,12 @@ module _ (rows : List QueueRow) (k : ℕ) where
     inputs = ((apart.0, tt), (tt, tt));
     outputs = ((apart.1, tt), (tt, tt));
   }
-  new_fits (Kinds.SerialVirtRx x) new apart seats = rx_fits x new apart seats
+  new_fits (Kinds.SerialVirtRx x) new apart seats = (rx_fits x new apart seats, subst AllHold (sym new.policies) (all_hold (outlet_queues x.outputs)))
   new_fits (Kinds.SerialVirtTx x) new apart seats = tx_fits x new apart seats
-  new_fits (Kinds.EthDevice x) new apart seats = new_device_fits ends x new apart.0 apart.1 (net_seats (ActorEnd (Kinds.EthDevice x)) seats)
+  new_fits (Kinds.EthDevice x) new apart seats = (new_device_fits ends x new apart.0 apart.1 (net_seats (ActorEnd (Kinds.EthDevice x)) seats), new.new.drop)
   new_fits (Kinds.EthDriver x) new apart seats = new_pipes_fit ends (four_pipes x.driver.pipes) new apart.0 apart.1 (net_seats (ActorEnd (Kinds.EthDriver x)) seats)
   new_fits (Kinds.NetVirtRx x) new apart seats = new_receiver_fits ends x new (new_receiver_whole x new) apart (net_seats (ActorEnd (Kinds.NetVirtRx x)) seats)
-  new_fits (Kinds.NetCopier x) new apart seats = new_copier_fits ends x new apart.0 apart.1 (new_copier_work x new) (net_seats (ActorEnd (Kinds.NetCopier x)) seats)
+  new_fits (Kinds.NetCopier x) new apart seats = (new_copier_fits ends x new apart.0 apart.1 (new_copier_work x new) (net_seats (ActorEnd (Kinds.NetCopier x)) seats), new.drop)
   new_fits (Kinds.NetClient x) new apart seats = (new_client_fits ends x new (new_client_few x new) apart.0 apart.1 (net_seats (ActorEnd (Kinds.NetClient x)) seats), record { base = new.new.base; spare_base = new.new.outbox.base })
   new_fits (Kinds.NetVirtTx x) new apart seats = new_sender_fits ends x new (new_sender_whole x new) apart (net_seats (ActorEnd (Kinds.NetVirtTx x)) seats)
   new_fits (Kinds.DiskDevice x) new apart seats = new_disk_fits ends x.start.value x.device new (carried_seats (kind_at (Kinds.DiskDevice x)) (ActorEnd (Kinds.DiskDevice x)) seats)

@@ -24,7 +24,7 @@ use Rattle.buffer_kit.specs.Conserving.{Count, counted, the_page, weight, weighe
 use Rattle.buffer_kit.specs.Virtualising.{from_queues, to_queues}
 use Rattle.buffer_kit.proofs.Conserving.{counted-at}
 use Rattle.net_copier.specs.declared.NetCopier.{NetCopier}
-use Rattle.net_copier.proofs.Holding.{row_of as copier_row}
+use Rattle.net_copier.proofs.Holding.{held_row as copier_row}
 use Rattle.net_virt_tx.specs.declared.NetVirtTx.{NetVirtTx}
 use Rattle.net_virt_tx.proofs.Rounds.{row_of as sender_row}
 use Rattle.client_programs.specs.declared.rogue.Rogue.{Rogue}

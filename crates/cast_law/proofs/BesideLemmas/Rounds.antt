@@ -25,7 +25,7 @@ use Rattle.buffer_kit.specs.Virtualising.{from_queues, to_queues}
 use Rattle.buffer_kit.proofs.Conserving.{counted-at}
 use Rattle.pipe_driver.specs.Drivers.{PipesStandFor}
 use Rattle.eth_driver.specs.Four.{four_pipes}
-use Rattle.device_model.specs.Ethernet.Devices.{DeviceStandsFor}
+use Rattle.device_model.specs.Ethernet.Devices.{HoldingDeviceStands}
 use Rattle.net_copier.specs.declared.NetCopier.{NetCopier}
 use Rattle.net_virt_tx.specs.declared.NetVirtTx.{NetVirtTx}
 use Rattle.net_virt_tx.specs.declared.client.Client.{Client}
@@ -260,7 +260,7 @@ module _ (rows : List QueueRow) (place : PoolPlace) (actors : List Actor) (passe
             let p = dr.0 in
             let e = ev.0 in
             let moves : PipesStandFor (four_pipes p.driver.pipes) after = a.work.stands whole.driver.0 (Kinds.EthDriver p) (dx.1 ∙ ap (λ y. Some y) dr.1) in
-            let wires : DeviceStandsFor e after = a.work.stands whole.device.0 (Kinds.EthDevice e) (ex.1 ∙ ap (λ y. Some y) ev.1) in
+            let wires : HoldingDeviceStands e after = a.work.stands whole.device.0 (Kinds.EthDevice e) (ex.1 ∙ ap (λ y. Some y) ev.1) in
             let wire = device_sends net.first (scene rows place actors after m a).frames e ev.2 in
             let driven = driver_sends net.first p.driver.pipes dr.2 in (
               p.driver.pipes.rest.rest.first,

@@ -19,7 +19,7 @@ use Rattle.play_core.specs.Still.{IsPeopled}
 use Rattle.play_core.proofs.Lists.{some_is, there_is, there_below}
 use Rattle.actor_set.specs.declared.actor.Actor.{Actor}
 use Rattle.wired_law.specs.Wiring.{AreOfKind}
-use Rattle.order_law.specs.ActorParts.Parting.{Apart, AreApart, IsRingOf, ends_at, end_in}
+use Rattle.order_law.specs.ActorParts.Parting.{Apart, AreApart, IsRingOf, ends_at, end_in, hostile_apart}
 use Rattle.order_law.specs.ActorParts.Finished.{HasEnded, AreFinished}
 use Rattle.cast_law.specs.Gone.Gone.{passed_of, left_at}
 use Rattle.cast_law.proofs.GoneLemmas.Lists.{both_at, none_beyond}
@@ -46,12 +46,12 @@ all_there P xs all k x at = subst P (get_or_from_slice_get xs k x x at) (all k x
 
 module _ (rows : List QueueRow) (rings : List RingIs) (parts : List Apart) (actors : List Actor) (ended : List EndedIs) (apart : AreApart rows rings parts) (peopled : IsPeopled rows (length parts)) (done : AreFinished rows rings parts actors ended) where
   pub ended_long : length ended ≡ length rows
-  ended_long = omega (arith, done.many, AllZip-long IsRingOf rows rings apart.rings_are)
+  ended_long = omega (arith, done.many, AllZip-long (IsRingOf (hostile_apart parts)) rows rings apart.rings_are)
 
   pub kept_at : (n : ℕ) (row : QueueRow) → slice_get rows n ≡ Some row → IsKept parts ended n row
   kept_at n row at =
       let lt : n < length rows = there_below rows n row at in
-      let g = there_is rings n (omega (arith, lt, AllZip-long IsRingOf rows rings apart.rings_are)) in
+      let g = there_is rings n (omega (arith, lt, AllZip-long (IsRingOf (hostile_apart parts)) rows rings apart.rings_are)) in
       let e = there_is ended n (omega (arith, lt, ended_long)) in
       let p = there_is parts (owner_of row Producer) (peopled n row at Producer) in
       let c = there_is parts (owner_of row Consumer) (peopled n row at Consumer) in
@@ -63,7 +63,7 @@ module _ (rows : List QueueRow) (rings : List RingIs) (parts : List Apart) (acto
       let taken : e.0.consumer.entries ≡ take.0.knows.entries = ap (λ (h : Half). h.entries) has.consumer in
       let sent_then : e.0.producer.times ≡ put.0.knows.times = ap (λ (h : Half). h.times) has.producer in
       let taken_then : e.0.consumer.times ≡ take.0.knows.times = ap (λ (h : Half). h.times) has.consumer in
-      let kind : g.0.kind ≡ row.kind = (both_at IsRingOf rows rings apart.rings_are n row g.0 at g.1).0 in record {
+      let kind : g.0.kind ≡ row.kind = (both_at (IsRingOf (hostile_apart parts)) rows rings apart.rings_are n row g.0 at g.1).0 in record {
         e = e.0;
         there = e.1;
         rest = sent ∙ (has.rest ∙ ap (λ (l : List Cargo). l ++ e.0.left) (sym taken));

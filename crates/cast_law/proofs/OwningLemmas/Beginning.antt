@@ -22,7 +22,7 @@ use Rattle.actor_set.specs.Actors.{part_of}
 use Rattle.actor_set.specs.declared.actor.Actor.{Actor}
 use Rattle.actor_set.specs.Laws.Kinds.{hostiles, scene_of, sheet}
 use Rattle.cast_law.specs.Pools.Beside.{is_rogues}
-use Rattle.cast_law.specs.Pools.Owning.{BeginsBeside, IsKeptBeside, keeper_beside, owner_keepers, owner_naming}
+use Rattle.cast_law.specs.Pools.Owning.{BeginsBeside, HasOwnersBeside, IsKeptBeside, keeper_beside, owner_keepers, owner_naming}
 use Rattle.cast_law.specs.Pools.Places.{HasPools, IsPlaced, PoolPlace, place_sizes}
 use Rattle.cast_law.specs.Pools.Pooling.{AreOverQueues}
 use Rattle.cast_law.proofs.PagesLemmas.Beside.{few_all, once_all}
@@ -82,6 +82,14 @@ module _ (rows : List QueueRow) (place : PoolPlace) (cast : List Part) where
 
     pub pools_beside : (k : ℕ) → off k ≡ false → IsPool (start_table (owner_keepers rows place cast)) k (place_sizes place k)
     pools_beside k free = start_pools (owner_keepers rows place cast) k (place_sizes place k) (λ no lt. omega (arith, all_same (record { pool = k; no = no }) free cast, parts_count k no (scene_of cast) cast, once_all rows pools place cast seated placed has k no lt))
+
+-- so at the start state it has owners
+pub owners_beside : (rows : List QueueRow) (cast : List Part) (place : PoolPlace) (pools : List PoolRow) → IsPlaced rows place cast → HasPools pools place → AreSeated (sheet (scene_of cast)) rows cast → AreFilled (sheet (scene_of cast)) rows cast → HasOwnersBeside (start_history rows) rows place cast
+owners_beside rows cast place pools placed has seated filled = record {
+  table = start_table (owner_keepers rows place cast);
+  begins = begins_beside rows place cast pools placed has seated filled;
+  pools = pools_beside rows place cast pools placed has seated filled;
+}
 
 -- the actors have just the ends that the rows give them
 pub keepers_are : (rows : List QueueRow) (place : PoolPlace) (cast : List Part) → AreSeated (sheet (scene_of cast)) rows cast → AreFilled (sheet (scene_of cast)) rows cast → IsPeopled rows (length cast) → ((k : ℕ) (p : Part) → slice_get cast k ≡ Some p → AreApart (sheet (scene_of cast) p).ends) → AreKeepers rows (owner_keepers rows place cast)

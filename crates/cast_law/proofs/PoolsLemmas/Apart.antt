@@ -310,15 +310,15 @@ ends_apart ends scene (Kinds.UartDevice x) fits = one_each x.terminal.input.queu
 ends_apart ends scene (Kinds.UartDriver x) fits = ways_apart (two_pipes x.driver.pipes) fits.inputs fits.outputs
 ends_apart ends scene (Kinds.SerialVirtRx x) fits =
     let qs : List ℕ = numbers (outlet_queues x.outputs) in
-    apart_more (intake x.input.queue.0) (map outlet qs) (in_of_outs x.input.queue.0 qs) (outs_apart qs (queues_distinct (outlet_queues x.outputs) fits.outputs.apart))
+    apart_more (intake x.input.queue.0) (map outlet qs) (in_of_outs x.input.queue.0 qs) (outs_apart qs (queues_distinct (outlet_queues x.outputs) fits.0.outputs.apart))
 ends_apart ends scene (Kinds.SerialVirtTx x) fits =
     let qs : List ℕ = numbers (intake_queues x.inputs) in
     apart_more (outlet x.output.queue.0) (map intake qs) (out_of_ins x.output.queue.0 qs) (ins_apart qs (queues_distinct (intake_queues x.inputs) fits.inputs.apart))
 ends_apart ends scene (Kinds.SerialClient x) fits = one_each x.terminal.input.queue.0 x.terminal.output.queue.0
-ends_apart ends scene (Kinds.EthDevice x) fits = by_turns (device.rx_free x) (device.rx_active x) (device.tx_active x) (device.tx_free x) fits.inputs_apart fits.outputs_apart
+ends_apart ends scene (Kinds.EthDevice x) fits = by_turns (device.rx_free x) (device.rx_active x) (device.tx_active x) (device.tx_free x) fits.0.inputs_apart fits.0.outputs_apart
 ends_apart ends scene (Kinds.EthDriver x) fits = ways_apart (four_pipes x.driver.pipes) fits.inputs fits.outputs
 ends_apart ends scene (Kinds.NetVirtRx x) fits = lender_apart ends x fits.ends_fit
-ends_apart ends scene (Kinds.NetCopier x) fits = by_twos x.lease_input.queue.0 x.buffer_input.queue.0 x.buffer_output.queue.0 x.lease_output.queue.0 fits.inputs_apart fits.outputs_apart
+ends_apart ends scene (Kinds.NetCopier x) fits = by_twos x.lease_input.queue.0 x.buffer_input.queue.0 x.buffer_output.queue.0 x.lease_output.queue.0 fits.0.inputs_apart fits.0.outputs_apart
 ends_apart ends scene (Kinds.NetClient x) fits = by_turns (client.rx_active x) (client.rx_free x) (client.tx_free x) (client.tx_active x) fits.0.inputs_apart fits.0.outputs_apart
 ends_apart ends scene (Kinds.NetVirtTx x) fits = sender_apart ends x fits.ends_fit
 ends_apart ends scene (Kinds.DiskDevice x) fits = one_each (disk.req x.device) (disk.resp x.device)

@@ -35,7 +35,7 @@ use Rattle.wired_law.proofs.Wiring.{sends_on, nothing_sent}
 use Rattle.cast_law.specs.Pools.Beside.{CastCarries, RoguesAsk}
 use Rattle.cast_law.specs.Pools.Places.{PoolPlace, IsInPlace, IsPlaced}
 use Rattle.cast_law.proofs.BesideLemmas.Carrying.{call_carries}
-use Rattle.cast_law.proofs.BesideLemmas.Hands.{first_move}
+use Rattle.cast_law.proofs.BesideLemmas.Asking.{asks_on}
 use Rattle.cast_law.proofs.TurnsLemmas.{told_turns, wired_place}
 use Rattle.order_law.specs.Orders.{Turn, IsTurn, InOrder}
 use Rattle.order_law.proofs.Lists.{same_some, set_there, set_beside, get_front}
@@ -114,7 +114,8 @@ record Stands (rows : List QueueRow) (cast : List Part) (actors : List Actor) (p
   pub stands : (k : ℕ) (x : Actor) → slice_get actors k ≡ Some x → ActorStandsFor x passed
   pub over : (n : ℕ) → IsPrefix (passed.taken n) (passed.sent n)
   pub sends : ClientsSend rows cast passed
-  pub carry : (place : PoolPlace) → IsPlaced rows place cast → RoguesAsk (wild_in (hostiles cast) rows) place passed → CastCarries rows place actors (moved_of passed) passed
+  pub asks : (place : PoolPlace) → IsPlaced rows place cast → RoguesAsk (wild_in (hostiles cast) rows) place passed
+  pub carry : (place : PoolPlace) → IsPlaced rows place cast → CastCarries rows place actors (moved_of passed) passed
 
 module _ (rows : List QueueRow) (pools : List PoolRow) (cast : List Part) (in_place : IsInPlace rows pools cast) (split : (n : ℕ) (row : QueueRow) → slice_get rows n ≡ Some row → row.producer.0 ≡ row.consumer.0 → ⊥) where
   wired : IsWired rows cast
@@ -226,12 +227,18 @@ module _ (rows : List QueueRow) (pools : List PoolRow) (cast : List Part) (in_pl
     told' : (j : ℕ) (y : Actor) → slice_get actors' j ≡ Some y → ToldInTurn (scene_of (map part_of actors')) (wild_in (hostiles (map part_of actors')) rows) (names_at passed') y passed'
     told' j y at = told_turns ends' rows pools actors' passed' (subst (IsInPlace rows pools) (sym (parts' ∙ st.parts)) in_place) work' (subst (λ (c : List Part). ClientsSend rows c passed') (sym (parts' ∙ st.parts)) sends') (names_at passed') (λ n is_wild. ([], append-nil (names_at passed' n))) j y at
 
-    -- an earlier moment's requests are the first ones
-    asks_before : (off_queues : Wild) (place : PoolPlace) → RoguesAsk off_queues place passed' → RoguesAsk off_queues place passed
-    asks_before off_queues place asks blk here i q q_at is = first_move (passed.sent (blk.first + 4 + 2 * i)) (put_by t.deed (blk.first + 4 + 2 * i)) (asks blk here i q q_at is)
+    -- what it puts are reads and writes, where it is a hostile client of the block class
+    asks' : (place : PoolPlace) → IsPlaced rows place cast → RoguesAsk (wild_in (hostiles cast) rows) place passed'
+    asks' place placed = subst (λ (c : List Part). RoguesAsk (wild_in (hostiles c) rows) place passed') st.parts (asks_on rows place actors passed t.deed k x t.actor (st.each k)
+        (subst (IsPlaced rows place) (sym st.parts) placed) (subst (λ c. AreSeated (sheet (scene_of c)) rows c) (sym st.parts) seated) turn.there (st.fits k x turn.there)
+        (λ put. puts put own_moves) kinds' turn.turned (subst (λ (c : List Part). RoguesAsk (wild_in (hostiles c) rows) place passed) (sym st.parts) (st.asks place placed)))
+      where
+        puts : t.deed.event.op ≡ Do.Put → ActorEnd x (role_of t.deed.event.op) t.deed.event.queue.0 ⊎ (is_store t.deed.event.op ≡ true) → ActorEnd x Producer t.deed.event.queue.0
+        puts put (inl own) = subst (λ (o : Op). ActorEnd x (role_of o) t.deed.event.queue.0) put own
+        puts put (inr store) = let no : false ≡ true = sym (ap is_store put) ∙ store in absurd cc
 
-    carry' : (place : PoolPlace) → IsPlaced rows place cast → RoguesAsk (wild_in (hostiles cast) rows) place passed' → CastCarries rows place actors' (moved_of passed') passed'
-    carry' place placed asks = call_carries rows place actors actors' passed t.deed k (moved_of passed) (moved_of passed') (record {
+    carry' : (place : PoolPlace) → IsPlaced rows place cast → CastCarries rows place actors' (moved_of passed') passed'
+    carry' place placed = call_carries rows place actors actors' passed t.deed k (moved_of passed) (moved_of passed') (record {
       placed = subst (IsPlaced rows place) (sym (parts' ∙ st.parts)) placed;
       seated = subst (λ c. AreSeated (sheet (scene_of c)) rows c) (sym (parts' ∙ st.parts)) seated;
       filled = subst (λ c. AreFilled (sheet (scene_of c)) rows c) (sym (parts' ∙ st.parts)) in_place.filled;
@@ -243,15 +250,15 @@ module _ (rows : List QueueRow) (pools : List PoolRow) (cast : List Part) (in_pl
       works = work';
       was_told = told_of actors passed st kinds;
       told = told';
-      asks = subst (λ c. RoguesAsk (wild_in (hostiles c) rows) place passed') (sym (parts' ∙ st.parts)) asks;
+      asks = subst (λ c. RoguesAsk (wild_in (hostiles c) rows) place passed') (sym (parts' ∙ st.parts)) (asks' place placed);
       there = t.actor;
       here = set_there actors k x t.actor turn.there;
       own = own_after x t.actor t.deed.event turn.part (fits_whole (st.each k) x (st.fits k x turn.there)) turn.own;
-    }) (have_items passed) (have_items passed') (st.carry place placed (asks_before (wild_in (hostiles cast) rows) place asks))
+    }) (have_items passed) (have_items passed') (st.carry place placed)
 
     -- all goes on to hold after the turn
     next : Stands rows cast actors' passed'
-    next = record { parts = parts' ∙ st.parts; each = each'; fits = fits'; stands = stands'; over = turn.hands_over; sends = sends'; carry = carry' }
+    next = record { parts = parts' ∙ st.parts; each = each'; fits = fits'; stands = stands'; over = turn.hands_over; sends = sends'; asks = asks'; carry = carry' }
 
   -- turn by turn
   held : (turns : List Turn) (actors news : List Actor) (passed last : Passed) → Stands rows cast actors passed → InOrder actors passed turns news last → AreOfKind rows last → Stands rows cast news last
@@ -271,15 +278,17 @@ have_held rows olds news turns passed ready order kinds =
       stands = ready.stands;
       over = λ n. ([], refl);
       sends = nothing_sent rows cast;
-      carry = λ place placed asks. record { sent = λ n. refl; taken = λ n. refl; bodies = λ n calm k c at. cc; others = λ n wild k c at. cc };
+      asks = λ place placed blk there j q at wild. tt;
+      carry = λ place placed. record { sent = λ n. refl; taken = λ n. refl; bodies = λ n calm k c at. cc; others = λ n wild k c at. cc };
     } in
     let st = held rows ready.pools cast ready.in_place ready.split turns olds news nothing_passed passed begin order kinds in record {
       parts = st.parts;
       stands = st.stands;
       in_turn = told_of rows ready.pools cast ready.in_place ready.split news passed st kinds;
       sends = subst (λ (c : List Part). ClientsSend rows c passed) (sym st.parts) st.sends;
-      carry = λ place placed asks m items. (
-          let has = st.carry place (subst (IsPlaced rows place) st.parts placed) (subst (λ (c : List Part). RoguesAsk (wild_in (hostiles c) rows) place passed) st.parts asks) in
+      asks = λ place placed. subst (λ (c : List Part). RoguesAsk (wild_in (hostiles c) rows) place passed) (sym st.parts) (st.asks place (subst (IsPlaced rows place) st.parts placed));
+      carry = λ place placed m items. (
+          let has = st.carry place (subst (IsPlaced rows place) st.parts placed) in
           let same : moved_of passed ≡ m = (λ i. record { sent = λ n. items.sent n i; taken = λ n. items.taken n i }) in
           subst (λ (z : Moved). CastCarries rows place news z passed) same has
           );

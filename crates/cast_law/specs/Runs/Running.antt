@@ -30,8 +30,8 @@ pub record AreReady (rows : List QueueRow) (actors : List Actor) : Type 0 where
 
 -- actors of the same parts stand for what passed, of which nothing came out of turn at any by the
 -- names of all that was put; their clients that aren't hostile put good descriptors and requests
--- alone; and entries carry the pages that items name at all queues but those of hostile clients,
--- where these asked for reads and writes alone
+-- alone, and hostile ones of the block class reads and writes alone; and entries carry the pages
+-- that items name at all queues but those of hostile clients
 pub record HaveHeld (rows : List QueueRow) (olds news : List Actor) (passed : Passed) : Type 0 where
   pub parts : map part_of news ≡ map part_of olds
   pub stands : (k : ℕ) (x : Actor) → slice_get news k ≡ Some x → ActorStandsFor x passed
@@ -39,6 +39,7 @@ pub record HaveHeld (rows : List QueueRow) (olds news : List Actor) (passed : Pa
       → ToldInTurn (scene_of (map part_of news)) (wild_in (hostiles (map part_of news)) rows)
       (names_at passed) x passed
   pub sends : ClientsSend rows (map part_of news) passed
-  pub carry : (place : PoolPlace) → IsPlaced rows place (map part_of news)
-      → RoguesAsk (wild_in (hostiles (map part_of news)) rows) place passed → (m : Moved)
+  pub asks : (place : PoolPlace) → IsPlaced rows place (map part_of news)
+      → RoguesAsk (wild_in (hostiles (map part_of news)) rows) place passed
+  pub carry : (place : PoolPlace) → IsPlaced rows place (map part_of news) → (m : Moved)
       → HaveItems passed m → CastCarries rows place news m passed

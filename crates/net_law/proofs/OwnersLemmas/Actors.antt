@@ -5,13 +5,13 @@ use Rattle.owner_law.specs.Things.{times, names_in, Buffer, is_same, Window, Nam
 use Rattle.owner_law.specs.Keeping.{Keeps, all_taken, all_put, things_in, things_out}
 use Rattle.owner_law.proofs.Sums.{sum_flat}
 use Rattle.owner_law.proofs.Named.{carried, buffers_are, buffers_none, keeps_plain}
-use Rattle.device_model.specs.Ethernet.Devices.{rx_free, rx_active, tx_active, tx_free, DeviceRow}
+use Rattle.device_model.specs.Ethernet.Devices.{rx_free, rx_active, tx_active, tx_free, HoldingDeviceRow}
 use Rattle.device_model.specs.declared.ethernet.EthDevice.{EthDevice}
 use Rattle.net_law.specs.Owners.Ends.{AreItemsOf, device_ends, DeviceNames}
 use Rattle.net_law.proofs.OwnersLemmas.Few.{few, filled_few}
 
 -- a device
-module _ (naming : Naming) (rx tx : List Window) (d : EthDevice) (passed : Passed) (m : Moved) (names : DeviceNames naming rx tx d) (items : AreItemsOf (device_ends d) passed m) (row : DeviceRow d passed) where
+module _ (naming : Naming) (rx tx : List Window) (d : EthDevice) (passed : Passed) (m : Moved) (names : DeviceNames naming rx tx d) (items : AreItemsOf (device_ends d) passed m) (row : HoldingDeviceRow d passed) where
   device_came : (f : Thing → ℕ) → sum_by f (all_taken naming m (device_ends d)) ≡ carried naming m (rx_free d) (m.taken (rx_free d)) f + carried naming m (tx_active d) (m.taken (tx_active d)) f
   device_came f =
       let parts : sum_by f (all_taken naming m (device_ends d)) ≡ 0 + carried naming m (rx_free d) (m.taken (rx_free d)) f + 0 + carried naming m (tx_active d) (m.taken (tx_active d)) f + 0 = sum_flat f (things_in naming m) (device_ends d) in

@@ -6,12 +6,12 @@ use Rattle.owner_law.specs.Things.{times, names_in, Buffer, Window, Naming, Thin
 use Rattle.owner_law.specs.Keeping.{Keeps, all_taken, all_put, things_in, things_out}
 use Rattle.owner_law.proofs.Sums.{sum_flat}
 use Rattle.owner_law.proofs.Named.{carried, buffers_are, buffers_none, leases_are, leases_none, returns_are, returns_none, keeps_plain}
-use Rattle.net_copier.specs.Copying.{CopierRow, leased_bytes}
+use Rattle.net_copier.specs.Copying.{HoldingCopierRow, leased_bytes}
 use Rattle.net_copier.specs.declared.NetCopier.{NetCopier}
 use Rattle.net_law.specs.Owners.Ends.{AreItemsOf, copier_ends, CopierNames}
 use Rattle.net_law.proofs.OwnersLemmas.Few.{few, filled_few}
 
-module _ (naming : Naming) (leased buffers : List Window) (c : NetCopier) (passed : Passed) (m : Moved) (names : CopierNames naming leased buffers c) (items : AreItemsOf (copier_ends c) passed m) (row : CopierRow c passed) where
+module _ (naming : Naming) (leased buffers : List Window) (c : NetCopier) (passed : Passed) (m : Moved) (names : CopierNames naming leased buffers c) (items : AreItemsOf (copier_ends c) passed m) (row : HoldingCopierRow c passed) where
   abbrev came_leases : (Thing → ℕ) → ℕ
   came_leases f = carried naming m c.lease_input.queue.0 (m.taken c.lease_input.queue.0) f
 

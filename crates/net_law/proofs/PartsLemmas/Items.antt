@@ -18,7 +18,7 @@ use Rattle.buffer_kit.specs.declared.stock.Stock.{Stock}
 use Rattle.buffer_kit.specs.Entries.{all_filled, frame_of, len_of}
 use Rattle.buffer_kit.specs.Pools.{given_entry}
 use Rattle.buffer_kit.specs.Stocks.{IsStart}
-use Rattle.device_model.specs.Ethernet.Devices.{DeviceRow, rx_free as device_free, rx_active as device_active, tx_active as device_sent, tx_free as device_back}
+use Rattle.device_model.specs.Ethernet.Devices.{HoldingDeviceRow, rx_free as device_free, rx_active as device_active, tx_active as device_sent, tx_free as device_back}
 use Rattle.device_model.specs.declared.ethernet.EthDevice.{EthDevice}
 use Rattle.client_programs.specs.declared.net.program.NetProgram.{NetProgram}
 use Rattle.client_programs.specs.declared.net.program.NetProgram.TheVariants as Kind
@@ -26,7 +26,7 @@ use Rattle.client_programs.specs.Net.Programs.{program_with, program_of, sent_fo
 use Rattle.client_programs.specs.Net.Sending.{SendsFrames}
 use Rattle.client_programs.specs.Net.Clients.{ClientRow, rx_active, rx_free, tx_active, tx_free}
 use Rattle.client_programs.specs.declared.net.NetClient.{NetClient}
-use Rattle.net_copier.specs.Copying.{CopierRow, is_stray, leased_bytes}
+use Rattle.net_copier.specs.Copying.{HoldingCopierRow, is_stray, leased_bytes}
 use Rattle.net_copier.specs.declared.NetCopier.{NetCopier}
 use Rattle.owner_law.specs.Pools.Places.{by_offset, numbers_from}
 use Rattle.net_law.specs.Owners.Ends.{AreItemsOf}
@@ -55,7 +55,7 @@ sized_is [] cs = refl
 sized_is (f ∷ fs) [] = refl
 sized_is (f ∷ fs) (c ∷ cs) = ap (λ l. Rattle.buffer_kit.specs.Entries.with_len (length f) c.0 ∷ l) (sized_is fs cs)
 
-pub device_row : (scene : Scene) (d : EthDevice) (passed : Passed) (m : Moved) → AreItemsOf (net_sheet scene (device_part d)).ends passed m → DeviceRow d passed → (net_sheet scene (device_part d)).row m
+pub device_row : (scene : Scene) (d : EthDevice) (passed : Passed) (m : Moved) → AreItemsOf (net_sheet scene (device_part d)).ends passed m → HoldingDeviceRow d passed → (net_sheet scene (device_part d)).row m
 device_row scene d passed m items row =
     let long : length (map (λ (f : List ℕ). length f) d.frames) ≡ length d.frames = length-map d.frames (λ f. length f) in
     let said : FillsFrames d.frames (items_of (passed.taken (device_free d))) (items_of (passed.sent (device_active d))) (items_of (passed.taken (device_sent d))) (items_of (passed.sent (device_back d))) = record {
@@ -91,7 +91,7 @@ none_strays taken leases (x ∷ stray) is out all =
     let e : false ≡ true = sym lease.in_turn ∙ out 0 x (omega arith) in
     cc
 
-pub copier_row : (scene : Scene) (c : NetCopier) (passed : Passed) (m : Moved) → AreItemsOf (net_sheet scene (copier_part c)).ends passed m → AreLeases (passed.taken c.lease_input.queue.0) → CopierRow c passed → (net_sheet scene (copier_part c)).row m
+pub copier_row : (scene : Scene) (c : NetCopier) (passed : Passed) (m : Moved) → AreItemsOf (net_sheet scene (copier_part c)).ends passed m → AreLeases (passed.taken c.lease_input.queue.0) → HoldingCopierRow c passed → (net_sheet scene (copier_part c)).row m
 copier_row scene c passed m items leases row =
     let taken = passed.taken c.lease_input.queue.0 in
     let buffers = passed.taken c.buffer_input.queue.0 in

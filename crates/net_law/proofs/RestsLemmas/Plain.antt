@@ -16,9 +16,9 @@ use Rattle.buffer_kit.specs.Pools.{given_entry}
 use Rattle.buffer_kit.specs.Stocks.{stock_list, IsStock}
 use Rattle.buffer_kit.specs.declared.stock.Stock.{Stock}
 use Rattle.buffer_kit.proofs.Filling.{filled_length}
-use Rattle.device_model.specs.Ethernet.Devices.{FitsDevice, DeviceStandsFor, is_filling, device_round, rx_free as device_free, rx_active as device_active}
+use Rattle.device_model.specs.Ethernet.Devices.{FitsDevice, HoldingDeviceStands, is_filling, holding_device_round, rx_free as device_free, rx_active as device_active}
 use Rattle.device_model.specs.declared.ethernet.EthDevice.{EthDevice}
-use Rattle.net_copier.specs.Copying.{FitsCopier, CopierStandsFor, IfThere, IsAt, is_stray, is_taken, is_copied, is_wanting, is_returning, copier_round}
+use Rattle.net_copier.specs.Copying.{FitsCopier, HoldingCopierStands, IfThere, IsAt, is_stray, is_taken, is_copied, is_wanting, is_returning, holding_copier_round}
 use Rattle.net_copier.specs.declared.NetCopier.{NetCopier}
 use Rattle.net_copier.specs.declared.Stage.{Stage}
 use Rattle.net_copier.specs.declared.Stage.TheVariants as At
@@ -90,7 +90,7 @@ module _ (scene : Scene) (w : List Queue) (passed : Passed) (m : Moved) (h : Hav
   pipes_meet [] f st = tt
   pipes_meet (p ∷ ps) f st = (record { needs = free p st.0; agrees = f.0.input }, (record { needs = loaded p st.0; agrees = f.0.output }, pipes_meet ps f.1 st.1))
 
-  pub device_meets : (d : EthDevice) → FitsDevice (end_at w) d → DeviceStandsFor d passed → Meet (end_at w) (device_round d).posts (device_round d).needs ((net_sheet scene (device_part d)).wants m)
+  pub device_meets : (d : EthDevice) → FitsDevice (end_at w) d → HoldingDeviceStands d passed → Meet (end_at w) (holding_device_round d).posts (holding_device_round d).needs ((net_sheet scene (device_part d)).wants m)
   device_meets d f st =
       let all = ap (λ l. length l) st.filled in
       let parts = length-append (passed.sent (device_active d)) (option_to_list d.load) in
@@ -104,7 +104,7 @@ module _ (scene : Scene) (w : List Queue) (passed : Passed) (m : Moved) (h : Hav
         ),
       )
 
-  pub copier_meets : (c : NetCopier) → AreLeases (passed.taken c.lease_input.queue.0) → FitsCopier (end_at w) c → CopierStandsFor c passed → Meet (end_at w) (copier_round c).posts (copier_round c).needs ((net_sheet scene (copier_part c)).wants m)
+  pub copier_meets : (c : NetCopier) → AreLeases (passed.taken c.lease_input.queue.0) → FitsCopier (end_at w) c → HoldingCopierStands c passed → Meet (end_at w) (holding_copier_round c).posts (holding_copier_round c).needs ((net_sheet scene (copier_part c)).wants m)
   copier_meets c leases f st =
       let li = c.lease_input.queue.0 in
       let bi = c.buffer_input.queue.0 in

@@ -7,11 +7,11 @@ use Rattle.turn_kit.specs.declared.pipe.Pipe.{Pipe}
 use Rattle.pipe_driver.specs.Drivers.{PipesRow}
 use Rattle.pipe_driver.specs.declared.pipes.Pipes.{Pipes}
 use Rattle.eth_driver.specs.Four.{four_pipes}
-use Rattle.device_model.specs.Ethernet.Devices.{DeviceRow}
+use Rattle.device_model.specs.Ethernet.Devices.{HoldingDeviceRow}
 use Rattle.device_model.specs.declared.ethernet.EthDevice.{EthDevice}
 use Rattle.client_programs.specs.Net.Clients.{ClientRow}
 use Rattle.client_programs.specs.declared.net.NetClient.{NetClient}
-use Rattle.net_copier.specs.Copying.{CopierRow, leased_bytes}
+use Rattle.net_copier.specs.Copying.{HoldingCopierRow, leased_bytes}
 use Rattle.net_copier.specs.declared.NetCopier.{NetCopier}
 use Rattle.buffer_kit.specs.Virtualising.{from_queues, to_queues}
 use Rattle.net_virt_rx.specs.Receiving.{RxRow}
@@ -23,10 +23,10 @@ use Rattle.net_law.specs.Receiving.{HandsOver, AreRoomy}
 pub record IsReceiveHalf (d : EthDevice) (p : Pipes (Pipes (Pipes Pipe))) (v : NetVirtRx)
     (copiers : List NetCopier) (passed : Passed) : Type 0 where
   pub hands_over : HandsOver passed
-  pub device : DeviceRow d passed
+  pub device : HoldingDeviceRow d passed
   pub driver : PipesRow (four_pipes p) passed
   pub virtualiser : RxRow v passed
-  pub copier : (k : ℕ) (c : NetCopier) → slice_get copiers k ≡ Some c → CopierRow c passed
+  pub copier : (k : ℕ) (c : NetCopier) → slice_get copiers k ≡ Some c → HoldingCopierRow c passed
   pub to_driver : p.first.input.queue.0 ≡ v.ends.output.queue.0
   pub to_device : d.free.queue.0 ≡ p.first.output.queue.0
   pub from_device : p.rest.first.input.queue.0 ≡ d.active.queue.0

@@ -17,7 +17,7 @@ use Rattle.buffer_kit.specs.Pools.{given_entry}
 use Rattle.buffer_kit.proofs.TwoLists.{get_front, get_behind}
 use Rattle.client_programs.specs.Net.Clients as client
 use Rattle.client_programs.specs.declared.net.NetClient.{NetClient}
-use Rattle.net_copier.specs.Copying.{CopierRow, leased_bytes}
+use Rattle.net_copier.specs.Copying.{HoldingCopierRow, leased_bytes}
 use Rattle.net_copier.specs.declared.NetCopier.{NetCopier}
 use Rattle.net_law.specs.Receiving.{HandsOver, HasRoom, IsRoomy, AreRoomy}
 use Rattle.net_law.proofs.PartsLemmas.Leasing.{prefix_get}
@@ -60,7 +60,7 @@ filled_long size bytes (item, Carried.Lease lease) l = absurd l.1
 
 -- a client and its copier: the client gives its own buffers and then those that the copier filled,
 -- which are buffers that it gave before
-module _ (c : NetClient) (k : NetCopier) (passed : Passed) (hands : HandsOver passed) (some : 1 ≤ c.stock.buffers) (row : client.ClientRow c passed) (copies : CopierRow k passed)
+module _ (c : NetClient) (k : NetCopier) (passed : Passed) (hands : HandsOver passed) (some : 1 ≤ c.stock.buffers) (row : client.ClientRow c passed) (copies : HoldingCopierRow k passed)
     (to : k.buffer_output.queue.0 ≡ client.rx_active c) (from : k.buffer_input.queue.0 ≡ client.rx_free c) where
   abbrev gave : List Cargo
   gave = passed.sent (client.rx_free c)

@@ -7,9 +7,9 @@ use Rattle.play_core.specs.Wants.{intake, outlet}
 use Rattle.owner_law.specs.Things.{Naming}
 use Rattle.turn_kit.specs.declared.pipe.Pipe.{Pipe}
 use Rattle.pipe_driver.specs.Drivers.{PipesRow}
-use Rattle.device_model.specs.Ethernet.Devices.{rx_free, rx_active, tx_active, tx_free, DeviceRow}
+use Rattle.device_model.specs.Ethernet.Devices.{rx_free, rx_active, tx_active, tx_free, HoldingDeviceRow}
 use Rattle.device_model.specs.declared.ethernet.EthDevice.{EthDevice}
-use Rattle.net_copier.specs.Copying.{CopierRow, leased_bytes}
+use Rattle.net_copier.specs.Copying.{HoldingCopierRow, leased_bytes}
 use Rattle.net_copier.specs.declared.NetCopier.{NetCopier}
 use Rattle.net_law.specs.Parts.Naming.{NamesPart, NameWay}
 use Rattle.net_law.specs.Parts.Parts.{Way}
@@ -19,7 +19,7 @@ use Rattle.owner_law.specs.Pools.Handing.{HandsOn}
 use Rattle.net_quiet.proofs.PoolsLemmas.Carrying.{takes_here, takes_rest, puts_none, puts_in, puts_out, passed_on, filled_on, leased_on}
 
 module _ (naming : Naming) (scene : Scene) (passed : Passed) (m : Moved) where
-  pub device_on : (d : EthDevice) → NamesPart naming scene (device_part d) → DeviceRow d passed → HandsOn naming m passed (net_sheet scene (device_part d)).ends
+  pub device_on : (d : EthDevice) → NamesPart naming scene (device_part d) → HoldingDeviceRow d passed → HandsOn naming m passed (net_sheet scene (device_part d)).ends
   device_on d names row takes =
       let first : List Seat = outlet (rx_active d) ∷ intake (tx_active d) ∷ outlet (tx_free d) ∷ [] in
       let second : List Seat = intake (tx_active d) ∷ outlet (tx_free d) ∷ [] in
@@ -44,7 +44,7 @@ module _ (naming : Naming) (scene : Scene) (passed : Passed) (m : Moved) where
   pub driver_on : (ps : List Pipe) → NamesPart naming scene (driver_part ps) → PipesRow ps passed → HandsOn naming m passed (net_sheet scene (driver_part ps)).ends
   driver_on ps names row = ways_on ps names row
 
-  pub copier_on : (c : NetCopier) → NamesPart naming scene (copier_part c) → CopierRow c passed → HandsOn naming m passed (net_sheet scene (copier_part c)).ends
+  pub copier_on : (c : NetCopier) → NamesPart naming scene (copier_part c) → HoldingCopierRow c passed → HandsOn naming m passed (net_sheet scene (copier_part c)).ends
   copier_on c names row takes =
       let li : ℕ = c.lease_input.queue.0 in
       let bi : ℕ = c.buffer_input.queue.0 in

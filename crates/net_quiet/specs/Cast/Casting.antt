@@ -7,12 +7,12 @@ use Rattle.turn_kit.specs.declared.pipe.Pipe.{Pipe}
 use Rattle.pipe_driver.specs.Drivers.{PipesRow}
 use Rattle.pipe_driver.specs.declared.pipes.Pipes.{Pipes}
 use Rattle.eth_driver.specs.Four.{four_pipes}
-use Rattle.device_model.specs.Ethernet.Devices.{DeviceRow, rx_free, rx_active}
+use Rattle.device_model.specs.Ethernet.Devices.{HoldingDeviceRow, rx_free, rx_active}
 use Rattle.device_model.specs.declared.ethernet.EthDevice.{EthDevice}
 use Rattle.buffer_kit.specs.Virtualising.{from_queues, to_queues}
 use Rattle.net_virt_rx.specs.Receiving.{RxRow}
 use Rattle.net_virt_rx.specs.declared.NetVirtRx.{NetVirtRx}
-use Rattle.net_copier.specs.Copying.{CopierRow}
+use Rattle.net_copier.specs.Copying.{HoldingCopierRow}
 use Rattle.net_copier.specs.declared.NetCopier.{NetCopier}
 use Rattle.client_programs.specs.Net.Clients as client
 use Rattle.client_programs.specs.declared.net.NetClient.{NetClient}
@@ -28,7 +28,7 @@ pub record IsDeviceAt (first : ℕ) (frames : List (List ℕ)) (d : EthDevice) (
   pub free : rx_free d ≡ first
   pub active : rx_active d ≡ first + 1
   pub frames_are : d.frames ≡ frames
-  pub row : DeviceRow d passed
+  pub row : HoldingDeviceRow d passed
 
 -- a driver has the class's queues on both sides, and its row holds
 pub record IsDriverAt (first : ℕ) (p : Pipes (Pipes (Pipes Pipe))) (passed : Passed) : Type 0 where
@@ -47,7 +47,7 @@ pub record IsReceiverAt (first : ℕ) (pool : PoolAt) (macs : List Mac) (v : Net
 -- a copier has the queues of the client of a number, and its row holds
 pub record IsCopierAt (first k : ℕ) (c : NetCopier) (passed : Passed) : Type 0 where
   pub part : copier_part c ≡ copier_at first k
-  pub row : CopierRow c passed
+  pub row : HoldingCopierRow c passed
 
 -- a client of a number receives in buffers as long as each of these frames, of which it has some,
 -- and its row holds

@@ -8,7 +8,7 @@ use Rattle.wire_core.specs.declared.names.QueueRow.{QueueRow}
 use Rattle.wire_core.specs.Ends.{Role, Consumer, Producer}
 use Rattle.wire_core.specs.Journal.{owner_of}
 use Rattle.spsc_queue.specs.Known.Ends.{EndIs, RingIs}
-use Rattle.order_law.specs.ActorParts.Parting.{end_in, IsRingOf}
+use Rattle.order_law.specs.ActorParts.Parting.{end_in}
 use Rattle.order_law.specs.ActorParts.Opening.{first_half, opened_at, opened_from}
 
 abbrev End : Type 0
@@ -19,7 +19,7 @@ Pair = QueueRow × RingIs
 
 -- an end as its ring was opened
 abbrev pub fresh : Role → Pair → EndIs
-fresh r x = record { ring = x.1.id; knows = first_half r x.0.kind }
+fresh r x = record { ring = x.1.id; knows = first_half r x.0.kind x.1.wild }
 
 -- where one of those ends comes from
 pub record ComesFrom (r : Role) (k n : ℕ) (xs : List Pair) (e : End) : Type 0 where
@@ -106,7 +106,7 @@ zip_there (r ∷ rows) [] n x at = cc
 zip_there (r ∷ rows) (g ∷ rings) zero x at = let is : (r, g) ≡ x = same_pair (r, g) x at in (ap (λ (z : Pair). Some z.0) is, ap (λ (z : Pair). Some z.1) is)
 zip_there (r ∷ rows) (g ∷ rings) (suc n) x at = zip_there rows rings n x at
 
-pub ring_there : (rows : List QueueRow) (rings : List RingIs) → AllZip IsRingOf rows rings → (n : ℕ) (row : QueueRow) → slice_get rows n ≡ Some row → (ring : RingIs) × (slice_get (zip rows rings) n ≡ Some (row, ring))
+pub ring_there : {R : QueueRow → RingIs → Type 0} (rows : List QueueRow) (rings : List RingIs) → AllZip R rows rings → (n : ℕ) (row : QueueRow) → slice_get rows n ≡ Some row → (ring : RingIs) × (slice_get (zip rows rings) n ≡ Some (row, ring))
 ring_there [] [] all n row at = cc
 ring_there [] (g ∷ rings) all n row at = absurd all
 ring_there (r ∷ rows) [] all n row at = absurd all

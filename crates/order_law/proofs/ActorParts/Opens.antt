@@ -1,19 +1,21 @@
 -- Rings that are opened one by one, each with its ends.
-use Rattle.std.proofs.Common.{◌≡◌, ◌==◌, ◌<◌, ◌≤◌, ◌+◌, ◌++◌, ℕ, zero, suc, if◌then◌else◌, Some, List, [], ◌∷◌, length, take, slice_get, get_or, refl, sym, ap, ◌∙◌, subst, arith, append-nil, append_assoc}
+use Rattle.std.proofs.Common.{◌≡◌, ◌==◌, ◌<◌, ◌≤◌, ◌+◌, ◌++◌, ℕ, zero, suc, if◌then◌else◌, Some, List, [], ◌∷◌, length, take, slice_get, get_or, map, refl, sym, ap, ◌∙◌, subst, arith, append-nil, append_assoc}
 use Rattle.std.specs.List.{AllZip, zip}
 use Rattle.std.proofs.lemmas.List.{take_all}
 use Rattle.wire_core.specs.declared.names.QueueId.{QueueId}
 use Rattle.wire_core.specs.declared.names.QueueRow.{QueueRow}
 use Rattle.wire_core.specs.Ends.{Role, Consumer, Producer}
-use Rattle.wire_core.specs.Journal.{owner_of}
+use Rattle.wire_core.specs.Journal.{Hostiles, owner_of}
 use Rattle.spsc_queue.specs.Known.Ends.{EndIs, RingIs}
-use Rattle.spsc_queue.specs.Rule.{first_producer, first_consumer}
+use Rattle.actor_set.specs.Actors.{part_anew, part_of}
+use Rattle.actor_set.specs.Laws.Kinds.{hostiles}
 use Rattle.actor_set.specs.declared.actor.Actor.{Actor}
 use Rattle.order_law.specs.ActorParts.Parting.{ends_at, IsRingOf}
 use Rattle.order_law.specs.ActorParts.Opening.{first_half, opened_at, opened_from, IsForgotten}
 use Rattle.order_law.specs.declared.actor_parts.worker.Worker.{Worker}
 use Rattle.order_law.specs.ActorParts.Given.{Kept, apart_of, given, IsAlone, GivesProducer, GivesConsumer}
 use Rattle.order_law.specs.ActorParts.Opened.{AreOpened}
+use Rattle.order_law.proofs.ActorParts.Hosting.{parts_anew, anew_hostiles}
 
 abbrev End : Type 0
 End = QueueId × EndIs
@@ -30,10 +32,10 @@ zip_more [] rings row ring lt at = absurd (omega (arith, lt))
 zip_more (r ∷ rows) [] row ring lt at = ap (λ (z : QueueRow). (z, ring) ∷ []) (sym at)
 zip_more (r ∷ rows) (g ∷ rings) row ring lt at = ap (λ (l : List (QueueRow × RingIs)). (r, g) ∷ l) (zip_more rows rings row ring (omega (arith, lt)) at)
 
-rings_more : (rows : List QueueRow) (rings : List RingIs) (row : QueueRow) (ring : RingIs) → length rings < length rows → row ≡ get_or rows (length rings) row → AllZip IsRingOf (take (length rings) rows) rings → IsRingOf row ring → AllZip IsRingOf (take (length (rings ++ ring ∷ [])) rows) (rings ++ ring ∷ [])
-rings_more [] rings row ring lt at all is = absurd (omega (arith, lt))
-rings_more (r ∷ rows) [] row ring lt at all is = (subst (λ (z : QueueRow). IsRingOf z ring) at is, tt)
-rings_more (r ∷ rows) (g ∷ rings) row ring lt at all is = (all.0, rings_more rows rings row ring (omega (arith, lt)) at all.1 is)
+rings_more : (R : QueueRow → RingIs → Type 0) (rows : List QueueRow) (rings : List RingIs) (row : QueueRow) (ring : RingIs) → length rings < length rows → row ≡ get_or rows (length rings) row → AllZip R (take (length rings) rows) rings → R row ring → AllZip R (take (length (rings ++ ring ∷ [])) rows) (rings ++ ring ∷ [])
+rings_more R [] rings row ring lt at all is = absurd (omega (arith, lt))
+rings_more R (r ∷ rows) [] row ring lt at all is = (subst (λ (z : QueueRow). R z ring) at is, tt)
+rings_more R (r ∷ rows) (g ∷ rings) row ring lt at all is = (all.0, rings_more R rows rings row ring (omega (arith, lt)) at all.1 is)
 
 zip_long : (rows : List QueueRow) (rings : List RingIs) → length rings ≤ length rows → length (zip (take (length rings) rows) rings) ≡ length rings
 zip_long rows [] le = none rows
@@ -45,7 +47,7 @@ zip_long [] (g ∷ rings) le = absurd (omega (arith, le))
 zip_long (r ∷ rows) (g ∷ rings) le = let h = zip_long rows rings (omega (arith, le)) in omega (arith, h)
 
 -- what an actor was given is what the row gives it
-given_here : (r : Role) (row : QueueRow) (ring : RingIs) (n j : ℕ) (x : End) → x ≡ (record { 0 = n }, record { ring = ring.id; knows = first_half r row.kind }) → given (owner_of row r) j x ≡ opened_at r j n (row, ring)
+given_here : (r : Role) (row : QueueRow) (ring : RingIs) (n j : ℕ) (x : End) → x ≡ (record { 0 = n }, record { ring = ring.id; knows = first_half r row.kind ring.wild }) → given (owner_of row r) j x ≡ opened_at r j n (row, ring)
 given_here r row ring n j x is = ap (λ (y : End). if owner_of row r == j then y ∷ [] else []) is
 
 -- where nobody was given an end yet
@@ -75,14 +77,18 @@ none_opened rows actors parts all = record {
     none Consumer k p a = a.no_consumer
     none Producer k p a = a.no_producer
 
+-- who is hostile among them was so before
+pub hosts_same : (rows : List QueueRow) (actors : List Actor) (rings : List RingIs) (parts : List Kept) → AreOpened rows actors rings parts → hostiles (map (λ (p : Kept). part_of p.0.actor) parts) ≡ hostiles (map part_of actors)
+hosts_same rows actors rings parts opened = ap hostiles (parts_anew actors parts opened.many (λ k p at. let x = opened.actors_are k p at in (x.0, x.1, x.2.part))) ∙ anew_hostiles actors
+
 -- one ring more
 pub opened_on : (rows : List QueueRow) (actors : List Actor) (rings : List RingIs) (old mid new : List Kept) (row : QueueRow) (ring : RingIs) (queue : QueueId) (makes takes : EndIs)
     → length rings < length rows → row ≡ get_or rows (length rings) row → queue.0 ≡ length rings
-    → IsRingOf row ring → makes ≡ record { ring = ring.id; knows = first_producer row.kind } → takes ≡ record { ring = ring.id; knows = first_consumer row.kind }
+    → IsRingOf (hostiles (map (λ (p : Kept). part_of p.0.actor) old)) row ring → makes ≡ record { ring = ring.id; knows = first_half Producer row.kind ring.wild } → takes ≡ record { ring = ring.id; knows = first_half Consumer row.kind ring.wild }
     → GivesProducer row.producer.0 (queue, makes) old mid → GivesConsumer row.consumer.0 (queue, takes) mid new
     → AreOpened (take (length rings) rows) actors rings old → AreOpened (take (length (rings ++ ring ∷ [])) rows) actors (rings ++ ring ∷ []) new
 opened_on rows actors rings old mid new row ring queue makes takes lt at number is made taken first second was = record {
-  rings_are = rings_more rows rings row ring lt at was.rings_are is;
+  rings_are = rings_more (IsRingOf (hostiles (map part_of actors))) rows rings row ring lt at was.rings_are (subst (λ (h : Hostiles). IsRingOf h row ring) (hosts_same (take (length rings) rows) actors rings old was) is);
   many = let a = second.many in let b = first.many in let c = was.many in omega (arith, a, b, c);
   actors_are = λ k q there.
       let m = second.each k q there in
@@ -99,11 +105,11 @@ opened_on rows actors rings old mid new row ring queue makes takes lt at number 
     place : length all ≡ length rings
     place = zip_long rows rings (omega (arith, lt))
 
-    maker : ◌≡◌ {A = End} (queue, makes) (record { 0 = length rings }, record { ring = ring.id; knows = first_producer row.kind })
-    maker = ap {B = End} (λ (e : EndIs). (queue, e)) made ∙ ap {B = End} (λ (n : ℕ). (record { 0 = n }, record { ring = ring.id; knows = first_producer row.kind })) number
+    maker : ◌≡◌ {A = End} (queue, makes) (record { 0 = length rings }, record { ring = ring.id; knows = first_half Producer row.kind ring.wild })
+    maker = ap {B = End} (λ (e : EndIs). (queue, e)) made ∙ ap {B = End} (λ (n : ℕ). (record { 0 = n }, record { ring = ring.id; knows = first_half Producer row.kind ring.wild })) number
 
-    taker : ◌≡◌ {A = End} (queue, takes) (record { 0 = length rings }, record { ring = ring.id; knows = first_consumer row.kind })
-    taker = ap {B = End} (λ (e : EndIs). (queue, e)) taken ∙ ap {B = End} (λ (n : ℕ). (record { 0 = n }, record { ring = ring.id; knows = first_consumer row.kind })) number
+    taker : ◌≡◌ {A = End} (queue, takes) (record { 0 = length rings }, record { ring = ring.id; knows = first_half Consumer row.kind ring.wild })
+    taker = ap {B = End} (λ (e : EndIs). (queue, e)) taken ∙ ap {B = End} (λ (n : ℕ). (record { 0 = n }, record { ring = ring.id; knows = first_half Consumer row.kind ring.wild })) number
 
     more : (r : Role) (k : ℕ) → opened_from r k 0 (zip (take (length (rings ++ ring ∷ [])) rows) (rings ++ ring ∷ [])) ≡ opened_from r k 0 all ++ opened_at r k (length rings) (row, ring)
     more r k =

@@ -8,7 +8,7 @@ use Rattle.wire_core.specs.Ends.{Role}
 use Rattle.wire_core.specs.Journal.{owner_of}
 use Rattle.spsc_queue.specs.Known.Ends.{EndIs, RingIs}
 use Rattle.seat_wires.specs.Places.{stands_at, joined_get}
-use Rattle.order_law.specs.ActorParts.Parting.{Apart, ends_at, end_in, AreApart, IsRingOf}
+use Rattle.order_law.specs.ActorParts.Parting.{Apart, ends_at, end_in, AreApart, IsRingOf, hostile_apart}
 use Rattle.order_law.specs.ActorParts.Given.{Kept, apart_of}
 use Rattle.order_law.specs.ActorParts.Placing.{placed, AreWithin, all_placed}
 use Rattle.order_law.specs.ActorParts.Finished.{OwnEnd}
@@ -120,7 +120,7 @@ ends_of r p = ends_at (apart_of p) r
 
 module _ (rows : List QueueRow) (rings : List RingIs) (parts : List Kept) (apart : AreApart rows rings (map apart_of parts)) (peers : (n : ℕ) (row : QueueRow) → slice_get rows n ≡ Some row → (r : Role) → owner_of row r < length parts) (start : List (Option EndIs)) (long : length start ≡ length rings) where
   row_there : (n : ℕ) (ring : RingIs) → slice_get rings n ≡ Some ring → (row : QueueRow) × (slice_get rows n ≡ Some row)
-  row_there n ring is = let lt = get_within rings n ring is in get_there rows n (omega (arith, lt, AllZip-long IsRingOf rows rings apart.rings_are))
+  row_there n ring is = let lt = get_within rings n ring is in get_there rows n (omega (arith, lt, AllZip-long (IsRingOf (hostile_apart (map apart_of parts))) rows rings apart.rings_are))
 
   -- the end that the owner has stands at its place
   pub own_stands : (r : Role) (n : ℕ) (row : QueueRow) (ring : RingIs) (e : EndIs) → slice_get rows n ≡ Some row → slice_get rings n ≡ Some ring → OwnEnd (map apart_of parts) row r n e → slice_get (all_placed (ends_of r) parts start) n ≡ Some (Some e)

@@ -1,5 +1,5 @@
 -- Queues that go on from ended rings.
-use Rattle.std.proofs.Common.{◌≡◌, ◌+◌, ◌++◌, ℕ, Bool, true, nat_lt, Some, List, All, length, length-append, slice_get, refl, sym, ap, ◌∙◌, subst, arith}
+use Rattle.std.proofs.Common.{◌≡◌, ◌+◌, ◌++◌, ℕ, Bool, true, false, not, nat_lt, Some, List, All, length, length-append, slice_get, refl, sym, ap, ◌∙◌, subst, arith}
 use Rattle.std.specs.List.{zip}
 use Rattle.std.proofs.lemmas.Bool.{lt-ltb}
 use Rattle.std.proofs.lemmas.List.{length-map, map-append}
@@ -13,7 +13,7 @@ use Rattle.wire_core.specs.declared.names.BellState.{BellState}
 use Rattle.wire_core.specs.Deeds.{Cargo}
 use Rattle.wire_core.specs.Bells.{BellHolds}
 use Rattle.wire_core.specs.Ends.{Role, Consumer, Producer, End}
-use Rattle.wire_core.specs.Journal.{Track, Tally, IsShown, TrackHolds, Flows, history_at, start_track, owner_of, is_sent, is_open}
+use Rattle.wire_core.specs.Journal.{Hostiles, Track, Tally, is_calm, IsShown, TrackHolds, Flows, history_at, start_track, owner_of, is_sent, is_open}
 use Rattle.wire_core.specs.Queues.{Queue, queue_at, no_queue, end_at, end_of, items_of}
 use Rattle.spsc_queue.specs.declared.view.Half.{Half}
 use Rattle.spsc_queue.specs.Known.Ends.{EndIs, RingIs, EndedIs}
@@ -25,14 +25,14 @@ use Rattle.plain_wires.specs.Adopted.{IsEndedOf, adopted, all_adopted}
 use Rattle.actor_set.specs.declared.actor.Actor.{Actor}
 use Rattle.actor_set.specs.Adopting.Looks.{SameButLook}
 use Rattle.actor_set.proofs.AdoptingLemmas.Looks.{fits_anew}
-use Rattle.order_law.specs.ActorParts.Parting.{Apart, AreApart, IsRingOf, apart_end}
+use Rattle.order_law.specs.ActorParts.Parting.{Apart, AreApart, IsRingOf, apart_end, hostile_apart}
 use Rattle.order_law.specs.ActorParts.Finished.{HasEnded, OwnEnd, AreFinished}
 use Rattle.order_law.specs.Ended.Tracks.{track_of, TellsEnds}
 use Rattle.order_law.specs.Ended.Leaving.{history_left, GoesOnAt, AreLeft}
 use Rattle.order_law.proofs.EndedLemmas.Lists.{zip_get, zip_length, zip_all, all_at, all_long, same_less}
 
 -- of one queue, where its ring had this
-module _ (row : QueueRow) (ring : RingIs) (p c : EndIs) (e : EndedIs) (of_ring : IsRingOf row ring) (has : HasEnded ring p c e) where
+module _ (hostile : Hostiles) (row : QueueRow) (ring : RingIs) (p c : EndIs) (e : EndedIs) (of_ring : IsRingOf hostile row ring) (has : HasEnded ring p c e) where
   sent_is : e.producer.entries ≡ p.knows.entries
   sent_is = ap (λ (h : Half). h.entries) has.producer
 
@@ -69,18 +69,23 @@ module _ (row : QueueRow) (ring : RingIs) (p c : EndIs) (e : EndedIs) (of_ring :
   open_same : is_open row (track_of e) ≡ nat_lt (length e.left) ring.id.slots
   open_same = let long = sent_long in let cap = of_ring.1 in same_less (length (items_of e.producer.entries)) (length (items_of e.consumer.entries) + row.capacity) (length e.left) ring.id.slots (λ lt. omega (arith, lt, long, cap)) (λ le. omega (arith, le, long, cap))
 
-  pub ring_holds : TrackHolds row (track_of e)
-  ring_holds = record {
-    forward = subst (λ (b : Bool). BellHolds e.forward b (length (items_of e.producer.entries))) (sym sent_same) (subst (λ (n : ℕ). BellHolds e.forward (nat_lt 0 (length e.left)) n) (sym sent_count) has.forward);
-    backward = subst (λ (b : Bool). BellHolds e.backward b (length (items_of e.consumer.entries))) (sym open_same) (subst (λ (n : ℕ). BellHolds e.backward (nat_lt (length e.left) ring.id.slots) n) (sym taken_count) has.backward);
+  -- where no end was hostile the ring wasn't wild
+  tame : is_calm hostile row ≡ true → ring.wild ≡ false
+  tame calm = of_ring.2 ∙ ap not calm
+
+  pub ring_holds : is_calm hostile row ≡ true → TrackHolds row (track_of e)
+  ring_holds calm = let bells = has.bells (tame calm) in record {
+    forward = subst (λ (b : Bool). BellHolds e.forward b (length (items_of e.producer.entries))) (sym sent_same) (subst (λ (n : ℕ). BellHolds e.forward (nat_lt 0 (length e.left)) n) (sym sent_count) bells.0);
+    backward = subst (λ (b : Bool). BellHolds e.backward b (length (items_of e.consumer.entries))) (sym open_same) (subst (λ (n : ℕ). BellHolds e.backward (nat_lt (length e.left) ring.id.slots) n) (sym taken_count) bells.1);
   }
 
   pub ring_tells : TellsEnds p.knows c.knows (track_of e)
   ring_tells = record {
     sent = ap items_of sent_is;
     taken = ap items_of taken_is;
-    forward = has.forward_is;
-    backward = has.backward_is;
+    forward = has.forward;
+    backward = has.backward;
+    words = λ wild. has.told (sym has.producer_sort ∙ wild);
     producer = ap (λ (h : Half). let t : Tally = record { noes = h.noes; steps = steps_made h } in t) has.producer;
     consumer = ap (λ (h : Half). let t : Tally = record { noes = h.noes; steps = steps_made h } in t) has.consumer;
   }
@@ -98,15 +103,15 @@ module _ (row : QueueRow) (ring : RingIs) (p c : EndIs) (e : EndedIs) (of_ring :
 
   -- what an owner knew of its end is what the queue has, but for its look
   pub taker_same : SameButLook (end_known (Some c)) (end_of true row.kind (track_of e).bells Consumer)
-  taker_same = record { owned = refl; kind = sym (has.consumer_kind ∙ of_ring.0); waiter = ap (λ (b : BellState). b.waiter) has.forward_is; ringer = ap (λ (b : BellState). b.ringer) has.backward_is }
+  taker_same = record { owned = refl; kind = sym (has.consumer_kind ∙ of_ring.0); waiter = ap (λ (b : BellState). b.waiter) has.forward; ringer = ap (λ (b : BellState). b.ringer) has.backward }
 
   pub putter_same : SameButLook (end_known (Some p)) (end_of true row.kind (track_of e).bells Producer)
-  putter_same = record { owned = refl; kind = sym (has.producer_kind ∙ of_ring.0); waiter = ap (λ (b : BellState). b.waiter) has.backward_is; ringer = ap (λ (b : BellState). b.ringer) has.forward_is }
+  putter_same = record { owned = refl; kind = sym (has.producer_kind ∙ of_ring.0); waiter = ap (λ (b : BellState). b.waiter) has.backward; ringer = ap (λ (b : BellState). b.ringer) has.forward }
 
 -- what is left at a queue of a row
 record Left (parts : List Apart) (ended : List EndedIs) (n : ℕ) (row : QueueRow) : Type 0 where
   pub ring : RingIs
-  pub of_ring : IsRingOf row ring
+  pub of_ring : IsRingOf (hostile_apart parts) row ring
   pub e : EndedIs
   pub there : slice_get ended n ≡ Some e
   pub has : (p c : EndIs) → OwnEnd parts row Producer n p → OwnEnd parts row Consumer n c → HasEnded ring p c e
@@ -116,8 +121,11 @@ record Left (parts : List Apart) (ended : List EndedIs) (n : ℕ) (row : QueueRo
   pub own_c : OwnEnd parts row Consumer n c
 
 module _ (rows : List QueueRow) (rings : List RingIs) (parts : List Apart) (actors : List Actor) (ended : List EndedIs) (apart : AreApart rows rings parts) (peopled : IsPeopled rows (length parts)) (done : AreFinished rows rings parts actors ended) where
+  abbrev hostile : Hostiles
+  hostile = hostile_apart parts
+
   rings_long : length rings ≡ length rows
-  rings_long = all_long IsRingOf rows rings apart.rings_are
+  rings_long = all_long (IsRingOf hostile) rows rings apart.rings_are
 
   ended_long : length ended ≡ length rows
   ended_long = done.many ∙ rings_long
@@ -136,7 +144,7 @@ module _ (rows : List QueueRow) (rings : List RingIs) (parts : List Apart) (acto
       let p = own_end Producer n row at in
       let c = own_end Consumer n row at in record {
         ring = g.0;
-        of_ring = all_at IsRingOf rows rings apart.rings_are n row g.0 at g.1;
+        of_ring = all_at (IsRingOf hostile) rows rings apart.rings_are n row g.0 at g.1;
         e = e.0;
         there = e.1;
         has = λ x y own_x own_y. done.each n row g.0 e.0 at g.1 e.1 x y own_x own_y;
@@ -164,10 +172,10 @@ module _ (rows : List QueueRow) (rings : List RingIs) (parts : List Apart) (acto
       let h = l.has l.p l.c l.own_p l.own_c in
       let queue = sym (queue_is n row at l.e l.there) in
       let track = sym (track_is n l.e l.there) in record {
-        shown = subst (λ (z : Queue × Track). IsShown row z.0 z.1) (λ i. (queue i, track i)) (ring_shown row l.ring l.p l.c l.e l.of_ring h);
-        bells_hold = subst (TrackHolds row) track (ring_holds row l.ring l.p l.c l.e l.of_ring h);
-        flows = subst (Flows row) track (ring_flows row l.ring l.p l.c l.e l.of_ring h);
-        tells = λ p c own_p own_c. subst (TellsEnds p.knows c.knows) track (ring_tells row l.ring p c l.e l.of_ring (l.has p c own_p own_c));
+        shown = subst (λ (z : Queue × Track). IsShown row z.0 z.1) (λ i. (queue i, track i)) (ring_shown hostile row l.ring l.p l.c l.e l.of_ring h);
+        bells_hold = λ calm. subst (TrackHolds row) track (ring_holds hostile row l.ring l.p l.c l.e l.of_ring h calm);
+        flows = subst (Flows row) track (ring_flows hostile row l.ring l.p l.c l.e l.of_ring h);
+        tells = λ p c own_p own_c. subst (TellsEnds p.knows c.knows) track (ring_tells hostile row l.ring p c l.e l.of_ring (l.has p c own_p own_c));
       }
 
   pub same_end : (k : ℕ) (p : Apart) → slice_get parts k ≡ Some p → (r : Role) (n : ℕ) (row : QueueRow) → slice_get rows n ≡ Some row → owner_of row r ≡ k → SameButLook (apart_end p r n) (end_at world r n)
@@ -182,20 +190,20 @@ module _ (rows : List QueueRow) (rings : List RingIs) (parts : List Apart) (acto
       subst (λ (z : End × End). SameButLook z.0 z.1) (λ i. (sym was i, sym there i)) (by r l e.0 own)
     where
       by : (r : Role) (l : Left parts ended n row) (e : EndIs) → OwnEnd parts row r n e → SameButLook (end_known (Some e)) (end_of true row.kind (track_of l.e).bells r)
-      by Consumer l e own = taker_same row l.ring l.p e l.e l.of_ring (l.has l.p e l.own_p own)
-      by Producer l e own = putter_same row l.ring e l.c l.e l.of_ring (l.has e l.c own l.own_c)
+      by Consumer l e own = taker_same hostile row l.ring l.p e l.e l.of_ring (l.has l.p e l.own_p own)
+      by Producer l e own = putter_same hostile row l.ring e l.c l.e l.of_ring (l.has e l.c own l.own_c)
 
   pub are_left : AreLeft rows parts ended
   are_left = record {
     ended_of = zip_all IsEndedOf rows ended ended_long (λ n row e at there.
         let l = left_at n row at in
         let h = l.has l.p l.c l.own_p l.own_c in
-        subst (IsEndedOf row) (some_is (sym l.there ∙ there)) (ring_ended row l.ring l.p l.c l.e l.of_ring h));
+        subst (IsEndedOf row) (some_is (sym l.there ∙ there)) (ring_ended hostile row l.ring l.p l.c l.e l.of_ring h));
     size = world_long;
     each = goes_on;
     kinds = λ n row e at there.
         let l = left_at n row at in
         let h = l.has l.p l.c l.own_p l.own_c in
-        subst (λ (z : EndedIs). All (λ (x : Cargo). kind_of x.0 ≡ row.kind) z.producer.entries) (some_is (sym l.there ∙ there)) (ring_kinds row l.ring l.p l.c l.e l.of_ring h);
+        subst (λ (z : EndedIs). All (λ (x : Cargo). kind_of x.0 ≡ row.kind) z.producer.entries) (some_is (sym l.there ∙ there)) (ring_kinds hostile row l.ring l.p l.c l.e l.of_ring h);
     fits = λ k p x here forgot fits own. fits_anew (apart_end p) (end_at world) p.actor x forgot (λ r n mine. (let o = own r n mine in same_end k p here r n o.0 o.1 o.2)) fits;
   }

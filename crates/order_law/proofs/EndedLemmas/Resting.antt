@@ -7,15 +7,16 @@ use Rattle.wire_core.specs.Journal.{Track, History, history_at}
 use Rattle.wire_core.specs.Lists.{Passed}
 use Rattle.wire_core.specs.Queues.{Bells, Queue, queue_at, end_at, end_of}
 use Rattle.play_core.specs.Moved.{Moved, moved}
+use Rattle.play_core.specs.Names.{Names, Wild}
 use Rattle.play_core.specs.Sheets.{Scene}
 use Rattle.play_core.specs.Wants.{Want, all_settled, bells_settled, end_settled}
 use Rattle.play_core.specs.Rests.Showing.{HaveItems, HaveBells}
 use Rattle.play_core.specs.Manners.{Calm}
 use Rattle.actor_set.specs.Actors.{FitsActor, ActorStandsFor, ActorEnd, part_of, actor_rests}
-use Rattle.actor_set.specs.Laws.Kinds.{manner_of, sheet}
-use Rattle.actor_set.specs.Laws.Turning.{InTurn}
+use Rattle.actor_set.specs.Laws.Kinds.{manner_of}
+use Rattle.actor_set.specs.Laws.Scenes.{ToldInTurn, told_sheet}
 use Rattle.actor_set.proofs.LawsLemmas.Beside.{fits_beside}
-use Rattle.actor_set.proofs.LawsLemmas.Rests.{rests}
+use Rattle.actor_set.proofs.LawsLemmas.ToldRows.{told_rests}
 use Rattle.actor_set.specs.Adopting.Looks.{SameButLook}
 use Rattle.order_law.specs.ActorParts.Parting.{Apart, apart_end}
 
@@ -108,12 +109,12 @@ same_looked e e' same = λ i. record { owned = same.owned i; kind = same.kind i;
 
 -- where an actor's ends were those of these queues, but for its looks, it was at rest where the
 -- tracks say so
-pub rests_left : (w : List Queue) (ts : History) → length ts ≡ length w → HaveBells w ts [] → (scene : Scene) (p : Apart) (passed : Passed) → ((r : Role) (n : ℕ) → ActorEnd p.actor r n → (n < length w) × SameButLook (apart_end p r n) (end_at w r n)) → FitsActor (apart_end p) p.actor → manner_of (part_of p.actor) ≡ Calm → InTurn scene p.actor passed → ActorStandsFor p.actor passed → HaveItems passed (moved ts []) → actor_rests p.actor ≡ all_settled ts [] ((sheet scene (part_of p.actor)).wants (moved ts []))
-rests_left w ts long have scene p passed same fits calm turn stands items =
+pub rests_left : (w : List Queue) (ts : History) → length ts ≡ length w → HaveBells w ts [] → (scene : Scene) (wild : Wild) (names : Names) (p : Apart) (passed : Passed) → ((r : Role) (n : ℕ) → ActorEnd p.actor r n → (n < length w) × SameButLook (apart_end p r n) (end_at w r n)) → FitsActor (apart_end p) p.actor → manner_of (part_of p.actor) ≡ Calm → ToldInTurn scene wild names p.actor passed → ActorStandsFor p.actor passed → HaveItems passed (moved ts []) → actor_rests p.actor ≡ all_settled ts [] ((told_sheet scene wild names (part_of p.actor)).wants (moved ts []))
+rests_left w ts long have scene wild names p passed same fits calm turn stands items =
     let looks : Role → ℕ → Bool = λ r n. (apart_end p r n).looked in
     let w' : List Queue = looked_from looks 0 w in
     let ts' : History = told_from looks 0 ts in
     let m : moved ts' [] ≡ moved ts [] = moved_stays looks ts in
     let fits' : FitsActor (end_at w') p.actor = fits_beside (apart_end p) (end_at w') p.actor (λ r n own. (let s = same r n own in end_looked looks w r n s.0 ∙ same_looked (apart_end p r n) (end_at w r n) s.1)) fits in
-    rests ts' [] w' (bells_stay looks w ts long have) scene p.actor passed calm turn fits' stands (subst (HaveItems passed) (sym m) items)
-    ∙ (settled_stays looks ts ((sheet scene (part_of p.actor)).wants (moved ts' [])) ∙ ap (λ (z : Moved). all_settled ts [] ((sheet scene (part_of p.actor)).wants z)) m)
+    told_rests scene wild names passed ts' [] w' (bells_stay looks w ts long have) (subst (HaveItems passed) (sym m) items) p.actor calm turn fits' stands
+    ∙ (settled_stays looks ts ((told_sheet scene wild names (part_of p.actor)).wants (moved ts' [])) ∙ ap (λ (z : Moved). all_settled ts [] ((told_sheet scene wild names (part_of p.actor)).wants z)) m)

@@ -19,12 +19,12 @@ pub fits_apart : (ends : Role → ℕ → End) (x : Actor) → FitsActor ends x 
 fits_apart ends (Kinds.UartDevice x) f = tt
 fits_apart ends (Kinds.SerialClient x) f = tt
 fits_apart ends (Kinds.UartDriver x) f = (f.inputs.0.0, f.outputs.0.0)
-fits_apart ends (Kinds.SerialVirtRx x) f = f.outputs.apart
+fits_apart ends (Kinds.SerialVirtRx x) f = f.0.outputs.apart
 fits_apart ends (Kinds.SerialVirtTx x) f = f.inputs.apart
-fits_apart ends (Kinds.EthDevice x) f = (f.inputs_apart, f.outputs_apart)
+fits_apart ends (Kinds.EthDevice x) f = (f.0.inputs_apart, f.0.outputs_apart)
 fits_apart ends (Kinds.EthDriver x) f = (f.inputs, f.outputs)
 fits_apart ends (Kinds.NetVirtRx x) f = virt_apart ends x.ends f.ends_fit
-fits_apart ends (Kinds.NetCopier x) f = (f.inputs_apart, f.outputs_apart)
+fits_apart ends (Kinds.NetCopier x) f = (f.0.inputs_apart, f.0.outputs_apart)
 fits_apart ends (Kinds.NetClient x) f = (f.0.inputs_apart, f.0.outputs_apart)
 fits_apart ends (Kinds.NetVirtTx x) f = virt_apart ends x.ends f.ends_fit
 fits_apart ends (Kinds.DiskDevice x) f = tt

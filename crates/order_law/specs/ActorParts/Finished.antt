@@ -1,5 +1,6 @@
 -- What is left of actors apart and their rings, after the rings came to their ends.
 use Rattle.std.specs.Prelude.{◌≡◌, ◌≤◌, ◌++◌, ℕ, Some, List, All, length, map, nat_lt, slice_get}
+use Rattle.std.specs.Prelude.{false}
 use Rattle.cargo_core.specs.Items.{kind_of}
 use Rattle.wire_core.specs.declared.names.QueueRow.{QueueRow}
 use Rattle.wire_core.specs.Bells.{BellHolds}
@@ -11,9 +12,9 @@ use Rattle.spsc_queue.specs.Steps.{sent_home}
 use Rattle.order_law.specs.ActorParts.Parting.{Apart, ends_at, end_in}
 use Rattle.actor_set.specs.declared.actor.Actor.{Actor}
 
--- what both ends knew of a ring is kept, with what was put and not taken, in order, and when; and
--- with both bells, as the two ends left them and of which the bell law holds; all of it is of the
--- ring's kind
+-- what both ends knew of a ring is kept, with what was put and not taken, in order, and when; all of
+-- it is of the ring's kind. So are both bells, with their waiters and ringers as the two ends left
+-- them; on a ring that isn't wild so are the words, and the bell law holds of both
 pub record HasEnded (ring : RingIs) (p c : EndIs) (e : EndedIs) : Type 0 where
   pub capacity : e.capacity ≡ ring.id.slots
   pub producer : e.producer ≡ sent_home p.knows
@@ -26,13 +27,17 @@ pub record HasEnded (ring : RingIs) (p c : EndIs) (e : EndedIs) : Type 0 where
   pub producer_kind : p.knows.kind ≡ ring.kind
   pub consumer_kind : c.knows.kind ≡ ring.kind
   pub kinds : All (λ x. kind_of x.0 ≡ ring.kind) p.knows.entries
-  pub forward_is : e.forward ≡ forward_bell (flag_of c.knows p.knows)
-      (pending_of c.knows p.knows) p.knows c.knows
-  pub forward : BellHolds e.forward (nat_lt 0 (length e.left)) (length p.knows.entries)
-  pub backward_is : e.backward ≡ backward_bell (flag_of p.knows c.knows)
-      (pending_of p.knows c.knows) p.knows c.knows
-  pub backward : BellHolds e.backward (nat_lt (length e.left) ring.id.slots)
-      (length c.knows.entries)
+  pub producer_sort : p.knows.wild ≡ ring.wild
+  pub consumer_sort : c.knows.wild ≡ ring.wild
+  pub forward : e.forward ≡ forward_bell e.forward.flag e.forward.pending p.knows c.knows
+  pub backward : e.backward ≡ backward_bell e.backward.flag e.backward.pending p.knows c.knows
+  pub told : ring.wild ≡ false → (e.forward
+      ≡ forward_bell (flag_of c.knows p.knows) (pending_of c.knows p.knows) p.knows c.knows)
+      × (e.backward
+      ≡ backward_bell (flag_of p.knows c.knows) (pending_of p.knows c.knows) p.knows c.knows)
+  pub bells : ring.wild ≡ false
+      → BellHolds e.forward (nat_lt 0 (length e.left)) (length p.knows.entries)
+      × BellHolds e.backward (nat_lt (length e.left) ring.id.slots) (length c.knows.entries)
 
 -- the end of a queue that its owner by the row had
 pub record OwnEnd (parts : List Apart) (row : QueueRow) (r : Role) (n : ℕ) (e : EndIs)

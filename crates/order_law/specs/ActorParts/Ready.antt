@@ -5,15 +5,12 @@ use Rattle.wire_core.specs.Ends.{Role}
 use Rattle.wire_core.specs.Journal.{owner_of}
 use Rattle.wire_core.specs.Lists.{nothing_passed}
 use Rattle.wire_core.specs.Queues.{starts, end_at}
-use Rattle.play_core.specs.Manners.{Calm}
-use Rattle.actor_set.specs.Actors.{FitsActor, ActorStandsFor, ActorEnd, part_of}
-use Rattle.actor_set.specs.Laws.Kinds.{manner_of}
+use Rattle.actor_set.specs.Actors.{FitsActor, ActorStandsFor, ActorEnd}
 use Rattle.actor_set.specs.declared.actor.Actor.{Actor}
 
--- each actor isn't hostile and fits the queues of these rows in their start state, nothing passed
--- there, and its ends are its own by the rows
+-- each actor fits the queues of these rows in their start state, nothing passed there, and its ends
+-- are its own by the rows
 pub record AreReady (rows : List QueueRow) (actors : List Actor) : Type 0 where
-  pub calm : (k : ℕ) (x : Actor) → slice_get actors k ≡ Some x → manner_of (part_of x) ≡ Calm
   pub fits : (k : ℕ) (x : Actor) → slice_get actors k ≡ Some x → FitsActor (end_at (starts rows)) x
   pub stands : (k : ℕ) (x : Actor) → slice_get actors k ≡ Some x → ActorStandsFor x nothing_passed
   pub owners : (k : ℕ) (x : Actor) → slice_get actors k ≡ Some x → (r : Role) (n : ℕ)

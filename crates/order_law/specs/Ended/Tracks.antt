@@ -18,11 +18,17 @@ track_of e = record {
 }
 
 -- a queue's track tells what both its ends knew: the items that were put and taken, both bells by
--- what each end did there and keeps of them, and their noes and steps
+-- what each end keeps of them and, where the ring wasn't wild, by what each did there, and their
+-- noes and steps
 pub record TellsEnds (p c : Half) (t : Track) : Type 0 where
   pub sent : t.sent ≡ items_of p.entries
   pub taken : t.taken ≡ items_of c.entries
-  pub forward : t.bells.forward ≡ forward_bell (flag_of c p) (pending_of c p) p c
-  pub backward : t.bells.backward ≡ backward_bell (flag_of p c) (pending_of p c) p c
+  pub forward : t.bells.forward
+      ≡ forward_bell t.bells.forward.flag t.bells.forward.pending p c
+  pub backward : t.bells.backward
+      ≡ backward_bell t.bells.backward.flag t.bells.backward.pending p c
+  pub words : p.wild ≡ false
+      → (t.bells.forward ≡ forward_bell (flag_of c p) (pending_of c p) p c)
+      × (t.bells.backward ≡ backward_bell (flag_of p c) (pending_of p c) p c)
   pub producer : t.producer ≡ record { noes = p.noes; steps = steps_made p }
   pub consumer : t.consumer ≡ record { noes = c.noes; steps = steps_made c }

@@ -1,6 +1,6 @@
 //! How actors that were at work apart are brought together again: each ring comes to its end.
 ghost use Rattle.std.specs.Prelude.{◌≡◌, ◌<◌, ℕ, IfOk, Some, None, List, length, map, slice_get};
-ghost use Rattle.std.specs.Prelude.{slice_set, false};
+ghost use Rattle.std.specs.Prelude.{slice_set};
 ghost use Rattle.wire_core.specs.Ends.{Role};
 ghost use Rattle.wire_core.specs.Journal.{owner_of};
 ghost use Rattle.wire_core.specs.declared.names.QueueRow.{QueueRow as Row};
@@ -63,8 +63,6 @@ fn finish_all(
         → (p : EndIs) × (slice_get producers.items n ≡ Some (Some p)) × (p.ring ≡ ring.id) }
     requires consumers { (n : ℕ) (ring : RingIs) → slice_get rings.items n ≡ Some ring
         → (c : EndIs) × (slice_get consumers.items n ≡ Some (Some c)) × (c.ring ≡ ring.id) }
-    requires plain { (n : ℕ) (ring : RingIs) → slice_get rings.items n ≡ Some ring
-        → ring.wild ≡ false }
     ensures many { IfOk result (λ v. length v.items ≡ length rings.items) }
     ensures each { IfOk result (λ v. (n : ℕ) (ring : RingIs) (p c : EndIs) (e : EndedIs)
         → slice_get rings.items n ≡ Some ring → slice_get producers.items n ≡ Some (Some p)
@@ -82,8 +80,8 @@ fn finish_all(
 }
 
 /// Brings actors together again: each ring comes to its end, and what is kept of it tells what both
-/// its owners knew, what was put there and not taken, in order, and both bells. After Memory, the
-/// answer for want of memory alone, all is gone.
+/// its owners knew, what was put there and not taken, in order, and both bells, those of a wild ring
+/// as they were stored. After Memory, the answer for want of memory alone, all is gone.
 pub fn finish_apart(
     alloc: Global,
     rows: &[QueueRow],

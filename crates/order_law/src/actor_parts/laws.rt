@@ -11,8 +11,9 @@ ghost use Rattle.order_law.specs.ActorParts.Ready.{AreReady};
 
 /// Actors in their start state that were set apart over new rings have just the ends that the rows
 /// give them, each of the ring at its queue's place, fit them and stand for what passed there:
-/// nothing. No look at an end answered no yet and no step was made there, and waiters and ringers
-/// are those of a new ring. They are of the parts that they were of, once they forgot their looks.
+/// nothing. A ring is wild where a hostile actor has an end of its queue. No look at an end answered
+/// no yet and no step was made there, and waiters and ringers are those of a new ring. They are of
+/// the parts that they were of, once they forgot their looks.
 pub fn opened_law()
     ensures apart { (rows : List QueueRow) (actors : List Actor) (rings : List RingIs)
         (parts : List Kept) → AreOpened rows actors rings parts → AreReady rows actors

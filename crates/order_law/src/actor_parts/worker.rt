@@ -2,8 +2,11 @@
 
 ghost use Rattle.std.specs.Prelude.{◌≡◌, IfOk, IfErr, OnErr, Some, None, true};
 ghost use Rattle.wire_core.specs.Lists.{Stepped};
-ghost use Rattle.actor_set.specs.Actors.{FitsActor, ActorStandsFor, IsActorCall, MayStep};
+ghost use Rattle.actor_set.specs.Actors.{FitsActor, ActorStandsFor, ActorTurned, IsActorCall};
+ghost use Rattle.actor_set.specs.Actors.{MayStep};
 ghost use Rattle.actor_set.specs.Actors.{actor_rests, part_of, record_length};
+ghost use Rattle.actor_set.specs.Laws.Kinds.{manner_of};
+ghost use Rattle.play_core.specs.Manners.{is_hostile};
 ghost use Rattle.order_law.specs.Tales.{is_waiting};
 
 use actor_set::Actor;
@@ -30,6 +33,13 @@ impl Worker {
             actor,
             wanted: None,
         }
+    }
+
+    /// Whether its actor is hostile.
+    pub fn is_hostile(&self) -> bool
+        ensures { result ≡ is_hostile (manner_of (part_of self.now.actor)) }
+    {
+        self.actor.is_hostile()
     }
 
     // The actor goes back to a system.
@@ -72,6 +82,7 @@ impl Worker {
         ensures fits { FitsActor (W.ends wires.new) self.new.actor }
         ensures own { IfOk result (λ e. IsActorCall self.old.actor e) }
         ensures part { part_of self.new.actor ≡ part_of self.old.actor }
+        ensures turned { IfOk result (λ e. ActorTurned self.old.actor e self.new.actor) }
         ensures stepped { IfOk result (λ e. Stepped ActorStandsFor W.did wires.old wires.new
             self.old.actor self.new.actor e) }
         ensures due { IfOk result

@@ -12,7 +12,7 @@ use Rattle.buffer_kit.specs.Stocks.{stock_list, stock_hand}
 use Rattle.net_copier.specs.declared.Stage.{Stage}
 use Rattle.net_copier.specs.declared.Stage.TheVariants as At
 use Rattle.net_copier.specs.declared.NetCopier.{NetCopier}
-use Rattle.net_copier.specs.Copying.{CopierStandsFor, copier_hand, is_copied, leased_bytes}
+use Rattle.net_copier.specs.Copying.{HoldingCopierStands, copier_hand, is_copied, leased_bytes}
 use Rattle.client_programs.specs.declared.net.NetClient.{NetClient}
 use Rattle.client_programs.specs.declared.net.outbox.Outbox.{Outbox}
 use Rattle.client_programs.specs.Net.Sending.{OutboxStandsFor, outbox_hand}
@@ -34,7 +34,7 @@ hand_few (Some l) (Some b) At.Taken h = omega arith
 hand_few (Some l) (Some b) At.Copied h = let no : At.Copied ≡ At.Taken = (h refl).1 in absurd cc
 hand_few (Some l) (Some b) At.Stray h = let no : At.Stray ≡ At.Taken = (h refl).1 in absurd cc
 
-module _ (c : NetCopier) (passed : Passed) (h : CopierStandsFor c passed) where
+module _ (c : NetCopier) (passed : Passed) (h : HoldingCopierStands c passed) where
   taken_few : length (passed.taken c.buffer_input.queue.0) ≤ length (passed.taken c.lease_input.queue.0)
   taken_few =
       let hand = hand_few c.lease c.buffer c.stage h.work.buffered in
@@ -92,7 +92,7 @@ driver_conserves (p ∷ ps) passed h f =
     let here = ap (weighed f) h.0 ∙ weighed-append f (passed.sent p.output.queue.0) (option_to_list p.load) in
     omega (arith, rest, came, went, hand, here)
 
-pub device_conserves : (d : EthDevice) (passed : Passed) → Dev.DeviceStandsFor d passed → Conserves [] (bodies_at passed.taken (Dev.rx_free d ∷ Dev.tx_active d ∷ [])) (bodies_at passed.sent (Dev.rx_active d ∷ Dev.tx_free d ∷ [])) (bodies_of (option_to_list d.load ++ option_to_list d.wire.pipe.load)) []
+pub device_conserves : (d : EthDevice) (passed : Passed) → Dev.HoldingDeviceStands d passed → Conserves [] (bodies_at passed.taken (Dev.rx_free d ∷ Dev.tx_active d ∷ [])) (bodies_at passed.sent (Dev.rx_active d ∷ Dev.tx_free d ∷ [])) (bodies_of (option_to_list d.load ++ option_to_list d.wire.pipe.load)) []
 device_conserves d passed h f =
     let came = counted-at f passed.taken (Dev.rx_free d) (Dev.tx_active d ∷ []) in
     let came' = counted-at f passed.taken (Dev.tx_active d) [] in

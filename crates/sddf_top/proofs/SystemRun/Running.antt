@@ -29,6 +29,7 @@ use Rattle.trace_text.specs.declared.trace.Trace.{Trace}
 use Rattle.system_core.proofs.Telling.{keeps_rests, keeps_spent, was_calm}
 use Rattle.system_core.specs.Shows.{Setting, Shown}
 use Rattle.sdf_check.specs.Valid.{Valid}
+use Rattle.cast_core.specs.Hostile.{HasNoRogue}
 use Rattle.system_core.specs.Lawful.{StandsLawful}
 use Rattle.system_core.specs.Plays.{Played}
 use Rattle.system_core.specs.Builds.{IsBuilt}
@@ -155,12 +156,12 @@ module _ (plan : Plan) (trace : Trace) (built : Shown) (is : IsBuilt plan trace 
   first_moment t adopted (inr spent) = inr (one_spent built.setting rings' (map apart_of news) come t adopted spent.0 spent.2 spent.4 limit spent.1 (subst (λ (rs : List RingIs). HasSpent rs limit spent.1 spent.2) (sym same) spent.5))
 
 -- so the system that was played on is what a run shows
-pub is_ran : (plan : Plan) (trace : Trace) (limit : ℕ) (s : Setting) (parts : List Apart) (t new : Shown) → IsAdopted s parts t → AllRest t.setting ⊎ OneSpent t.setting limit → Played t new 0 limit → IsSystemOf plan trace new → IsRan plan trace limit new
-is_ran plan trace limit s parts t new adopted first played system = record {
+pub is_ran : (plan : Plan) → HasNoRogue plan → (trace : Trace) (limit : ℕ) (s : Setting) (parts : List Apart) (t new : Shown) → IsAdopted s parts t → AllRest t.setting ⊎ OneSpent t.setting limit → Played t new 0 limit → IsSystemOf plan trace new → IsRan plan trace limit new
+is_ran plan none trace limit s parts t new adopted first played system = record {
   played = played_on t new 0 limit adopted.journal played plan trace system;
   first = goes_on first;
 }
   where
     goes_on : AllRest t.setting ⊎ OneSpent t.setting limit → AllRest new.setting ⊎ OneSpent new.setting limit
-    goes_on (inl rest) = inl (keeps_rests t.setting new.setting (was_calm t.setting new.setting played.setting system.calm) played.setting rest)
+    goes_on (inl rest) = inl (keeps_rests t.setting new.setting (was_calm t.setting new.setting played.setting (system.calm none)) played.setting rest)
     goes_on (inr spent) = inr (keeps_spent t.setting new.setting limit played.setting spent)

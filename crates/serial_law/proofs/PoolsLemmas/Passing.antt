@@ -15,7 +15,7 @@ use Rattle.turn_kit.specs.declared.pipe.Pipe.{Pipe}
 use Rattle.pipe_driver.specs.Drivers.{PipesRow}
 use Rattle.device_model.specs.SerialTerminal.Terminals.{TerminalRow}
 use Rattle.device_model.specs.declared.serial_terminal.Terminal.{Terminal}
-use Rattle.serial_virt.specs.Receiving.{RxRow, clients_of}
+use Rattle.serial_virt.specs.Receiving.{HoldingRxRow, clients_of}
 use Rattle.serial_virt.specs.Sending.{TxRow, taken_from}
 use Rattle.serial_virt.specs.declared.rx.SerialVirtRx.{SerialVirtRx}
 use Rattle.serial_virt.specs.declared.tx.SerialVirtTx.{SerialVirtTx}
@@ -69,7 +69,7 @@ module _ (naming : Naming) (passed : Passed) (m : Moved) where
   ins_on [] = puts_none
   ins_on (q ∷ qs) = puts_in q (map intake qs) (ins_on qs)
 
-  pub receiver_on : (v : SerialVirtRx) → NameNothing naming (rx_ends v) → RxRow v passed → HandsOn naming m passed (rx_ends v)
+  pub receiver_on : (v : SerialVirtRx) → NameNothing naming (rx_ends v) → HoldingRxRow v passed → HandsOn naming m passed (rx_ends v)
   receiver_on v names row takes = puts_in v.input.queue.0 (map outlet qs) (outs_on qs (λ j s at. names (suc j) s at) each)
     where
       qs : List ℕ

@@ -71,11 +71,11 @@ impl System {
         open_apart(alloc, &rows, actors)
     }
 
-    /// The system of a plan without hostile clients that goes on from what its actors left, which ran apart: every ring
-    /// comes to its end, and every actor forgets its last looks, since those who looked are gone.
-    /// What was put and taken, the bells, and the noes and steps of the ends are its history; its
-    /// journal is empty. The plan tells who is who in its classes. After want of memory nothing is
-    /// left of the parts.
+    /// The system of a plan without hostile clients that goes on from what its actors left, which
+    /// ran apart: every ring comes to its end, and every actor forgets its last looks, since those
+    /// who looked are gone. What was put and taken, the bells, and the noes and steps of the ends
+    /// are its history; its journal is empty. The plan tells who is who in its classes. After want
+    /// of memory nothing is left of the parts.
     pub fn adopt(
         alloc: Global,
         plan: &Plan,

@@ -6,7 +6,6 @@ ghost use Rattle.wire_core.specs.Picks.{drawn};
 ghost use Rattle.sdf_check.specs.Valid.{Valid};
 ghost use Rattle.trace_text.specs.Traces.{IsReadFor};
 ghost use Rattle.region_layout.specs.Layouts.{layout_of};
-ghost use Rattle.cast_core.specs.Hostile.{HasNoRogue};
 ghost use Rattle.system_core.specs.PlanPlays.{IsPlayed};
 ghost use Rattle.system_core.specs.Reports.{report_of};
 ghost use Rattle.view_plays.specs.ToldPlays.Progress.{progress_line, IsProgress, HasTold};
@@ -60,9 +59,8 @@ fn drawn(seed: u64, entries: &[Entry]) -> u64
     x
 }
 
-/// Builds the system of a plan without hostile clients and plays it by a seed until it is quiet or
-/// so many steps were made, as `System::played` does; and after each 262,144 steps it writes how
-/// many were made.
+/// Builds the system of a plan and plays it by a seed until it is quiet or so many steps were made,
+/// as `System::played` does; and after each 262,144 steps it writes how many were made.
 pub fn played_told<E: Sink>(
     alloc: Global,
     plan: &Plan,
@@ -75,7 +73,6 @@ pub fn played_told<E: Sink>(
     requires valid { Valid plan.now }
     requires layout { layout.now ≡ layout_of plan.now }
     requires trace { IsReadFor plan.now trace.now }
-    requires friendly { HasNoRogue plan.now }
     ensures played { IfOk result (IsPlayed plan.now trace.now seed limit) }
     ensures spent { IfOk result (λ s. (report_of s).quiet ≡ false
         → length s.journal ≡ limit) }

@@ -34,4 +34,4 @@ pub returns-clause-came : goal.returns-clause-came
 returns-clause-came g c = all_came c.args.parts.rings.items c.as_slice-shared.result.now c.as_slice-shared.ensures.value c.args.limit c.args.parts.actors.items c.in_ok-seated.seated.items c.in_ok-seated-2.seated.items c.in_ok-actors.actors.items c.in_ok-seated.ensures c.in_ok-seated-2.ensures.came c.in_ok-actors.ensures
 
 pub returns-clause-ends : goal.returns-clause-ends
-returns-clause-ends g c = all_end c.args.parts.rings.items c.as_slice-shared.result.now c.as_slice-shared.ensures.value c.args.limit c.args.parts.actors.items c.in_ok-seated.seated.items c.in_ok-seated-2.seated.items c.in_ok-actors.actors.items c.in_ok-seated.ensures c.in_ok-seated-2.ensures.came c.in_ok-actors.ensures (all_apart c.args.layout.now.queues c.args.parts.rings.items c.args.parts.actors.items c.requires.apart) c.in_ok-seated-2.ensures.ends
+returns-clause-ends g c = all_end c.args.parts.rings.items c.as_slice-shared.result.now c.as_slice-shared.ensures.value c.args.limit c.args.parts.actors.items c.in_ok-seated.seated.items c.in_ok-seated-2.seated.items c.in_ok-actors.actors.items c.in_ok-seated.ensures c.in_ok-seated-2.ensures.came c.in_ok-actors.ensures c.in_ok-seated-2.ensures.ends

@@ -1,7 +1,5 @@
 use Rattle.std.proofs.Common.{arith, rules, refl, ap, ◌+◌, ◌∙◌}
-use Rattle.seat_wires.specs.Places.{IsWildSeat}
-use Rattle.actor_set.specs.Laws.Kinds.{manner_of}
-use Rattle.actor_set.proofs.LawsLemmas.Rounds.{may_is}
+use Rattle.pd_runner.proofs.Wilding.{may_seated, wild_on}
 use Rattle.pd_runner.proofs.Stepping.{worked_none, worked_on, worked_of}
 use Rattle.pd_runner.specs.Running.{part_seats}
 use Rattle.pd_runner.proofs.work.settle.Goals as goal
@@ -16,13 +14,13 @@ loop-worker-init g c = record {
 }
 
 pub step-requires-clause-may : goal.step-requires-clause-may
-step-requires-clause-may g c = may_is (IsWildSeat c.loop-worker.seats) c.loop-worker.worker.actor (ap manner_of c.loop-worker.invariant.worked.comes.same ∙ c.requires.ready.calm)
+step-requires-clause-may g c = may_seated c.loop-worker.worker.actor c.loop-worker.seats c.loop-worker.invariant.worked.comes.sits.fits (wild_on _ _ c.loop-worker.invariant.n _ _ c.loop-worker.invariant.worked.comes c.requires.ready.wild) (λ hostile. search rules)
 
 pub loop-worker-preserved : goal.loop-worker-preserved
 loop-worker-preserved g c = let was = c.loop-worker.invariant in record {
   n = was.n + 1;
   made_is = let e = was.made_is in omega (arith, e);
-  worked = worked_on _ _ was.n _ _ _ _ c.in-Ok.event was.worked c.in-Ok.ensures.fits c.in-Ok.ensures.part c.in-Ok.ensures.stepped c.in-Ok.ensures.own c.in-Ok.ensures.due (search rules);
+  worked = worked_on _ _ was.n _ _ _ _ c.in-Ok.event was.worked c.in-Ok.ensures.fits c.in-Ok.ensures.part c.in-Ok.ensures.stepped c.in-Ok.ensures.own c.in-Ok.ensures.turned c.in-Ok.ensures.due (search rules);
   fine = c.in-Ok.ensures.fine;
   within = omega arith;
 }

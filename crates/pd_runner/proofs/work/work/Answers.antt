@@ -1,21 +1,19 @@
 use Rattle.std.proofs.Common.{arith, ap, ◌∙◌}
 use Rattle.order_law.specs.declared.actor_parts.worker.Worker.{Worker}
-use Rattle.seat_wires.specs.Places.{IsWildSeat}
-use Rattle.actor_set.specs.Laws.Kinds.{manner_of}
-use Rattle.actor_set.proofs.LawsLemmas.Rounds.{may_is}
+use Rattle.pd_runner.proofs.Wilding.{may_seated, wild_on}
 use Rattle.pd_runner.specs.Running.{Comes, part_seats}
 use Rattle.pd_runner.proofs.Stepping.{comes_on, comes_same, came_of}
 use Rattle.pd_runner.proofs.work.work.Goals.{in-None, in-Some+then-is_unmanned, in-Some+else-is_unmanned+else-is_over+then-made-limit, in-Some+else-is_unmanned+else-is_over+else-made-limit+else-calm-ends+in-Err}
 use Rattle.pd_runner.proofs.work.work.Goals as goal
 
 pub step-requires-clause-may : goal.step-requires-clause-may
-step-requires-clause-may g c = may_is (IsWildSeat c.loop.seats) c.loop.worker.actor (ap manner_of c.loop.invariant.comes.same ∙ c.requires.calm)
+step-requires-clause-may g c = may_seated c.loop.worker.actor c.loop.seats c.loop.invariant.comes.sits.fits (wild_on _ _ c.loop.made _ _ c.loop.invariant.comes c.requires.wild) (λ hostile. ?busy)
 
 pub loop-preserved : goal.loop-preserved
 loop-preserved g c = let was = c.loop.invariant in record {
   can_next = tt;
   is_finite = tt;
-  comes = comes_on _ _ c.loop.made _ _ _ _ c.in-Ok.event was.comes c.in-Ok.ensures.fits c.in-Ok.ensures.part c.in-Ok.ensures.stepped c.in-Ok.ensures.own c.in-Ok.ensures.due;
+  comes = comes_on _ _ c.loop.made _ _ _ _ c.in-Ok.event was.comes c.in-Ok.ensures.fits c.in-Ok.ensures.part c.in-Ok.ensures.stepped c.in-Ok.ensures.own c.in-Ok.ensures.turned c.in-Ok.ensures.due;
   fine = c.in-Ok.ensures.fine;
   within = omega arith;
 }

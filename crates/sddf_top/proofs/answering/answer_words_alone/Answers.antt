@@ -6,14 +6,11 @@ use Rattle.decision_core.specs.Decided.{decision_of, OfEach}
 use Rattle.decision_core.specs.Readings.{OpensInTurn, ReadLast}
 use Rattle.sddf_top.specs.Outcomes.{EndsAfter}
 use Rattle.sddf_top.proofs.AnswerLemmas.{come-status}
-use Rattle.sddf_top.proofs.SoundLemmas.{friendly, sound, alone}
+use Rattle.sddf_top.proofs.SoundLemmas.{sound, alone}
 use Rattle.sddf_top.proofs.answering.answer_words_alone.Goals as goal
 
 pub answer_alone-requires-clause-sound : goal.answer_alone-requires-clause-sound
 answer_alone-requires-clause-sound g c = sound (WasRead (g.F.Shelf.text c.args.shelf.now)) (texts_of c.args.words.now) _ c.in_ok-decided.ensures.decides
-
-pub answer_alone-requires-clause-friendly : goal.answer_alone-requires-clause-friendly
-answer_alone-requires-clause-friendly g c = friendly (WasRead (g.F.Shelf.text c.args.shelf.now)) (texts_of c.args.words.now) _ c.in_ok-decided.ensures.decides
 
 pub answer_alone-requires-clause-alone : goal.answer_alone-requires-clause-alone
 answer_alone-requires-clause-alone g c = alone (WasRead (g.F.Shelf.text c.args.shelf.now)) (texts_of c.args.words.now) _ c.in_ok-decided.ensures.decides c.requires

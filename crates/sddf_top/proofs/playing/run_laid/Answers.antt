@@ -12,10 +12,10 @@ returns-in-Ok g c = record {
   ran = subst (λ n. IsRan c.args.plan.now c.args.trace.now n c.in_ok-system.system) c.limit_or_budget-limit.ensures c.in_ok-system.ensures.ran;
   spent = λ q. spent-whole c.limit_or_budget-limit.result c.in_ok-system.system c.in_ok-system.field-0-1 c.in_ok-system.ensures.ended q ∙ c.limit_or_budget-limit.ensures;
   status_is = c.in-Ok.ensures.status;
-  bounded = λ enough. quiet-bounded (report_of c.in_ok-system.system).quiet (report_of c.in_ok-system.system).steps (length c.in_ok-system.system.journal) c.limit_or_budget-limit.result (budget_of c.args.plan.now c.args.trace.now) c.in-Ok.status
+  bounded = λ calm enough. quiet-bounded (report_of c.in_ok-system.system).quiet (report_of c.in_ok-system.system).steps (length c.in_ok-system.system.journal) c.limit_or_budget-limit.result (budget_of c.args.plan.now c.args.trace.now) c.in-Ok.status
       c.in-Ok.ensures.status
       (λ q. spent-whole c.limit_or_budget-limit.result c.in_ok-system.system c.in_ok-system.field-0-1 c.in_ok-system.ensures.ended q)
-      c.in_ok-system.ensures.ran.played.system.bounded
+      (c.in_ok-system.ensures.ran.played.system.bounded calm)
       (subst (λ n. budget_of c.args.plan.now c.args.trace.now ≤ n) (sym c.limit_or_budget-limit.ensures) enough);
   text_is = c.in-Ok.ensures.text;
 }

@@ -6,7 +6,6 @@ use Rattle.shelf_core.proofs.ShelfLemmas.{reads-stopped, reads-for, reads-starve
 use Rattle.decision_core.specs.Decided.{decision_of, OfEach}
 use Rattle.decision_core.specs.Decisions.{Decides}
 use Rattle.decision_core.specs.Readings.{OpensInTurn, ReadLast}
-use Rattle.decision_core.proofs.FriendlyLemmas.{decided-friendly}
 use Rattle.play_words.specs.declared.options.Setting.{Setting}
 use Rattle.play_words.specs.Words.{main_words}
 use Rattle.view_plays.specs.Deciding.{decided_of, OpensFor, LeavesAny}
@@ -50,5 +49,4 @@ returns-clause-reads g c =
 
 pub reply_to-requires : goal.reply_to-requires
 reply_to-requires g c =
-    on-plan c.in_ok-decided.decided (of-plan (WasRead (g.F.Shelf.text c.args.shelf.now)) _ (texts_of c.deref.result.now) _ (ap texts_of c.deref.ensures.value ∙ (c.in_ok-main.ensures ∙ ap (λ (xs : List Setting). main_words (texts_of c.args.words.now) xs) c.as_slice.ensures)) c.in_ok-decided.ensures.decides)
-    (decided-friendly (WasRead (g.F.Shelf.text c.args.shelf.now)) (texts_of c.deref.result.now) _ c.in_ok-decided.ensures.decides) c.in_ok-decided.ensures.playable
+    on-plan c.in_ok-decided.decided (of-plan (WasRead (g.F.Shelf.text c.args.shelf.now)) _ (texts_of c.deref.result.now) _ (ap texts_of c.deref.ensures.value ∙ (c.in_ok-main.ensures ∙ ap (λ (xs : List Setting). main_words (texts_of c.args.words.now) xs) c.as_slice.ensures)) c.in_ok-decided.ensures.decides) c.in_ok-decided.ensures.playable

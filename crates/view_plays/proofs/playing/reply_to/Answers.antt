@@ -15,6 +15,3 @@ play-requires-clause-numbered g c = (rw c.in-Go.is at c.requires).1
 
 pub play-requires-clause-read : goal.play-requires-clause-read
 play-requires-clause-read g c = (rw c.in-Go.is at c.requires).2
-
-pub play-requires-clause-friendly : goal.play-requires-clause-friendly
-play-requires-clause-friendly g c = (rw c.in-Go.is at c.requires).3

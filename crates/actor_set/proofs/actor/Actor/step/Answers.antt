@@ -1,4 +1,4 @@
-use Rattle.std.proofs.Common.{◌≡◌, ◌∙◌, sym, subst}
+use Rattle.std.proofs.Common.{◌≡◌, ◌∙◌, IfOk, sym, subst}
 use Rattle.device_model.specs.SerialTerminal.Terminals.{TerminalStandsFor}
 use Rattle.pipe_driver.specs.Drivers.{PipesStandFor}
 use Rattle.pipe_driver.specs.Lengths.{two_pipes}
@@ -15,7 +15,13 @@ use Rattle.actor_set.proofs.RogueLemmas.Ends.{same_rogue_part}
 use Rattle.device_model.specs.Disk.Disks.{DiskStandsFor}
 use Rattle.blk_virt.specs.Virtualising.{BlkVirtStandsFor}
 use Rattle.client_programs.specs.Blk.Clients.{BlkClientStandsFor}
-use Rattle.actor_set.proofs.Casting.{ok_actor, as_actor, few_still, first_still}
+use Rattle.serial_virt.specs.Shares.{AllHold}
+use Rattle.serial_virt.proofs.Dropping as rx
+use Rattle.device_model.specs.Ethernet.Devices.{DeviceStandsFor}
+use Rattle.device_model.proofs.EthernetLemmas.Dropping as eth
+use Rattle.net_copier.specs.Copying.{CopierStandsFor}
+use Rattle.net_copier.proofs.Dropping as copier
+use Rattle.actor_set.proofs.Casting.{ok_actor, as_actor, few_still, first_still, turned_held, ok_turned_held}
 use Rattle.actor_set.proofs.actor.Actor.step.Goals as goal
 
 pub returns-in-UartDevice-clause-stepped : goal.returns-in-UartDevice-clause-stepped
@@ -27,8 +33,62 @@ returns-in-UartDriver-clause-stepped g c = as_actor PipesStandFor _ _ _ _ _ _ _ 
 pub returns-in-SerialClient-clause-stepped : goal.returns-in-SerialClient-clause-stepped
 returns-in-SerialClient-clause-stepped g c = ok_actor TerminalStandsFor _ _ _ _ _ _ _ c.step-in-SerialClient.result (λ passed h. subst (λ t. TerminalStandsFor t passed) (sym c.deref_mut-in-SerialClient.ensures.value) (subst (λ a. ActorStandsFor a passed) c.in-SerialClient.is h)) (λ passed h. h) c.step-in-SerialClient.ensures.stepped
 
+-- a receiving serial virtualiser waits for each client
+pub step-event-requires-in-SerialVirtRx : goal.step-event-requires-in-SerialVirtRx
+step-event-requires-in-SerialVirtRx g c = let f = subst (FitsActor (g.W.Wires.ends c.args.wires.now)) c.in-SerialVirtRx.is c.requires.fits in f.0
+
+pub returns-in-SerialVirtRx-clause-fits : goal.returns-in-SerialVirtRx-clause-fits
+returns-in-SerialVirtRx-clause-fits g c = let f = subst (FitsActor (g.W.Wires.ends c.args.wires.now)) c.in-SerialVirtRx.is c.requires.fits in (c.step-event-in-SerialVirtRx.ensures.fits, subst AllHold (sym c.step-event-in-SerialVirtRx.ensures.policies) f.1)
+
 pub returns-in-SerialVirtRx-clause-stepped : goal.returns-in-SerialVirtRx-clause-stepped
-returns-in-SerialVirtRx-clause-stepped g c = as_actor RxStandsFor _ _ _ _ _ _ _ _ (λ passed h. subst (λ a. ActorStandsFor a passed) c.in-SerialVirtRx.is h) (λ passed h. h) c.step-event-in-SerialVirtRx.ensures.stepped
+returns-in-SerialVirtRx-clause-stepped g c =
+    let f = subst (FitsActor (g.W.Wires.ends c.args.wires.now)) c.in-SerialVirtRx.is c.requires.fits in
+    let now = subst AllHold (sym c.step-event-in-SerialVirtRx.ensures.policies) f.1 in
+    as_actor RxStandsFor _ _ _ _ _ _ _ _ (λ passed h. rx.held_stands c.in-SerialVirtRx.virt passed f.1 (subst (λ a. ActorStandsFor a passed) c.in-SerialVirtRx.is h)) (λ passed h. rx.stands_held c.step-event-in-SerialVirtRx.new.self passed now h) c.step-event-in-SerialVirtRx.ensures.stepped
+
+pub returns-in-SerialVirtRx-clause-turned : goal.returns-in-SerialVirtRx-clause-turned
+returns-in-SerialVirtRx-clause-turned g c =
+    let f = subst (FitsActor (g.W.Wires.ends c.args.wires.now)) c.in-SerialVirtRx.is c.requires.fits in
+    let now = subst AllHold (sym c.step-event-in-SerialVirtRx.ensures.policies) f.1 in
+    subst (λ a. ActorTurned a c.step-event-in-SerialVirtRx.result (Kinds.SerialVirtRx c.step-event-in-SerialVirtRx.new.self)) (sym c.in-SerialVirtRx.is) (turned_held _ _ _ _ c.step-event-in-SerialVirtRx.result (rx.round_held c.in-SerialVirtRx.virt f.1) (rx.round_held c.step-event-in-SerialVirtRx.new.self now) c.step-event-in-SerialVirtRx.ensures.turned)
+
+-- an Ethernet device waits
+pub step-requires-in-EthDevice : goal.step-requires-in-EthDevice
+step-requires-in-EthDevice g c = let f = subst (FitsActor (g.W.Wires.ends c.args.wires.now)) c.in-EthDevice.is c.requires.fits in f.0
+
+pub returns-in-EthDevice-clause-fits : goal.returns-in-EthDevice-clause-fits
+returns-in-EthDevice-clause-fits g c = let f = subst (FitsActor (g.W.Wires.ends c.args.wires.now)) c.in-EthDevice.is c.requires.fits in (c.step-in-EthDevice.ensures.fits, c.step-in-EthDevice.ensures.same.drops ∙ f.1)
+
+pub returns-in-EthDevice-clause-stepped : goal.returns-in-EthDevice-clause-stepped
+returns-in-EthDevice-clause-stepped g c =
+    let f = subst (FitsActor (g.W.Wires.ends c.args.wires.now)) c.in-EthDevice.is c.requires.fits in
+    let now = c.step-in-EthDevice.ensures.same.drops ∙ f.1 in
+    ok_actor DeviceStandsFor _ _ _ _ _ _ _ c.step-in-EthDevice.result (λ passed h. eth.held_stands c.in-EthDevice.device passed f.1 (subst (λ a. ActorStandsFor a passed) c.in-EthDevice.is h)) (λ passed h. eth.stands_held c.step-in-EthDevice.new.self passed now h) c.step-in-EthDevice.ensures.stepped
+
+pub returns-in-EthDevice-clause-turned : goal.returns-in-EthDevice-clause-turned
+returns-in-EthDevice-clause-turned g c =
+    let f = subst (FitsActor (g.W.Wires.ends c.args.wires.now)) c.in-EthDevice.is c.requires.fits in
+    let now = c.step-in-EthDevice.ensures.same.drops ∙ f.1 in
+    subst (λ a. IfOk c.step-in-EthDevice.result (λ e. ActorTurned a e (Kinds.EthDevice c.step-in-EthDevice.new.self))) (sym c.in-EthDevice.is) (ok_turned_held _ _ _ _ c.step-in-EthDevice.result (eth.round_held c.in-EthDevice.device f.1) (eth.round_held c.step-in-EthDevice.new.self now) c.step-in-EthDevice.ensures.turned)
+
+-- a copier waits
+pub step-event-requires-in-NetCopier : goal.step-event-requires-in-NetCopier
+step-event-requires-in-NetCopier g c = let f = subst (FitsActor (g.W.Wires.ends c.args.wires.now)) c.in-NetCopier.is c.requires.fits in f.0
+
+pub returns-in-NetCopier-clause-fits : goal.returns-in-NetCopier-clause-fits
+returns-in-NetCopier-clause-fits g c = let f = subst (FitsActor (g.W.Wires.ends c.args.wires.now)) c.in-NetCopier.is c.requires.fits in (c.step-event-in-NetCopier.ensures.fits, c.step-event-in-NetCopier.ensures.same.drops ∙ f.1)
+
+pub returns-in-NetCopier-clause-stepped : goal.returns-in-NetCopier-clause-stepped
+returns-in-NetCopier-clause-stepped g c =
+    let f = subst (FitsActor (g.W.Wires.ends c.args.wires.now)) c.in-NetCopier.is c.requires.fits in
+    let now = c.step-event-in-NetCopier.ensures.same.drops ∙ f.1 in
+    as_actor CopierStandsFor _ _ _ _ _ _ _ _ (λ passed h. copier.held_stands c.in-NetCopier.copier passed f.1 (subst (λ a. ActorStandsFor a passed) c.in-NetCopier.is h)) (λ passed h. copier.stands_held c.step-event-in-NetCopier.new.self passed now h) c.step-event-in-NetCopier.ensures.stepped
+
+pub returns-in-NetCopier-clause-turned : goal.returns-in-NetCopier-clause-turned
+returns-in-NetCopier-clause-turned g c =
+    let f = subst (FitsActor (g.W.Wires.ends c.args.wires.now)) c.in-NetCopier.is c.requires.fits in
+    let now = c.step-event-in-NetCopier.ensures.same.drops ∙ f.1 in
+    subst (λ a. ActorTurned a c.step-event-in-NetCopier.result (Kinds.NetCopier c.step-event-in-NetCopier.new.self)) (sym c.in-NetCopier.is) (turned_held _ _ _ _ c.step-event-in-NetCopier.result (copier.round_held c.in-NetCopier.copier f.1) (copier.round_held c.step-event-in-NetCopier.new.self now) c.step-event-in-NetCopier.ensures.turned)
 
 pub returns-in-SerialVirtTx-clause-stepped : goal.returns-in-SerialVirtTx-clause-stepped
 returns-in-SerialVirtTx-clause-stepped g c = as_actor TxStandsFor _ _ _ _ _ _ _ _ (λ passed h. subst (λ a. ActorStandsFor a passed) c.in-SerialVirtTx.is h) (λ passed h. h) c.step-event-in-SerialVirtTx.ensures.stepped

@@ -43,7 +43,7 @@ loop-ring-preserved c = let n : ℕ = length c.loop-ring.yielded in let was = c.
     let p = c.requires.producers n c.in-Some.ring at in let q = c.requires.consumers n c.in-Some.ring at in
     let p_there = still_there c.loop-ring.producers.items c.args.producers.items c.len-place.result n p.0 place (was.producers n (omega arith)) p.1 in
     let q_there = still_there c.loop-ring.consumers.items c.args.consumers.items c.len-place.result n q.0 place (was.consumers n (omega arith)) q.1 in
-    let step = c.in-Some.ensures.steps in let did = c.in_ok-finish.ensures in let tame = c.requires.plain n c.in-Some.ring at in let words = did.words tame in let bells = did.bells tame in
+    let step = c.in-Some.ensures.steps in let did = c.in_ok-finish.ensures in
     let p_is : c.take_end-producer.result ≡ p.0 = same_end c.take_end-producer.result p.0 (sym c.take_end-producer.ensures.end ∙ p_there) in
     let q_is : c.take_end-consumer.result ≡ q.0 = same_end c.take_end-consumer.result q.0 (sym c.take_end-consumer.ensures.end ∙ q_there) in
     let now : HasEnded c.in-Some.ring c.take_end-producer.result c.take_end-consumer.result c.in_ok-finish.field-0 = record {
@@ -58,10 +58,12 @@ loop-ring-preserved c = let n : ℕ = length c.loop-ring.yielded in let was = c.
       producer_kind = did.kinds.0;
       consumer_kind = did.kinds.1;
       kinds = did.kinds.2;
-      forward_is = did.forward ∙ (λ i. forward_bell (words.0 i) (words.1 i) c.take_end-producer.result.knows c.take_end-consumer.result.knows);
-      forward = bells.0;
-      backward_is = did.backward ∙ (λ i. backward_bell (words.2 i) (words.3 i) c.take_end-producer.result.knows c.take_end-consumer.result.knows);
-      backward = bells.1;
+      producer_sort = did.sorts.0;
+      consumer_sort = did.sorts.1;
+      forward = did.forward;
+      backward = did.backward;
+      told = λ tame. let words = did.words tame in (did.forward ∙ (λ i. forward_bell (words.0 i) (words.1 i) c.take_end-producer.result.knows c.take_end-consumer.result.knows), did.backward ∙ (λ i. backward_bell (words.2 i) (words.3 i) c.take_end-producer.result.knows c.take_end-consumer.result.knows));
+      bells = did.bells;
     } in record {
       split = append_assoc c.loop-ring.yielded (c.in-Some.ring ∷ []) _ ∙ (sym (ap (λ l. c.loop-ring.yielded ++ l) step.0) ∙ was.split);
       len = let a = ap length step.0 in let b = step.1 in let d = was.len in omega (arith, a, b, d);

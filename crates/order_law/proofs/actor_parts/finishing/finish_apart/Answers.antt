@@ -3,7 +3,6 @@ use Rattle.wire_core.specs.Ends.{Consumer, Producer}
 use Rattle.order_law.specs.ActorParts.Given.{Kept}
 use Rattle.order_law.specs.ActorParts.Placing.{placed, AreWithin, all_placed}
 use Rattle.order_law.proofs.ActorParts.Places.{next_is, none_left}
-use Rattle.order_law.proofs.ActorParts.Sorting.{plain_ring}
 use Rattle.order_law.proofs.ActorParts.Standing.{ends_of, length_placed, all_more, own_stands, end_there, all_within, map_more, map_actors}
 use Rattle.order_law.proofs.actor_parts.finishing.finish_apart.Goals as goal
 
@@ -41,9 +40,6 @@ pub finish_all-requires-clause-consumers : goal.finish_all-requires-clause-consu
 finish_all-requires-clause-consumers c = let was = c.loop-worker.invariant in let all : c.loop-worker.yielded ≡ c.args.parts.actors.items = sym (append-nil c.loop-worker.yielded) ∙ (sym (ap (λ l. c.loop-worker.yielded ++ l) (none_left _ (was.len ∙ c.in-None.ensures.steps.0))) ∙ was.split) in
     λ n ring at. (let e = end_there c.args.rows.now c.args.parts.rings.items c.args.parts.actors.items c.requires.apart c.requires.peers c.in_ok-consumers.consumers.items (let b = c.in_ok-consumers.ensures.many in let d = c.len-2.ensures in omega (arith, b, d)) Consumer n ring at in
     (e.0, ap (λ l. slice_get l n) (was.consumers ∙ ap (λ ps. all_placed (λ (p : Kept). p.2.items) ps c.in_ok-consumers.consumers.items) all) ∙ e.1, e.2))
-
-pub finish_all-requires-clause-plain : goal.finish_all-requires-clause-plain
-finish_all-requires-clause-plain c = λ n ring at. plain_ring c.args.rows.now c.args.parts.rings.items c.requires.apart.rings_are n ring at
 
 pub returns : goal.returns
 returns c = let was = c.loop-worker.invariant in let all : c.loop-worker.yielded ≡ c.args.parts.actors.items = sym (append-nil c.loop-worker.yielded) ∙ (sym (ap (λ l. c.loop-worker.yielded ++ l) (none_left _ (was.len ∙ c.in-None.ensures.steps.0))) ∙ was.split) in

@@ -18,8 +18,8 @@ loop-row-init c =
 pub overflow_cast-queue : goal.overflow_cast-queue
 overflow_cast-queue c = let a = c.len.ensures in let b = c.loop-row.invariant.many in let lt = c.loop-row-test.true in let few = c.requires.sized.few in omega (arith, a, b, lt, few)
 
-pub open-requires : goal.open-requires
-open-requires c = subst (λ (r : QueueRow). IsCapacity r.capacity) (sym c.row-item.is) (c.requires.sized.capacities c.loop-row.row-index c.row-item.result c.loop-row-test.true)
+pub open_for-requires : goal.open_for-requires
+open_for-requires c = subst (λ (r : QueueRow). IsCapacity r.capacity) (sym c.row-item.is) (c.requires.sized.capacities c.loop-row.row-index c.row-item.result c.loop-row-test.true)
 
 pub give_producer-requires : goal.give_producer-requires
 give_producer-requires c =

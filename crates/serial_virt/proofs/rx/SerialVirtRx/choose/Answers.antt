@@ -7,6 +7,7 @@ use Rattle.turn_kit.specs.Turns.{Choosing}
 use Rattle.turn_kit.specs.ManyEnds.{outlet_posts, outlet_queues, needs_from, is_here}
 use Rattle.turn_kit.specs.Table.{is_settled}
 use Rattle.turn_kit.specs.Turns.{chosen_place, last_after, choice_of}
+use Rattle.turn_kit.proofs.Dropped.{drops_length}
 use Rattle.serial_virt.specs.Receiving.{rx_round}
 use Rattle.serial_virt.proofs.Counting.{offered_count, rx_choice, rx_first, free_is}
 use Rattle.serial_virt.proofs.rx.SerialVirtRx.choose.Goals as goal
@@ -37,7 +38,8 @@ returns-in-Some-clause-within c =
     let w = first_within (rx_round c.args.self.now) c.in-Some.end (rx_first c.args.self.now c.settled-settled.result c.client_owed-owed.result _ _ _ c.in-Some.end (c.settled-settled.ensures ∙ ap (λ b. is_settled c.args.self.now.input.state b) (free_is c.args.self.now.load c.is_none.result c.is_none.ensures)) c.client_owed-owed.ensures c.none.ensures c.unless_settled-lowest.ensures c.unsettled-lowest.ensures c.in-Some.ensures) in
     let queues = length-map c.args.self.now.outputs.ends.items (λ (o : Outlet). o.queue) in
     let posts = length-map c.args.self.now.outputs.ends.items outlet_post in
-    omega (arith, w, queues, posts)
+    let d = drops_length c.args.self.now.drops.items (outlet_posts c.args.self.now.outputs) in
+    omega (arith, w, queues, posts, d)
 
 pub returns-in-Some-clause-after : goal.returns-in-Some-clause-after
 returns-in-Some-clause-after c = ap (λ (l : ℕ). record c.args.self.now { turn = record { last = l } }) (last_stays (rx_round c.args.self.now) c.in-Some.end (rx_first c.args.self.now c.settled-settled.result c.client_owed-owed.result _ _ _ c.in-Some.end (c.settled-settled.ensures ∙ ap (λ b. is_settled c.args.self.now.input.state b) (free_is c.args.self.now.load c.is_none.result c.is_none.ensures)) c.client_owed-owed.ensures c.none.ensures c.unless_settled-lowest.ensures c.unsettled-lowest.ensures c.in-Some.ensures))

@@ -17,10 +17,21 @@ returns-clause-fits c = λ ends h.
       hears = rw c.forget.ensures h.hears;
       says = rw stay h.says;
       load = h.load;
+      policies = rw stay h.policies;
     }
 
 pub returns-clause-lists : goal.returns-clause-lists
 returns-clause-lists c = λ passed h.
+    let stay = outlets_stay c.args.self.now.outputs.ends.items c.forget_outputs.new.outputs.ends.items c.forget_outputs.ensures in
+    record {
+      switched = rw (c.forget.ensures, stay) h.switched;
+      to = rw stay h.to;
+      told = rw c.forget.ensures h.told;
+      clients = rw (c.forget.ensures, stay) h.clients;
+    }
+
+pub returns-clause-held : goal.returns-clause-held
+returns-clause-held c = λ passed h.
     let stay = outlets_stay c.args.self.now.outputs.ends.items c.forget_outputs.new.outputs.ends.items c.forget_outputs.ensures in
     record {
       switched = rw (c.forget.ensures, stay) h.switched;

@@ -7,6 +7,7 @@ use Rattle.actor_set.specs.Laws.Kinds.{hostiles}
 use Rattle.system_core.specs.States.{history_of, begun, nobody}
 use Rattle.system_core.specs.Shows.{runs}
 use Rattle.system_core.proofs.Fitting.{fitted_place}
+use Rattle.system_core.proofs.Owned.{kept_now}
 use Rattle.system_core.proofs.RunsNow.{rows_now, tells_now}
 use Rattle.system_core.proofs.system.System.begin.Goals as goal
 
@@ -23,6 +24,7 @@ invariant_of-system c =
       rows_hold = rw (c.new-2.ensures.items, c.new.ensures.items) (rows_now (map part_of c.args.actors.items) (history_of c.args.rows.items c.args.past.value.items) c.args.rows.items [] c.args.world c.args.actors.items [] c.requires.holds refl, tt);
       names_tell = rw (c.new-2.ensures.items, c.new.ensures.items) (tells_now (history_of c.args.rows.items c.args.past.value.items) c.args.rows.items [] c.args.world c.args.actors.items [] c.requires.holds c.args.pools.items (fitted_place s c.requires.fitted), tt);
       brisk = rw c.new-2.ensures.items ((λ a calm r n. omega arith), tt);
+      own = rw c.new-2.ensures.items (λ place placed. (kept_now (history_of c.args.rows.items c.args.past.value.items) c.args.rows.items [] c.args.world c.args.actors.items [] c.requires.holds c.args.pools.items (fitted_place s c.requires.fitted) c.requires.before.flows place placed, tt));
       kept = λ n. c.in_ok-kept.ensures n ∙ ap₂ (λ (xs : List Actor) (rs : List QueueRow). wild_in (hostiles (map part_of xs)) rs n) c.deref-4.ensures.value c.deref-3.ensures.value;
       none_last = refl;
       running = rw (c.new-2.ensures.items, c.new.ensures.items) (c.in_ok-running.ensures.list

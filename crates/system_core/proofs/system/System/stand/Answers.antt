@@ -8,4 +8,4 @@ pub returns-clause-stands : goal.returns-clause-stands
 returns-clause-stands c = subst StandsLawful c.self.view_is (stands_lawful c.self.inside c.self.invariant)
 
 pub returns-clause-of_plan : goal.returns-clause-of_plan
-returns-clause-of_plan c = of_plan _ (subst StandsLawful c.self.view_is (stands_lawful c.self.inside c.self.invariant)) c.serial_law.ensures.part c.serial_law.ensures.whole
+returns-clause-of_plan c = of_plan _ (subst StandsLawful c.self.view_is (stands_lawful c.self.inside c.self.invariant)) c.serial_law.ensures.beside c.serial_law.ensures.whole

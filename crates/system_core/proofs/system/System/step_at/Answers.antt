@@ -14,7 +14,7 @@ use Rattle.system_core.specs.Inside.{setting_of}
 use Rattle.system_core.proofs.SystemStep.{entry_of}
 use Rattle.system_core.specs.Plays.{runnable_now}
 use Rattle.system_core.specs.Asking.{IsAsked}
-use Rattle.system_core.specs.Systems.{Holds, HoldsBefore}
+use Rattle.system_core.specs.Systems.{Holds, HoldsBefore, PutTheirOwn}
 use Rattle.system_core.proofs.Stepping.{caller_owns, rung_there, system_then}
 use Rattle.system_core.proofs.Hearing.{runner_there}
 use Rattle.system_core.proofs.Noting.{before_on, kept_there, may_here, names_then, none_more, plain_step, refitted}
@@ -30,6 +30,7 @@ invariant_of-self c = record {
   rows_hold = rw (c.make_room.ensures.journal, c.make_room.ensures.names) c.self.invariant.rows_hold;
   names_tell = rw (c.make_room.ensures.journal, c.make_room.ensures.names) c.self.invariant.names_tell;
   brisk = rw c.make_room.ensures.journal c.self.invariant.brisk;
+  own = rw c.make_room.ensures.journal c.self.invariant.own;
   kept = c.self.invariant.kept;
   none_last = c.self.invariant.none_last;
   running = rw (c.make_room.ensures.journal, c.make_room.ensures.names) c.self.invariant.running;
@@ -76,6 +77,7 @@ invariant_of-self-in_err-event c =
       rows_hold = rw (c.in_ok-make_room.ensures.journal, c.in_ok-make_room.ensures.names) (subst (λ z. EachMoment (RowsStand z) c.self.inside.journal.items) (sym same) c.self.invariant.rows_hold);
       names_tell = rw (c.in_ok-make_room.ensures.journal, c.in_ok-make_room.ensures.names) (subst (λ z. EachMoment (NamesTell z) c.self.inside.journal.items) (sym same) c.self.invariant.names_tell);
       brisk = rw c.in_ok-make_room.ensures.journal (subst (λ z. Brisk (hostile_in z) z.rows no_drops c.self.inside.journal.items) (sym same) c.self.invariant.brisk);
+      own = rw c.in_ok-make_room.ensures.journal (subst (λ z. PutTheirOwn z c.self.inside.journal.items) (sym same) c.self.invariant.own);
       kept = rw c.in_err-event.ensures.no_call (subst (λ z. (n : ℕ) → kept_at c.self.inside.wires.kept.items n ≡ wild_in (hostile_in z) z.rows n) (sym same) c.self.invariant.kept);
       none_last = rw c.in_err-event.ensures.no_call c.self.invariant.none_last;
       running = rw (c.in_ok-make_room.ensures.journal, c.in_ok-make_room.ensures.names) (c.self.invariant.running ∙ ap (λ z. runs z c.self.inside.journal.items) (sym same));
@@ -98,12 +100,12 @@ is_runnable-runs-requires c = record { there = λ k rung. rw c.deref-2.ensures.v
 
 pub note-requires-clause-room : goal.note-requires-clause-room
 note-requires-clause-room c = (system_then (history_of c.self.inside.rows.items c.self.inside.past.value.items) c.self.inside.rows.items c.self.inside.names.items c.self.inside.pools.items c.self.inside.net c.self.inside.serial c.self.inside.blk c.self.inside.wires.world c.step.new.wires.world c.self.inside.actors.items c.self.inside.journal.items c.at-number.result c.index_mut-actor.result.now c.step.new.self c.index-actor.result.now c.in_ok-event.event c.index-row.result.now c.reach-other.result c.is_runnable-runs.result c.is_idle-idle.result c.args.place c.self.inside.running.list c.self.inside.running.room
-    c.self.invariant.fitted c.self.invariant.holds c.self.invariant.rows_hold c.self.invariant.names_tell c.self.invariant.running c.self.invariant.room c.self.invariant.brisk c.at-number.ensures c.index_mut-actor.ensures.value c.in_ok-event.ensures.own (plain_step c.self.inside.wires c.step.new.wires c.index_mut-actor.result.now c.step.new.self c.in_ok-event.event c.in_ok-event.ensures.stepped) c.in_ok-event.ensures.turned c.step.ensures.fits c.step.ensures.part c.index-actor.ensures c.index-row.ensures c.is_idle-idle.ensures c.reach-other.ensures (subst (λ xs. IsAsked xs c.step.new.wires.world c.reach-other.result c.is_runnable-runs.result) c.deref-2.ensures.value c.is_runnable-runs.ensures)).few
+    c.self.invariant.fitted c.self.invariant.holds c.self.invariant.rows_hold c.self.invariant.names_tell c.self.invariant.running c.self.invariant.room c.self.invariant.brisk c.self.invariant.before.flows c.self.invariant.own c.at-number.ensures c.index_mut-actor.ensures.value c.in_ok-event.ensures.own (plain_step c.self.inside.wires c.step.new.wires c.index_mut-actor.result.now c.step.new.self c.in_ok-event.event c.in_ok-event.ensures.stepped) c.in_ok-event.ensures.turned c.step.ensures.fits c.step.ensures.part c.index-actor.ensures c.index-row.ensures c.is_idle-idle.ensures c.reach-other.ensures (subst (λ xs. IsAsked xs c.step.new.wires.world c.reach-other.result c.is_runnable-runs.result) c.deref-2.ensures.value c.is_runnable-runs.ensures)).few
 
 pub invariant_of-self-2 : goal.invariant_of-self-2
 invariant_of-self-2 c =
     let s = (system_then (history_of c.self.inside.rows.items c.self.inside.past.value.items) c.self.inside.rows.items c.self.inside.names.items c.self.inside.pools.items c.self.inside.net c.self.inside.serial c.self.inside.blk c.self.inside.wires.world c.step.new.wires.world c.self.inside.actors.items c.self.inside.journal.items c.at-number.result c.index_mut-actor.result.now c.step.new.self c.index-actor.result.now c.in_ok-event.event c.index-row.result.now c.reach-other.result c.is_runnable-runs.result c.is_idle-idle.result c.args.place c.self.inside.running.list c.self.inside.running.room
-    c.self.invariant.fitted c.self.invariant.holds c.self.invariant.rows_hold c.self.invariant.names_tell c.self.invariant.running c.self.invariant.room c.self.invariant.brisk c.at-number.ensures c.index_mut-actor.ensures.value c.in_ok-event.ensures.own (plain_step c.self.inside.wires c.step.new.wires c.index_mut-actor.result.now c.step.new.self c.in_ok-event.event c.in_ok-event.ensures.stepped) c.in_ok-event.ensures.turned c.step.ensures.fits c.step.ensures.part c.index-actor.ensures c.index-row.ensures c.is_idle-idle.ensures c.reach-other.ensures (subst (λ xs. IsAsked xs c.step.new.wires.world c.reach-other.result c.is_runnable-runs.result) c.deref-2.ensures.value c.is_runnable-runs.ensures)) in
+    c.self.invariant.fitted c.self.invariant.holds c.self.invariant.rows_hold c.self.invariant.names_tell c.self.invariant.running c.self.invariant.room c.self.invariant.brisk c.self.invariant.before.flows c.self.invariant.own c.at-number.ensures c.index_mut-actor.ensures.value c.in_ok-event.ensures.own (plain_step c.self.inside.wires c.step.new.wires c.index_mut-actor.result.now c.step.new.self c.in_ok-event.event c.in_ok-event.ensures.stepped) c.in_ok-event.ensures.turned c.step.ensures.fits c.step.ensures.part c.index-actor.ensures c.index-row.ensures c.is_idle-idle.ensures c.reach-other.ensures (subst (λ xs. IsAsked xs c.step.new.wires.world c.reach-other.result c.is_runnable-runs.result) c.deref-2.ensures.value c.is_runnable-runs.ensures)) in
     let st = c.in_ok-event.ensures.stepped in
     let wild = wild_in (hostiles (map part_of c.self.inside.actors.items)) c.self.inside.rows.items in
     let notes : List Noted = notes_of wild (record { event = c.in_ok-event.event; body = st.body }) in
@@ -118,6 +120,7 @@ invariant_of-self-2 c =
       rows_hold = rw (c.push_reserved.ensures.items, c.in_ok-make_room.ensures.journal, nm) (subst (λ z. EachMoment (RowsStand z) (c.self.inside.journal.items ++ entry_of c.at-number.result c.in_ok-event.event ∷ [])) (sym same) s.rows_hold);
       names_tell = rw (c.push_reserved.ensures.items, c.in_ok-make_room.ensures.journal, nm) (subst (λ z. EachMoment (NamesTell z) (c.self.inside.journal.items ++ entry_of c.at-number.result c.in_ok-event.event ∷ [])) (sym same) s.names_tell);
       brisk = rw (c.push_reserved.ensures.items, c.in_ok-make_room.ensures.journal) (subst (λ z. Brisk (hostile_in z) z.rows no_drops (c.self.inside.journal.items ++ entry_of c.at-number.result c.in_ok-event.event ∷ [])) (sym same) s.brisk);
+      own = rw (c.push_reserved.ensures.items, c.in_ok-make_room.ensures.journal) (subst (λ z. PutTheirOwn z (c.self.inside.journal.items ++ entry_of c.at-number.result c.in_ok-event.event ∷ [])) (sym same) s.own);
       kept = subst (λ z. (n : ℕ) → kept_at c.step.new.wires.kept.items n ≡ wild_in (hostile_in z) z.rows n) (sym same) (λ n. ap (λ k. kept_at k.items n) st.happened.kept ∙ c.self.invariant.kept n);
       none_last = c.keep_name.ensures.none;
       running = rw (c.push_reserved.ensures.items, c.in_ok-make_room.ensures.journal, c.note.ensures, nm) (s.running ∙ ap (λ z. runs z (c.self.inside.journal.items ++ entry_of c.at-number.result c.in_ok-event.event ∷ [])) (sym same));
@@ -127,7 +130,7 @@ invariant_of-self-2 c =
 pub returns-clause-ok : goal.returns-clause-ok
 returns-clause-ok c =
     let s = (system_then (history_of c.self.inside.rows.items c.self.inside.past.value.items) c.self.inside.rows.items c.self.inside.names.items c.self.inside.pools.items c.self.inside.net c.self.inside.serial c.self.inside.blk c.self.inside.wires.world c.step.new.wires.world c.self.inside.actors.items c.self.inside.journal.items c.at-number.result c.index_mut-actor.result.now c.step.new.self c.index-actor.result.now c.in_ok-event.event c.index-row.result.now c.reach-other.result c.is_runnable-runs.result c.is_idle-idle.result c.args.place c.self.inside.running.list c.self.inside.running.room
-    c.self.invariant.fitted c.self.invariant.holds c.self.invariant.rows_hold c.self.invariant.names_tell c.self.invariant.running c.self.invariant.room c.self.invariant.brisk c.at-number.ensures c.index_mut-actor.ensures.value c.in_ok-event.ensures.own (plain_step c.self.inside.wires c.step.new.wires c.index_mut-actor.result.now c.step.new.self c.in_ok-event.event c.in_ok-event.ensures.stepped) c.in_ok-event.ensures.turned c.step.ensures.fits c.step.ensures.part c.index-actor.ensures c.index-row.ensures c.is_idle-idle.ensures c.reach-other.ensures (subst (λ xs. IsAsked xs c.step.new.wires.world c.reach-other.result c.is_runnable-runs.result) c.deref-2.ensures.value c.is_runnable-runs.ensures)) in
+    c.self.invariant.fitted c.self.invariant.holds c.self.invariant.rows_hold c.self.invariant.names_tell c.self.invariant.running c.self.invariant.room c.self.invariant.brisk c.self.invariant.before.flows c.self.invariant.own c.at-number.ensures c.index_mut-actor.ensures.value c.in_ok-event.ensures.own (plain_step c.self.inside.wires c.step.new.wires c.index_mut-actor.result.now c.step.new.self c.in_ok-event.event c.in_ok-event.ensures.stepped) c.in_ok-event.ensures.turned c.step.ensures.fits c.step.ensures.part c.index-actor.ensures c.index-row.ensures c.is_idle-idle.ensures c.reach-other.ensures (subst (λ xs. IsAsked xs c.step.new.wires.world c.reach-other.result c.is_runnable-runs.result) c.deref-2.ensures.value c.is_runnable-runs.ensures)) in
     let st = c.in_ok-event.ensures.stepped in
     let wild = wild_in (hostiles (map part_of c.self.inside.actors.items)) c.self.inside.rows.items in
     let notes : List Noted = notes_of wild (record { event = c.in_ok-event.event; body = st.body }) in
