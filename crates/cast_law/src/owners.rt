@@ -1,7 +1,8 @@
 //! The owners of a cast's buffers beside hostile clients: of all pools but theirs each buffer has its
 //! one place at each moment, whatever hostile clients do.
 
-ghost use Rattle.std.specs.Prelude.{◌≡◌, ℕ, false, Some, List, [], map, slice_get};
+ghost use Rattle.std.specs.Prelude.{◌≡◌, ℕ, true, false, Some, List, [], map};
+ghost use Rattle.std.specs.Prelude.{slice_get};
 ghost use Rattle.wire_core.specs.declared.names.PoolRow.{PoolRow};
 ghost use Rattle.wire_core.specs.declared.names.QueueRow.{QueueRow};
 ghost use Rattle.wire_core.specs.declared.names.Entry.{Entry};
@@ -34,8 +35,8 @@ ghost use Rattle.cast_law.specs.Pools.Pooling.{AreOverQueues, keepers_at};
 /// which entries carried what their items name, and nothing came out of turn, each actor that isn't
 /// hostile put only what was in its hand; where that is so at each moment of a journal, one actor
 /// owns each of those buffers at each moment, from any such table on, whatever hostile clients do;
-/// and what a program counts of each of those pools is what the table says after the journal. Where
-/// nobody is hostile, the table is that of all pools.
+/// and what a program counts of each of those pools is what the table says after the journal. Of a
+/// hostile client's pool nothing is lent. Where nobody is hostile, the table is that of all pools.
 pub fn owners_law()
     ensures anew { (rows : List QueueRow) (pools : List PoolRow) (place : PoolPlace)
         (cast : List Part) → IsPlaced rows place cast → HasPools pools place
@@ -89,6 +90,11 @@ pub fn owners_law()
         → counted world (holders_of actors) (record { 0 = k })
         ≡ census (replay (owner_naming rows place (map part_of actors)) history start journal) k
         row.buffers }
+    ensures unlent { (rows : List QueueRow) (pools : List PoolRow) (place : PoolPlace)
+        (actors : List Actor) (world : List Queue) → IsPlaced rows place (map part_of actors)
+        → HasPools pools place → (k : ℕ)
+        → is_rogues (wild_in (hostiles (map part_of actors)) rows) place k ≡ true
+        → (counted world (holders_of actors) (record { 0 = k })).lent ≡ 0 }
     ensures plain { (rows : List QueueRow) (place : PoolPlace) (cast : List Part) → AllCalm cast
         → ((n : ℕ) → owner_naming rows place cast n ≡ cast_naming (scene_of cast) place n)
         × (owner_keepers rows place cast ≡ keepers_at cast) }

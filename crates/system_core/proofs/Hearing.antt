@@ -25,7 +25,7 @@ use Rattle.actor_set.proofs.LawsLemmas.Rows.{heard_here}
 use Rattle.system_core.proofs.RunsNow.{items_here}
 use Rattle.system_core.proofs.Recording.{blk_silent, net_silent, records_at, replies_at, sends_plain, wire_here}
 use Rattle.system_core.proofs.BadOnes.{bad_ones_told}
-use Rattle.system_core.proofs.Lining.{kinds_hold, lines_add, one_owner, pool_lines, pool_lines_anew, without_pools, buffers_told, nothing_bad}
+use Rattle.system_core.proofs.Lining.{kinds_hold, lines_add, lines_stand, lines_unlent, one_owner, pool_lines, pool_lines_anew, without_pools, buffers_told, nothing_bad}
 
 module _ (history : History) (rows : List QueueRow) (names : List Noted) (w : List Queue) (actors : List Actor) (journal : List Entry) (h : Holds history rows names w actors journal) where
   pub same_heard : (k : ℕ) → record_from actors k ≡ option_map_or (record_by (moved history journal)) (slice_get (map part_of actors) k) []
@@ -59,6 +59,8 @@ module _ (a : Inside) (i : IsSystem a) where
     pools = pool_lines a i;
     pools_anew = pool_lines_anew a i;
     no_pools = without_pools a i;
+    unlent = lines_unlent a i;
+    standing = lines_stand a i;
     adds = lines_add a i;
     buffers = buffers_told a i;
     bad = bad_ones_told (scene_of (map part_of a.actors.items)) (wild_in (hostiles (map part_of a.actors.items)) a.rows.items) (told_by (setting_of a).names) a.actors.items i.holds.passed i.holds.in_turn i.holds.stands;

@@ -47,7 +47,7 @@ module _ (history : History) (rows : List QueueRow) (names : List Noted) (w : Li
   told : AllTold rows actors h.passed
   told = all_told (end_at w) rows pools actors h.passed in_place (at_work history rows names w actors journal h) h.sends
 
-  around : (place : PoolPlace) → IsPlaced rows place cast → Around rows place actors h.passed (moved history journal)
+  pub around : (place : PoolPlace) → IsPlaced rows place cast → Around rows place actors h.passed (moved history journal)
   around place placed = record {
     placed = placed;
     seated = in_place.seated;

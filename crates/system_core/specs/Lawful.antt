@@ -10,7 +10,6 @@ use Rattle.wire_core.specs.Lists.{Passed}
 use Rattle.wire_core.specs.Marks.{no_drops, Brisk}
 use Rattle.cargo_core.specs.Capacities.{IsCapacity}
 use Rattle.cargo_core.specs.Lists.{IsPrefix, PrefixMerge}
-use Rattle.cargo_core.specs.declared.census.Census.{Census}
 use Rattle.cargo_core.specs.declared.item.Ask.{Ask}
 use Rattle.cargo_core.specs.declared.item.Reply.{Reply}
 use Rattle.blk_expect.specs.Replies.{replies_of}
@@ -29,17 +28,18 @@ use Rattle.play_core.specs.Sheets.{AreSeated, IsSeat}
 use Rattle.play_core.specs.Still.{IsPeopled}
 use Rattle.owner_law.specs.Owners.{OneOwner, Table, replay}
 use Rattle.owner_law.specs.Keeping.{start_table}
-use Rattle.cast_law.specs.PoolLines.PoolLines.{table_lines}
 use Rattle.actor_set.specs.Parts.{Part, RoguePart, NetworkPart, BlockPart, HostilePart}
 use Rattle.actor_set.specs.Laws.Kinds.{AllCalm, scene_of, sheet}
 use Rattle.actor_set.specs.Laws.Records.{record_by}
 use Rattle.wired_law.specs.Wiring.{HasWholeIn, HasNoNetwork, HasBlkIn, HasNoBlock, IsWiredIn}
 use Rattle.cast_law.specs.Pages.Paging.{part_pools, pools_weigh}
-use Rattle.cast_law.specs.Pools.Places.{PoolPlace, IsPlaced, HasPools, ArePooled, cast_naming}
+use Rattle.cast_law.specs.Pools.Places.{PoolPlace, IsPlaced, HasPools, ArePooled}
 use Rattle.cast_law.specs.Pools.Places.{place_sizes}
-use Rattle.cast_law.specs.Pools.Owning.{BeginsBeside, HasOwnersBeside, owner_naming}
-use Rattle.cast_law.specs.Pools.Pooling.{keepers_at, BeginsWith, AreKindly}
+use Rattle.cast_law.specs.Pools.Beside.{is_rogues}
+use Rattle.cast_law.specs.Pools.Owning.{BeginsBeside, HasOwnersBeside, owner_keepers, owner_naming}
+use Rattle.cast_law.specs.Pools.Pooling.{AreKindly}
 use Rattle.system_core.specs.BadOnes.{bad_among}
+use Rattle.system_core.specs.PoolLines.{AllAdd, AreLinesOf, AreUnlent, CountStanding}
 use Rattle.system_core.specs.Shows.{Crew, Setting, Shown, hostile_in, wild_by, moved_in}
 use Rattle.system_core.specs.Shows.{NamesTell, RowsStand}
 
@@ -156,11 +156,6 @@ IsSilent {T} s crew records = (c k : ℕ) (p : RoguePart) (got : List T)
     → slice_get crew.clients c ≡ Some k → slice_get s.setting.cast k ≡ Some (HostilePart p)
     → slice_get records c ≡ Some got → got ≡ []
 
--- of each line the buffers in queues and in hands and the lent ones are all that the pool has
-abbrev pub AllAdd : List Census → Type 0
-AllAdd lines = (k : ℕ) (l : Census) → slice_get lines k ≡ Some l
-    → l.queues + l.hands + l.lent ≡ l.buffers
-
 -- line and records are what the journal says that device and clients took; those of the network and
 -- of the block class, whose frames and blocks no journal has, are what their places say of them
 pub record IsTold (s : Shown) : Type 0 where
@@ -178,27 +173,32 @@ pub record IsTold (s : Shown) : Type 0 where
   pub replies : (blk : BlkPlace)
       → HasBlkIn s.setting.scene s.setting.rows blk s.setting.cast → TellsReplies s blk
   pub blk_silent : IsSilent s s.setting.blk s.state.blk
-  -- where nobody is hostile, the lines of the pools are those of the table of owners after the
+  -- the lines of the pools that aren't hostile clients' are those of the table of owners after the
   -- journal, from any table on with which it begins
-  pub pools : AllCalm s.setting.cast → (place : PoolPlace)
-      → IsPlaced s.setting.rows place s.setting.cast → HasPools s.setting.pools place
-      → (start : Table)
-      → BeginsWith s.setting.history s.setting.rows place s.setting.cast start → s.state.pools
-      ≡ table_lines (replay (cast_naming s.setting.scene place) s.setting.history start
-      s.journal) 0 s.setting.pools
+  pub pools : (place : PoolPlace) → IsPlaced s.setting.rows place s.setting.cast
+      → HasPools s.setting.pools place → (start : Table)
+      → BeginsBeside s.setting.history s.setting.rows place s.setting.cast start
+      → AreLinesOf (is_rogues (wild_by s.setting) place)
+      (replay (owner_naming s.setting.rows place s.setting.cast) s.setting.history start s.journal)
+      s.setting.pools s.state.pools
   -- so they are from the start state on, from the table on in which each pool's buffers are in the
   -- hand of the actor that owns it
-  pub pools_anew : AllCalm s.setting.cast
-      → s.setting.history ≡ start_history s.setting.rows → (place : PoolPlace)
+  pub pools_anew : s.setting.history ≡ start_history s.setting.rows → (place : PoolPlace)
       → IsPlaced s.setting.rows place s.setting.cast → HasPools s.setting.pools place
-      → s.state.pools ≡ table_lines (replay (cast_naming s.setting.scene place)
-      (start_history s.setting.rows) (start_table (keepers_at s.setting.cast)) s.journal) 0
-      s.setting.pools
+      → AreLinesOf (is_rogues (wild_by s.setting) place)
+      (replay (owner_naming s.setting.rows place s.setting.cast) (start_history s.setting.rows)
+      (start_table (owner_keepers s.setting.rows place s.setting.cast)) s.journal)
+      s.setting.pools s.state.pools
   -- without a network and a block class there are none
   pub no_pools : HasNoNetwork s.setting.cast → HasNoBlock s.setting.cast → s.state.pools ≡ []
-  -- whoever is hostile, the numbers of each line are all buffers of its pool, and the buffers are
-  -- those of these pools, one by one
+  -- of hostile clients' pools nothing is lent; all lines count the pages that stand in queues, and
+  -- their numbers are all buffers of their pools
+  pub unlent : (place : PoolPlace) → IsPlaced s.setting.rows place s.setting.cast
+      → HasPools s.setting.pools place
+      → AreUnlent (is_rogues (wild_by s.setting) place) s.state.pools
+  pub standing : CountStanding passed (length s.setting.rows) s.state.pools
   pub adds : AllAdd s.state.pools
+  -- and the buffers are those of these pools, one by one
   pub buffers : (place : PoolPlace) → IsPlaced s.setting.rows place s.setting.cast
       → HasPools s.setting.pools place → TellsBuffers place s
   -- as bad was counted what the virtualisers took of their clients that was bad: where nobody is

@@ -6,6 +6,7 @@ pub mod Shows
 pub mod Plays
 pub mod Reports
 pub mod BadOnes
+pub mod PoolLines
 pub mod Lawful
 pub mod Crews
 pub mod Builds

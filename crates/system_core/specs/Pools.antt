@@ -6,8 +6,6 @@ use Rattle.wire_core.specs.Journal.{EachMoment}
 use Rattle.owner_law.specs.Owners.{Table, OneOwner, replay}
 use Rattle.owner_law.specs.Keeping.{start_table}
 use Rattle.owner_law.specs.Census.{IsPool}
-use Rattle.actor_set.specs.Laws.Kinds.{AllCalm}
-use Rattle.cast_law.specs.PoolLines.PoolLines.{table_lines}
 use Rattle.sdf_plan.specs.declared.plan.Plan.{Plan}
 use Rattle.region_layout.specs.Rows.{pools_of}
 use Rattle.cast_law.specs.Pools.Beside.{is_rogues}
@@ -15,7 +13,8 @@ use Rattle.cast_law.specs.Pools.Owning.{BeginsBeside, owner_keepers, owner_namin
 use Rattle.cast_law.specs.Pools.Places.{PoolPlace, place_sizes}
 use Rattle.system_core.specs.Shows.{Shown, wild_by}
 use Rattle.system_core.specs.Builds.{BeginsAnew}
-use Rattle.system_core.specs.Lawful.{AllAdd, TellsBuffers}
+use Rattle.system_core.specs.Lawful.{TellsBuffers}
+use Rattle.system_core.specs.PoolLines.{AllAdd, AreLinesOf, AreUnlent}
 
 -- a pool, by its number, is one of a hostile client
 abbrev pub is_theirs : PoolPlace → Shown → ℕ → Bool
@@ -59,10 +58,11 @@ pub record TellsOwners (plan : Plan) (place : PoolPlace) (s : Shown) : Type 0 wh
   -- counted receivers, at each moment
   pub owners : (start : Table) → IsFirstTable place s start
       → EachMoment (HaveOneOwner place start s) s.journal
-  -- where nobody is hostile, the lines of the report are those of the table after the journal, in
-  -- the layout's order
-  pub lines : AllCalm s.setting.cast → (start : Table) → IsFirstTable place s start
-      → s.state.pools ≡ table_lines (table_after place start s s.journal) 0 (pools_of plan)
+  -- the lines of the report are those of the table after the journal, in the layout's order, but of
+  -- hostile clients' pools, of which nothing is lent
+  pub lines : (start : Table) → IsFirstTable place s start → AreLinesOf (is_theirs place s)
+      (table_after place start s s.journal) (pools_of plan) s.state.pools
+  pub unlent : AreUnlent (is_theirs place s) s.state.pools
   -- the numbers of each line add up, of hostile clients' pools too
   pub adds : AllAdd s.state.pools
   -- and so all buffers are those of the pools, one by one

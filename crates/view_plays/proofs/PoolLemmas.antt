@@ -5,7 +5,6 @@ use Rattle.std.specs.Option.{option_map_or}
 use Rattle.std.proofs.lemmas.List.{length-append, length-map}
 use Rattle.std.proofs.lemmas.Grind.{flat_map-append}
 use Rattle.wire_core.specs.declared.names.PoolRow.{PoolRow}
-use Rattle.owner_law.specs.Owners.{Table}
 use Rattle.sdf_plan.specs.declared.plan.Plan.{Plan}
 use Rattle.sdf_plan.specs.declared.plan.Net.{Net}
 use Rattle.sdf_plan.specs.declared.plan.Serial.{Serial}
@@ -14,9 +13,6 @@ use Rattle.sdf_plan.specs.Elements.{IsNumbered}
 use Rattle.trace_text.specs.declared.trace.Trace.{Trace}
 use Rattle.class_table.specs.Table.{Element, numbered, net_element, net_client_element, net_elements, serial_element, serial_client_element, serial_elements, blk_element, blk_client_element, blk_elements, table_of}
 use Rattle.region_layout.specs.Rows.{pool_row, pool_rows, pools_of}
-use Rattle.cast_law.specs.PoolLines.PoolLines.{table_lines}
-use Rattle.cast_law.specs.Places.{pool_place}
-use Rattle.system_core.specs.Pools.{table_after}
 use Rattle.system_core.specs.Shows.{Shown}
 use Rattle.system_core.specs.PlanPlays.{IsSystemOf}
 
@@ -69,14 +65,8 @@ few-pools plan h =
     let c = few-blk plan plan.blk h.blk in
     omega (arith, e, f, a, b, c)
 
--- a line for each pool
-as-many : (t : Table) (first : ℕ) (pools : List PoolRow) → length (table_lines t first pools) ≡ length pools
-as-many t first [] = refl
-as-many t first (row ∷ pools) = let e = as-many t (first + 1) pools in omega (arith, e)
-
 pub few-lines : (plan : Plan) (trace : Trace) (s : Shown) → IsNumbered plan → IsSystemOf plan trace s → length s.state.pools ≤ 2 ^ 40
 few-lines plan trace s are is =
-    let lines = ap length (is.owners.lines is.owners.table is.owners.first) in
-    let many = as-many (table_after (pool_place plan trace) is.owners.table s s.journal) 0 (pools_of plan) in
+    let lines = is.owners.lines is.owners.table is.owners.first in
     let few = few-pools plan are in
-    omega (arith, lines, many, few)
+    omega (arith, lines.many, few)

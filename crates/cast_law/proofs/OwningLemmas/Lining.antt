@@ -108,23 +108,20 @@ none_of_pool pool q off = no_more (pages_in (pool_pages q) pool) (sym (pages_man
 
 pages_both : (pool : ℕ) (ps qs : List PageAt) → pages_in ps pool ≡ [] → pages_in qs pool ≡ [] → pages_in (ps ++ qs) pool ≡ []
 pages_both pool [] qs one two = two
-pages_both pool (p ∷ ps) qs one two = by (p.pool == pool) one
+pages_both pool (p ∷ ps) qs one two = by (p.pool == pool) one (λ e. pages_both pool ps qs e two)
   where
-    by : (t : Bool) → cond t (p.number ∷ pages_in ps pool) (pages_in ps pool) ≡ [] → cond t (p.number ∷ pages_in (ps ++ qs) pool) (pages_in (ps ++ qs) pool) ≡ []
-    by true e = cc
-    by false e = pages_both pool ps qs e two
+    by : (t : Bool) → cond t (p.number ∷ pages_in ps pool) (pages_in ps pool) ≡ [] → (pages_in ps pool ≡ [] → pages_in (ps ++ qs) pool ≡ []) → cond t (p.number ∷ pages_in (ps ++ qs) pool) (pages_in (ps ++ qs) pool) ≡ []
+    by true e rest = cc
+    by false e rest = rest e
 
 -- windows on other pools are among the windows
 fewer_windows : (sizes : ℕ → ℕ) (off : ℕ → Bool) (ws : List Window) → All (IsWithin sizes) ws → All (IsWithin sizes) (windows_beside off ws)
 fewer_windows sizes off [] all = all
-fewer_windows sizes off (w ∷ ws) all = by (off w.pool)
+fewer_windows sizes off (w ∷ ws) all = by (fewer_windows sizes off ws (λ k d lt. all (suc k) d (omega (arith, lt)))) (off w.pool)
   where
-    rest : All (IsWithin sizes) (windows_beside off ws)
-    rest = fewer_windows sizes off ws (λ k d lt. all (suc k) d (omega (arith, lt)))
-
-    by : (t : Bool) → All (IsWithin sizes) (cond t (windows_beside off ws) (w ∷ windows_beside off ws))
-    by true = rest
-    by false = λ k d lt. more k d lt
+    by : All (IsWithin sizes) (windows_beside off ws) → (t : Bool) → All (IsWithin sizes) (cond t (windows_beside off ws) (w ∷ windows_beside off ws))
+    by rest true = rest
+    by rest false = λ k d lt. more k d lt
       where
         more : (k : ℕ) (d : Window) → k < length (w ∷ windows_beside off ws) → IsWithin sizes (get_or (w ∷ windows_beside off ws) k d)
         more zero d lt = all 0 d (omega arith)
@@ -288,7 +285,7 @@ module _ (history : History) (rows : List QueueRow) (pools : List PoolRow) (plac
       by (inr r) = subst (λ y. part_weighs (of_pool (record { 0 = pool })) (part_of y) ≡ length ((sheet scene (part_of y)).hand pool)) (sym r.1) (rogue (part_of (Kinds.Rogue r.0)) refl)
         where
           rogue : (p : Part) → part_of (Kinds.Rogue r.0) ≡ p → part_weighs (of_pool (record { 0 = pool })) p ≡ length ((sheet scene p).hand pool)
-          rogue (HostilePart q) is = pages_many pool q.pages
+          rogue (HostilePart q) is = omega (arith, pages_many pool q.pages)
           rogue p is = absurd cc
 
   balance : (k : ℕ) (x : Actor) → slice_get actors k ≡ Some x → (pool : PoolId) → length ((sheet scene (part_of x)).hand pool.0) + buffers_of pool (came passed (ends_of x)) ≡ buffers_of pool (went passed (ends_of x)) + (buffers_of pool (actor_hand x) + actor_lent x pool.0)

@@ -1,12 +1,9 @@
 -- Where nobody is hostile, the table of owners is that of all pools.
-use Rattle.std.proofs.Common.{◌≡◌, ◌==◌, ◌||◌, ◌+◌, ◌*◌, ℕ, Bool, false, cond, Option, None, Some, List, [], ◌∷◌, map, refl, ap, ap₂, ◌∙◌, subst}
+use Rattle.std.proofs.Common.{◌≡◌, ◌==◌, ◌||◌, ◌+◌, ◌*◌, ℕ, Bool, false, cond, Option, None, Some, List, [], ◌∷◌, map, refl, ap, ap₂, ◌∙◌}
 use Rattle.wire_core.specs.declared.names.QueueRow.{QueueRow}
-use Rattle.wire_core.specs.Journal.{History}
-use Rattle.play_core.specs.Moved.{moved}
 use Rattle.play_core.specs.Names.{Wild, wild_in}
-use Rattle.owner_law.specs.Keeping.{IsNaming, IsShownBy, Keeper, keeper_of}
-use Rattle.owner_law.specs.Owners.{Table}
-use Rattle.owner_law.specs.Things.{Answers, Buffers, Frames, Leases, Names, Naming, NoBuffers, Returns, Window}
+use Rattle.owner_law.specs.Keeping.{keeper_of}
+use Rattle.owner_law.specs.Things.{Answers, Buffers, Frames, Leases, Names, NoBuffers, Returns, Window}
 use Rattle.owner_law.specs.Pools.Places.{PoolAt}
 use Rattle.net_law.specs.Owners.Names.{ClientPools}
 use Rattle.net_law.specs.Parts.Numbers.{client_first}
@@ -16,9 +13,9 @@ use Rattle.actor_set.specs.Parts.{Part}
 use Rattle.actor_set.specs.Laws.Kinds.{AllCalm, hostiles, scene_of, sheet}
 use Rattle.actor_set.proofs.LawsLemmas.Told.{none_wild}
 use Rattle.cast_law.specs.Pools.Beside.{in_blk, in_net, is_blk_rogues, is_net_rogues, is_rogues}
-use Rattle.cast_law.specs.Pools.Owning.{BeginsBeside, keeper_beside, names_beside, owner_keepers, owner_naming, windows_beside}
+use Rattle.cast_law.specs.Pools.Owning.{keeper_beside, names_beside, owner_keepers, owner_naming, windows_beside}
 use Rattle.cast_law.specs.Pools.Places.{PoolPlace, cast_naming}
-use Rattle.cast_law.specs.Pools.Pooling.{BeginsWith, keepers_at}
+use Rattle.cast_law.specs.Pools.Pooling.{keepers_at}
 
 module _ (w : Wild) (none : (n : ℕ) → w n ≡ false) where
   no_net : (first k : ℕ) (qs : List ClientPools) (pool : ℕ) → is_net_rogues w first k qs pool ≡ false
@@ -72,15 +69,3 @@ module _ (rows : List QueueRow) (place : PoolPlace) (cast : List Part) (calm : A
 
   pub plain_keepers : owner_keepers rows place cast ≡ keepers_at cast
   plain_keepers = each_keeper cast
-
-  pub same_naming : owner_naming rows place cast ≡ cast_naming (scene_of cast) place
-  same_naming = λ i. λ n. plain_naming n i
-
-  -- so a cast begins with the same tables
-  pub plain_begins : (history : History) (start : Table) → BeginsBeside history rows place cast start → BeginsWith history rows place cast start
-  plain_begins history start begin = record {
-    lender = begin.lender;
-    naming_is = subst (λ (n : Naming). IsNaming n begin.lender (hostiles cast) rows) same_naming begin.naming_is;
-    counted = begin.counted;
-    shown = subst (λ (z : Naming × List Keeper). IsShownBy z.0 begin.lender z.1 (moved history []) start) (λ i. (same_naming i, plain_keepers i)) begin.shown;
-  }

@@ -74,14 +74,15 @@ starts_weigh f scene (x ∷ actors) passed stand fit =
       starts_weigh f scene actors passed (λ k y at. stand (suc k) y at) (λ k y at. fit (suc k) y at),
     )
 
-rest_is : (xs ys : List Cargo) → drop (length xs) (xs ++ ys) ≡ ys
+pub rest_is : (xs ys : List Cargo) → drop (length xs) (xs ++ ys) ≡ ys
 rest_is [] ys = refl
 rest_is (x ∷ xs) ys = rest_is xs ys
 
-queues_weigh : (f : Count) (world : List Queue) → sum_below (λ n. weighed f (queue_at world n).entries) (length world) ≡ sum_by (λ (q : Queue). weighed f q.entries) world
-queues_weigh f [] = refl
-queues_weigh f (q ∷ world) =
-    omega (arith, first_sum (λ n. weighed f (queue_at (q ∷ world) n).entries) (length world), queues_weigh f world, sum_by-cons (λ (r : Queue). weighed f r.entries) q world)
+-- what is counted queue by queue is counted of all
+pub queues_sum : (g : List Cargo → ℕ) (world : List Queue) → sum_below (λ n. g (queue_at world n).entries) (length world) ≡ sum_by (λ (q : Queue). g q.entries) world
+queues_sum g [] = refl
+queues_sum g (q ∷ world) =
+    omega (arith, first_sum (λ n. g (queue_at (q ∷ world) n).entries) (length world), queues_sum g world, sum_by-cons (λ (r : Queue). g r.entries) q world)
 
 pub counted-flat : {X : Type 0} (f : Count) (g : X → List Body) (xs : List X) → counted f (flat_map g xs) ≡ sum_by (λ x. counted f (g x)) xs
 counted-flat f g [] = refl
@@ -141,7 +142,7 @@ module _ (rows : List QueueRow) (actors : List Actor) (passed : Passed) (world :
       let all = work_weighs (end_at world) rows actors passed over.peopled over.seated over.filled work f in
       let each = same_sum (queue_has f passed) (λ n. weighed f (queue_at world n).entries) (length rows) (λ n lt. ap (weighed f) (ap (drop (length (passed.taken n))) (over.stands_there n) ∙ rest_is (passed.taken n) (queue_at world n).entries)) in
       let many = ap (sum_below (λ n. weighed f (queue_at world n).entries)) (sym over.size) in
-      let queues = queues_weigh f world in
+      let queues = queues_sum (weighed f) world in
       omega (arith, all, each, many, queues)
 
   -- so each buffer is there once, and none of a pool has another length

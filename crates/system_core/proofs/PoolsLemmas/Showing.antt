@@ -1,28 +1,27 @@
 -- The buffers of a plan have their owners, and what a report says of its pools is what the table of
 -- owners says.
-use Rattle.std.proofs.Common.{◌≡◌, ℕ, List, sym, ap, ◌∙◌, subst}
+use Rattle.std.proofs.Common.{◌≡◌, ℕ, List, sym, subst}
 use Rattle.wire_core.specs.Journal.{EachMoment}
 use Rattle.wire_core.specs.declared.names.QueueRow.{QueueRow}
 use Rattle.play_core.specs.Sheets.{AreFilled, AreSeated}
-use Rattle.owner_law.specs.Owners.{OneOwner, Table, replay}
+use Rattle.owner_law.specs.Owners.{OneOwner, Table}
 use Rattle.owner_law.specs.Things.{Naming}
-use Rattle.cast_law.specs.PoolLines.PoolLines.{table_lines}
 use Rattle.sdf_plan.specs.declared.plan.Plan.{Plan}
 use Rattle.sdf_check.specs.Valid.{Valid}
 use Rattle.region_layout.specs.Rows.{pools_of}
 use Rattle.trace_text.specs.declared.trace.Trace.{Trace}
 use Rattle.actor_set.specs.Parts.{Part}
-use Rattle.actor_set.specs.Laws.Kinds.{AllCalm, sheet, scene_of}
+use Rattle.actor_set.specs.Laws.Kinds.{sheet, scene_of}
 use Rattle.cast_law.specs.Pools.Owning.{BeginsBeside, HasOwnersBeside, owner_naming}
-use Rattle.cast_law.specs.Pools.Places.{PoolPlace, IsPlaced, HasPools, cast_naming, place_sizes}
+use Rattle.cast_law.specs.Pools.Places.{PoolPlace, IsPlaced, HasPools, place_sizes}
 use Rattle.cast_law.proofs.OwningLemmas.Beginning.{begins_beside, pools_beside}
-use Rattle.cast_law.proofs.OwningLemmas.Plain.{plain_begins, same_naming}
 use Rattle.cast_law.specs.Places.{pool_place}
 use Rattle.cast_law.proofs.Pooled.{pooled}
 use Rattle.system_core.specs.Shows.{Shown}
 use Rattle.system_core.specs.Builds.{BeginsAnew, IsCastOf}
 use Rattle.system_core.specs.Lawful.{StandsLawful}
-use Rattle.system_core.specs.Pools.{HaveOneOwner, IsFirstTable, owners_table, table_after, TellsOwners}
+use Rattle.system_core.specs.PoolLines.{AreLinesOf}
+use Rattle.system_core.specs.Pools.{HaveOneOwner, IsFirstTable, is_theirs, owners_table, table_after, TellsOwners}
 use Rattle.system_core.proofs.PoolsLemmas.Placing.{placed}
 use Rattle.system_core.proofs.PoolsLemmas.Staying.{each_follows, pool_stays}
 
@@ -75,12 +74,9 @@ module _ (plan : Plan) (trace : Trace) (s : Shown) (valid : Valid plan) (cast_is
       (λ j now. record { pools = λ k free. pool_stays naming s.setting.history first k (place_sizes place k) (is.pools k free) j; moves = now })
       s.journal (stands.lawful.owners place here first is.begins)
 
-  -- where nobody is hostile, the table is that of all pools
-  shows_lines : AllCalm cast → (first : Table) → IsFirstTable place s first → s.state.pools ≡ table_lines (table_after place first s s.journal) 0 (pools_of plan)
-  shows_lines calm first is =
-      let names : cast_naming s.setting.scene place ≡ naming = ap (λ z. cast_naming z place) stands.fitted.scene_is ∙ sym (same_naming rows place cast calm) in
-      stands.told.pools calm place here numbered first (plain_begins rows place cast calm s.setting.history first is.begins)
-      ∙ (ap (λ (n : Naming). table_lines (replay n s.setting.history first s.journal) 0 s.setting.pools) names ∙ ap (table_lines (table_after place first s s.journal) 0) cast_is.pools)
+  -- the lines are those of such a table
+  shows_lines : (first : Table) → IsFirstTable place s first → AreLinesOf (is_theirs place s) (table_after place first s s.journal) (pools_of plan) s.state.pools
+  shows_lines first is = subst (λ ps. AreLinesOf (is_theirs place s) (table_after place first s s.journal) ps s.state.pools) cast_is.pools (stands.told.pools place here numbered first is.begins)
 
   pub tells_owners : TellsOwners plan place s
   tells_owners = record {
@@ -89,6 +85,7 @@ module _ (plan : Plan) (trace : Trace) (s : Shown) (valid : Valid plan) (cast_is
     anew = first_anew;
     owners = one_owner;
     lines = shows_lines;
+    unlent = stands.told.unlent place here numbered;
     adds = stands.told.adds;
     buffers = stands.told.buffers place here numbered;
   }

@@ -18,6 +18,7 @@ use Rattle.cast_law.proofs.OwningLemmas.Keeping.{kept_at}
 use Rattle.cast_law.proofs.OwningLemmas.Lining.{line_beside}
 use Rattle.cast_law.proofs.OwningLemmas.Past.{past_beside}
 use Rattle.cast_law.proofs.OwningLemmas.Plain.{plain_keepers, plain_naming}
+use Rattle.cast_law.proofs.OwningLemmas.Unlent.{theirs_unlent}
 use Rattle.cast_law.proofs.owners.owners_law.Goals as goal
 
 pub returns-clause-anew : goal.returns-clause-anew
@@ -54,6 +55,9 @@ returns-clause-owners c = λ history rows place actors start journal passed worl
 
 pub returns-clause-lines : goal.returns-clause-lines
 returns-clause-lines c = λ history rows pools place actors start journal passed world placed has over told items carry legal kept begin k row at free. line_beside history rows pools place actors start journal passed world has over (around rows place actors passed world (moved history journal) placed over told items) carry legal kept begin k row at free
+
+pub returns-clause-unlent : goal.returns-clause-unlent
+returns-clause-unlent c = λ rows pools place actors world placed has k is. theirs_unlent rows place actors placed has.numbered k is world
 
 pub returns-clause-plain : goal.returns-clause-plain
 returns-clause-plain c = λ rows place cast calm. (plain_naming rows place cast calm, plain_keepers rows place cast calm)
