@@ -39,8 +39,8 @@ IsWithin xs ys = (i : ℕ) (s : Seat) → slice_get xs i ≡ Some s → (j : ℕ
 abbrev AreAlike : List Seat → List Seat → Type 0
 AreAlike xs ys = IsWithin xs ys × IsWithin ys xs
 
-same_alike : {xs ys : List Seat} → xs ≡ ys → AreAlike xs ys
-same_alike same = ((λ i s at. (i, subst (λ zs. slice_get zs i ≡ Some s) same at)), (λ i s at. (i, subst (λ zs. slice_get zs i ≡ Some s) (sym same) at)))
+same_alike : (xs ys : List Seat) → xs ≡ ys → AreAlike xs ys
+same_alike xs ys same = ((λ i s at. (i, subst (λ zs. slice_get zs i ≡ Some s) same at)), (λ i s at. (i, subst (λ zs. slice_get zs i ≡ Some s) (sym same) at)))
 
 swapped_in : (a b c d : Seat) → IsWithin (a ∷ b ∷ c ∷ d ∷ []) (a ∷ c ∷ b ∷ d ∷ [])
 swapped_in a b c d zero s at = (0, at)
@@ -89,7 +89,7 @@ module _ (plan : Plan) (trace : Trace) where
 
   -- the part of a job has the ends of the job, that of a hostile client in another order
   of_calm : (job : Job) (p : Part) → calm_part plan trace job ≡ Some p → AreAlike (part_ends p) (job_ends plan job)
-  of_calm job p is = same_alike (ends_are job p is)
+  of_calm job p is = same_alike (part_ends p) (job_ends plan job) (ends_are job p is)
 
   alike_job : (job : Job) (p : Part) → job_part plan trace job ≡ Some p → AreAlike (part_ends p) (job_ends plan job)
   alike_job EthDevice p is = of_calm EthDevice p is
@@ -109,7 +109,7 @@ module _ (plan : Plan) (trace : Trace) where
   alike_job (SerialClient c) p is = by (is_serial_rogue plan c) is
     where
       by : (b : Bool) → (if b then Some (HostilePart (serial_rogue_at (first_serial plan) c (acts_at trace.serial_acts c))) else calm_part plan trace (SerialClient c)) ≡ Some p → AreAlike (part_ends p) (job_ends plan (SerialClient c))
-      by true e = subst (λ q. AreAlike (part_ends q) (job_ends plan (SerialClient c))) (some_is e) (same_alike {xs = job_ends plan (SerialClient c)} refl)
+      by true e = subst (λ q. AreAlike (part_ends q) (job_ends plan (SerialClient c))) (some_is e) (same_alike (job_ends plan (SerialClient c)) (job_ends plan (SerialClient c)) refl)
       by false e = of_calm (SerialClient c) p e
   alike_job DiskDevice p is = of_calm DiskDevice p is
   alike_job DiskDriver p is = of_calm DiskDriver p is
@@ -117,7 +117,7 @@ module _ (plan : Plan) (trace : Trace) where
   alike_job (BlkClient c) p is = by (is_blk_rogue plan c) is
     where
       by : (b : Bool) → (if b then Some (HostilePart (blk_rogue_at (first_blk plan) c (client_pool plan c) (acts_at trace.blk_acts c))) else calm_part plan trace (BlkClient c)) ≡ Some p → AreAlike (part_ends p) (job_ends plan (BlkClient c))
-      by true e = subst (λ q. AreAlike (part_ends q) (job_ends plan (BlkClient c))) (some_is e) (same_alike {xs = job_ends plan (BlkClient c)} refl)
+      by true e = subst (λ q. AreAlike (part_ends q) (job_ends plan (BlkClient c))) (some_is e) (same_alike (job_ends plan (BlkClient c)) (job_ends plan (BlkClient c)) refl)
       by false e = of_calm (BlkClient c) p e
 
   -- an actor's ends are those of its job

@@ -21,11 +21,12 @@ use Rattle.layout_laws.specs.Seats.Ends.{client_queue, ends_from, net_count, sen
 use Rattle.layout_laws.specs.Seats.Named.{AreNetNamed}
 use Rattle.layout_laws.proofs.SeatsLemmas.Naming.{net_named}
 use Rattle.layout_laws.proofs.SeatsLemmas.Seats.{has_seat}
-use Rattle.cast_core.specs.Casts.{calm_part, client_pools, net_place}
+use Rattle.cast_core.specs.Casts.{client_pools, job_part, net_place}
 use Rattle.cast_core.specs.Hostile.{acts_at, net_rogue_at}
 use Rattle.cast_core.specs.Sources.{client_mac, client_program}
 use Rattle.cast_law.specs.Jobs.{PlayJobs}
 use Rattle.cast_law.proofs.Calming.{hostile_there, wild_by}
+use Rattle.cast_law.proofs.Restarted.{plays_calm, plays_rogue}
 
 or_false : (b : Bool) → (b || false) ≡ b
 or_false true = refl
@@ -59,7 +60,7 @@ module _ (plan : Plan) (trace : Trace) (cast : List Part) (plays : PlayJobs plan
       let zero_more : 0 + k ≡ k = omega arith in
       let takes = has_seat plan NetSender sender named.sender (suc (suc there.0)) (intake (client_queue k + 4)) (there.1 ∙ ap (λ n. Some (intake (client_queue n + 4))) zero_more) in
       let gives = has_seat plan NetSender sender named.sender (suc (suc (suc there.0))) (outlet (client_queue k + 5)) (there.2 ∙ ap (λ n. Some (outlet (client_queue n + 5))) zero_more) in
-      let calm : hostiles cast sender ≡ false = hostile_there cast sender (SendingPart (sender_at 0 (frame_most plan) (net_place plan trace).pools)) (plays NetSender sender named.sender) in
+      let calm : hostiles cast sender ≡ false = hostile_there cast sender (SendingPart (sender_at 0 (frame_most plan) (net_place plan trace).pools)) (plays_calm plan trace cast plays NetSender sender named.sender (SendingPart (sender_at 0 (frame_most plan) (net_place plan trace).pools)) refl refl) in
       let one : takes.0 ≡ active.0 = some_is (sym takes.1 ∙ active.1) in
       let other : gives.0 ≡ free.0 = some_is (sym gives.1 ∙ free.1) in
       let consumer : active.0.consumer.0 ≡ sender = sym (ap (λ (r : QueueRow). r.consumer.0) one) ∙ takes.2 in
@@ -72,8 +73,16 @@ module _ (plan : Plan) (trace : Trace) (cast : List Part) (plays : PlayJobs plan
 
   -- which it is where the plan has a hostile client there
   pub client_wild : (k : ℕ) (c : NetClientKeys) → slice_get net.client k ≡ Some c → wild_in (hostiles cast) (queues_of plan) (client_first 0 k + 4) ≡ is_net_rogue plan k
-  client_wild k c at = (ends_wild k c at).0 ∙ by (is_net_rogue plan k) (plays (NetClient k) (actor_named plan c.pd).0 (named.client k c at))
+  client_wild k c at = (ends_wild k c at).0 ∙ by (is_net_rogue plan k) refl
     where
-      by : (t : Bool) → slice_get cast (actor_named plan c.pd).0 ≡ (if t then Some (HostilePart (net_rogue_at 0 k (client_pools plan k) (acts_at trace.net_acts k))) else calm_part plan trace (NetClient k)) → hostiles cast (actor_named plan c.pd).0 ≡ t
-      by true part = hostile_there cast (actor_named plan c.pd).0 (HostilePart (net_rogue_at 0 k (client_pools plan k) (acts_at trace.net_acts k))) part
-      by false part = hostile_there cast (actor_named plan c.pd).0 (NetworkPart (client_at 0 k (client_program plan trace k) (client_mac plan k) (own_pools (client_pools plan k)))) part
+      owner : ℕ
+      owner = (actor_named plan c.pd).0
+
+      by : (t : Bool) → is_net_rogue plan k ≡ t → hostiles cast owner ≡ t
+      by true hostile =
+          let part : job_part plan trace (NetClient k) ≡ Some (HostilePart (net_rogue_at 0 k (client_pools plan k) (acts_at trace.net_acts k))) = rw hostile refl in
+          let rogue = plays_rogue plan trace cast plays (NetClient k) owner (named.client k c at) (net_rogue_at 0 k (client_pools plan k) (acts_at trace.net_acts k)) part in
+          hostile_there cast owner (HostilePart rogue.0) rogue.1
+      by false calm =
+          let part : job_part plan trace (NetClient k) ≡ Some (NetworkPart (client_at 0 k (client_program plan trace k) (client_mac plan k) (own_pools (client_pools plan k)))) = rw calm refl in
+          hostile_there cast owner (NetworkPart (client_at 0 k (client_program plan trace k) (client_mac plan k) (own_pools (client_pools plan k)))) (plays_calm plan trace cast plays (NetClient k) owner (named.client k c at) (NetworkPart (client_at 0 k (client_program plan trace k) (client_mac plan k) (own_pools (client_pools plan k)))) part refl)
