@@ -10,6 +10,7 @@ use crate::placing::{are_at_home, do_add_up, goes_right};
 use crate::scripts::{Buffers, Hostile};
 use crate::watching::{is_block_right, is_network_right, is_serial_right};
 use cargo_core::Memory;
+use expect_core::Report;
 use region_layout::{Layout, lay_out};
 use sdf_model::TEXT_MOST;
 use sdf_plan::{Plan, SdfFault};
@@ -18,6 +19,7 @@ use std::rt::Files;
 use std::{fs, io};
 use system_core::{Ending, System};
 use trace_text::{Trace, TraceFault, is_blk_rogue, is_net_rogue, is_serial_rogue, read_trace};
+use wire_core::Entry;
 
 /// The most steps of a play that is to get quiet.
 const AMPLE: u64 = 1_000_000;
@@ -30,13 +32,15 @@ struct Numbers {
 }
 
 /// What plays came to: how many there were, how many of them were right, how many had ample room to
-/// get quiet, how many got quiet then, and the first that was wrong.
+/// get quiet, how many got quiet then, in how many there were bad entries, and the first that was
+/// wrong.
 #[derive(Clone, Copy)]
 struct Tally {
     plays: u64,
     right: u64,
     ample: u64,
     quiet: u64,
+    bad: u64,
     wrong: Option<u64>,
 }
 
@@ -156,9 +160,11 @@ fn play(
 {
     let limit = limit_of(number);
     let (system, ending) = System::played(alloc, plan, layout, trace, number, limit)?;
-    let right = is_right(alloc, plan, layout, trace, &system, limit)?;
+    let report = system.report()?;
+    let right = is_right(alloc, plan, layout, trace, system.journal(), &report, limit)?;
     drop(system);
     tally.add(number, right, ending);
+    tally.bad = tally.bad.saturating_add(u64::from(report.bad > 0));
     Ok(())
 }
 
@@ -196,6 +202,7 @@ fn told(alloc: Global, plan: &Plan, lines: &str, numbers: Numbers) -> Result<Str
         right: 0,
         ample: 0,
         quiet: 0,
+        bad: 0,
         wrong: None,
     };
     for k in 0..numbers.count {
@@ -207,9 +214,13 @@ fn told(alloc: Global, plan: &Plan, lines: &str, numbers: Numbers) -> Result<Str
         right,
         ample,
         quiet,
+        bad,
         wrong,
     } = tally;
     let mut text = format!(in alloc; "{right} of {plays} right, {quiet} of {ample} quiet")?;
+    if bad > 0 {
+        text.push_str(", with bad entries")?;
+    }
     if let Some(number) = wrong {
         write!(text, ", and {number} is wrong")?;
     }

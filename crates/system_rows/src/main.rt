@@ -15,13 +15,13 @@
 //!
 //! A row `hostile FILE | TRACE | CLASSES | FIRST | COUNT` stands for so many plays beside hostile
 //! clients of these classes, whose acts are drawn by the number of the play, from the first on. The
-//! line says how many were right, and how many of those with ample steps got quiet. Right is a play
-//! within its limit in which each other client's record is a beginning of what the trace gives it,
-//! and so is what it sends, each all of it where the play is quiet and no client of its class is
-//! hostile; in which the lines of the pools add up, what goes to a driver names a buffer of a client
-//! and of each other client's no more than it put, the disk is asked for blocks of the client's own
-//! partition, and in which, where it is quiet, the buffers of other clients are in queues and with
-//! them.
+//! line says how many were right, how many of those with ample steps got quiet, and whether there
+//! were bad entries. Right is a play within its limit in which each other client's record is a
+//! beginning of what the trace gives it, and so is what it sends, each all of it where the play is
+//! quiet and no client of its class is hostile; in which the lines of the pools add up, what goes to
+//! a driver names a buffer of a client, and of each client's no more than it put, and the disk is
+//! asked for blocks of the client's own partition; and in which, where it is quiet, the buffers of
+//! other clients are in queues and with them.
 #![tactic(auto)]
 
 ghost use Rattle.std.specs.Prelude.{◌≡◌, ◌<◌, length};
