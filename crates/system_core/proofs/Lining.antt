@@ -144,7 +144,7 @@ module _ (a : Inside) (i : IsSystem a) where
         line_there 0 a.pools.items k row at
         ∙ (ap (λ n. Some (line_of row (counted a.wires.world (holders_of a.actors.items) (record { 0 = n })))) none
         ∙ ap (λ c. Some (line_of row c)) (line_beside (setting_of a).history a.rows.items a.pools.items place a.actors.items start a.journal.items i.holds.passed a.wires.world has over
-        (around_here (setting_of a).history a.rows.items a.names.items a.wires.world a.actors.items a.journal.items i.holds a.pools.items in_place place placed) (i.holds.carry place placed) i.holds.legal (i.own place placed) begin k row at free));
+        (around_here (setting_of a).history a.rows.items (setting_of a).names a.wires.world a.actors.items a.journal.items i.holds a.pools.items in_place place placed) (i.holds.carry place placed) i.holds.legal (i.own place placed) begin k row at free));
   }
 
   -- so they are from the start state on, where each pool's buffers are in its owner's hand
