@@ -8,9 +8,9 @@ use Rattle.pd_runner.proofs.work.work.Goals as goal
 
 pub step-requires-clause-may : goal.step-requires-clause-may
 step-requires-clause-may g c = may_seated c.loop.worker.actor c.loop.seats c.loop.invariant.comes.sits.fits (wild_on _ _ c.loop.made _ _ c.loop.invariant.comes c.requires.wild) (λ hostile. elim c.else-is_hostile.branch [
-      | else-is_hostile-via-then-is_hostile+else-at_rest w ↦ sym w.at_rest.ensures ∙ w.if-at_rest.false
-      | else-is_hostile-via-else-is_hostile w ↦ let no : true ≡ false = sym hostile ∙ (sym c.is_hostile.ensures ∙ w.if-is_hostile.false) in absurd cc
-    ])
+  | else-is_hostile-via-then-is_hostile+else-at_rest w ↦ sym w.at_rest.ensures ∙ w.if-at_rest.false
+  | else-is_hostile-via-else-is_hostile w ↦ let no : true ≡ false = sym hostile ∙ (sym c.is_hostile.ensures ∙ w.if-is_hostile.false) in absurd cc
+])
 
 pub loop-preserved : goal.loop-preserved
 loop-preserved g c = let was = c.loop.invariant in record {
