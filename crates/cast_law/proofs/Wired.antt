@@ -2,7 +2,7 @@
 -- place.
 use Rattle.std.proofs.Common.{◌≡◌, ◌⊎◌, ◌+◌, ◌*◌, ◌%◌, ◌==◌, ◌&&◌, ◌<◌, ◌≤◌, ◌++◌, ℕ, zero, suc, Bool, true, false, if◌then◌else◌, Option, Some, None, unwrap_or, inl, inr, List, [], ◌∷◌, length, map, flat_map, slice_get, refl, sym, ap, ap₂, ◌∙◌, subst, arith}
 use Rattle.std.specs.List.{All}
-use Rattle.std.specs.Option.{option_map_or}
+use Rattle.std.specs.Option.{option_map, option_map_or}
 use Rattle.std.proofs.lemmas.List.{append-nil}
 use Rattle.frame_core.specs.declared.mac.Mac.{Mac}
 use Rattle.frame_core.specs.Macs.{mac_of, mac_bytes, is_mac_text, byte_at}
@@ -41,6 +41,7 @@ use Rattle.actor_set.specs.Actors.{part_of}
 use Rattle.actor_set.specs.declared.actor.Actor.{Actor}
 use Rattle.actor_set.specs.Laws.Kinds.{frames_of, hostiles, image_of, scene_of}
 use Rattle.play_core.specs.Names.{wild_in}
+use Rattle.cast_law.specs.Restarting.{disarmed}
 use Rattle.cast_law.proofs.Senders.{ends_wild}
 use Rattle.cast_law.proofs.Calming.{calm_net, job_view}
 use Rattle.wired_law.specs.Wiring.{HasWhole, HasNoNetwork, IsOfNetwork}
@@ -330,7 +331,7 @@ module _ (plan : Plan) (trace : Trace) (actors : List Actor) (valid : Valid plan
     -- the queues on which a client sends are wild where its actor is hostile
     pub send_wild : (k : ℕ) (c : NetClientKeys) → slice_get net.client k ≡ Some c
         → (wild_in (hostiles cast) (queues_of plan) (client_first place.first k + 4) ≡ hostiles cast (actor_named plan c.pd).0) × (wild_in (hostiles cast) (queues_of plan) (client_first place.first k + 5) ≡ hostiles cast (actor_named plan c.pd).0)
-    send_wild = ends_wild plan trace cast part_at net is
+    send_wild = ends_wild plan trace cast (λ job k has. ap (option_map disarmed) (part_at job k has)) net is
 
     pub whole_is : HasWhole (queues_of plan) place cast
     whole_is = record {

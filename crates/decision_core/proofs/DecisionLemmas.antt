@@ -19,8 +19,7 @@ use Rattle.decision_core.specs.declared.showing.Asked.TheVariants as Ask
 use Rattle.decision_core.specs.declared.showing.Showing.TheVariants as Show
 use Rattle.workload.specs.Generated.{generated_text}
 use Rattle.workload.specs.declared.description.TheConstants.{FULL_EXAMPLE}
-use Rattle.decision_core.specs.Decisions.{Decision, Say, Play, Run, asked_on, AsksFor, to_play, to_run, AsksAlone, AloneDecides, OneTextDecides, long_text_alone, bad_text, good_text, bus_played, ports_played, alone, TraceDecides, PlanDecides, TextDecides, GeneratedDecides, Decides, NamesDescription, refuses, refuses_rogue, long_trace, bad_trace, good_trace, checked, laid_out, hostile, traced, long_description, refused, accepted, no_command, described, generated}
-use Rattle.decision_core.specs.Rogues.{first_refused}
+use Rattle.decision_core.specs.Decisions.{Decision, Say, Play, Run, asked_on, AsksFor, to_play, to_run, AsksAlone, AloneDecides, OneTextDecides, long_text_alone, bad_text, good_text, bus_played, ports_played, alone, TraceDecides, PlanDecides, TextDecides, GeneratedDecides, Decides, NamesDescription, refuses, long_trace, bad_trace, good_trace, checked, laid_out, traced, long_description, refused, accepted, no_command, described, generated}
 use Rattle.decision_core.specs.Naming.{HasDescription}
 use Rattle.decision_core.specs.declared.showing.Alone.{Alone}
 use Rattle.decision_core.specs.declared.showing.Alone.TheVariants as Only
@@ -32,7 +31,7 @@ use Rattle.command_words.specs.declared.command.Options.{Options}
 use Rattle.command_words.specs.Words.{IsPlay, IsRun}
 use Rattle.command_words.proofs.Letters.{run-or-gen}
 use Rattle.command_words.proofs.Once.{same-command}
-use Rattle.decision_core.specs.Leading.{AsksOfTrace, PlanSays, says_accepted, says_layout, says_hostile}
+use Rattle.decision_core.specs.Leading.{AsksOfTrace, PlanSays, says_accepted, says_layout}
 use Rattle.decision_core.proofs.WordLemmas.{asks-of, third-named}
 use Rattle.decision_core.proofs.JudgedLemmas.{same-accepted, accepted-or-refused, same-refused}
 
@@ -129,19 +128,6 @@ same-asked words desc trace desc' trace' _ _ (to_play o p) (to_play o' q) plan t
 same-asked words desc trace desc' trace' _ _ (to_play o p) (to_run n q) plan t = absurd (play-or-run words _ _ p.words_are q.words_are)
 same-asked words desc trace desc' trace' _ _ (to_run n p) (to_play o q) plan t = absurd (play-or-run words _ _ q.words_are p.words_are)
 same-asked words desc trace desc' trace' _ _ (to_run n p) (to_run n' q) plan t = ap (λ (x : Option ℕ). Run plan t x) (same-limit words desc trace desc' trace' n n' p q)
-
--- beside one first client what the same words ask for isn't done
-same-refused-place : (words : List (List ℕ)) (desc trace desc' trace' : List ℕ) (a b : Asked) → AsksFor words desc trace a → AsksFor words desc' trace' b → (plan : Plan) → first_refused plan a ≡ first_refused plan b
-same-refused-place words desc trace desc' trace' _ _ (to_play o p) (to_play o' q) plan = refl
-same-refused-place words desc trace desc' trace' _ _ (to_play o p) (to_run n q) plan = absurd (play-or-run words _ _ p.words_are q.words_are)
-same-refused-place words desc trace desc' trace' _ _ (to_run n p) (to_play o q) plan = absurd (play-or-run words _ _ q.words_are p.words_are)
-same-refused-place words desc trace desc' trace' _ _ (to_run n p) (to_run n' q) plan = refl
-
-same-rogue : (words : List (List ℕ)) (desc trace desc' trace' : List ℕ) (a b : Asked) → AsksFor words desc trace a → AsksFor words desc' trace' b → (plan : Plan) (p q : Place) → first_refused plan a ≡ Some p → first_refused plan b ≡ Some q → p ≡ q
-same-rogue words desc trace desc' trace' a b w v plan p q h i = let e : Some p ≡ Some q = sym h ∙ same-refused-place words desc trace desc' trace' a b w v plan ∙ i in cc
-
-rogue-or-none : (words : List (List ℕ)) (desc trace desc' trace' : List ℕ) (a b : Asked) → AsksFor words desc trace a → AsksFor words desc' trace' b → (plan : Plan) (p : Place) → first_refused plan a ≡ Some p → first_refused plan b ≡ None → ⊥
-rogue-or-none words desc trace desc' trace' a b w v plan p h i = let e : Some p ≡ None = sym h ∙ same-refused-place words desc trace desc' trace' a b w v plan ∙ i in cc
 
 long-or-short : (xs : List ℕ) → 16777216 < length xs → length xs ≤ 16777216 → ⊥
 long-or-short xs long short = omega arith
@@ -309,21 +295,14 @@ module _ (R S : List ℕ → List ℕ → Type 0) (same : (name a b : List ℕ) 
   -- what the words decide for a plan
   one-plan : (plan : Plan) (d d' : Decision) → PlanDecides R words plan d → PlanDecides S words plan d' → d ≡ d'
   one-plan plan _ _ (checked desc c) (checked desc' c') = refl
-  one-plan plan _ _ (checked desc c) (hostile desc' trace' o' place' p' f') = absurd (check-or-traced words desc desc' trace' o' c p')
-  one-plan plan _ _ (laid_out desc l) (hostile desc' trace' o' place' p' f') = absurd (layout-or-traced words desc desc' trace' o' l p')
-  one-plan plan _ _ (hostile desc trace o place p f) (checked desc' c') = absurd (check-or-traced words desc' desc trace o c' p)
-  one-plan plan _ _ (hostile desc trace o place p f) (laid_out desc' l') = absurd (layout-or-traced words desc' desc trace o l' p)
-  one-plan plan _ _ (hostile desc trace o place p f) (hostile desc' trace' o' place' p' f') = ap refuses_rogue (same-rogue words desc trace desc' trace' o o' p p' plan place place' f f')
-  one-plan plan _ _ (hostile desc trace o place p f) (traced desc' trace' bytes' o' d' p' f' r' t') = absurd (rogue-or-none words desc trace desc' trace' o o' p p' plan place f f')
-  one-plan plan _ _ (traced desc trace bytes o d p f r t) (hostile desc' trace' o' place' p' f') = absurd (rogue-or-none words desc' trace' desc trace o' o p' p plan place' f' f)
   one-plan plan _ _ (checked desc c) (laid_out desc' l') = absurd (check-or-layout words desc desc' c l')
-  one-plan plan _ _ (checked desc c) (traced desc' trace' bytes' o' d' p' f' r' t') = absurd (check-or-traced words desc desc' trace' o' c p')
+  one-plan plan _ _ (checked desc c) (traced desc' trace' bytes' o' d' p' r' t') = absurd (check-or-traced words desc desc' trace' o' c p')
   one-plan plan _ _ (laid_out desc l) (checked desc' c') = absurd (check-or-layout words desc' desc c' l)
   one-plan plan _ _ (laid_out desc l) (laid_out desc' l') = refl
-  one-plan plan _ _ (laid_out desc l) (traced desc' trace' bytes' o' d' p' f' r' t') = absurd (layout-or-traced words desc desc' trace' o' l p')
-  one-plan plan _ _ (traced desc trace bytes o d p f r t) (checked desc' c') = absurd (check-or-traced words desc' desc trace o c' p)
-  one-plan plan _ _ (traced desc trace bytes o d p f r t) (laid_out desc' l') = absurd (layout-or-traced words desc' desc trace o l' p)
-  one-plan plan _ _ (traced desc trace bytes o d p f r t) (traced desc' trace' bytes' o' d' p' f' r' t') =
+  one-plan plan _ _ (laid_out desc l) (traced desc' trace' bytes' o' d' p' r' t') = absurd (layout-or-traced words desc desc' trace' o' l p')
+  one-plan plan _ _ (traced desc trace bytes o d p r t) (checked desc' c') = absurd (check-or-traced words desc' desc trace o c' p)
+  one-plan plan _ _ (traced desc trace bytes o d p r t) (laid_out desc' l') = absurd (layout-or-traced words desc' desc trace o l' p)
+  one-plan plan _ _ (traced desc trace bytes o d p r t) (traced desc' trace' bytes' o' d' p' r' t') =
       let b : bytes ≡ bytes' = same trace' bytes bytes' (subst (λ n. R n bytes) (same-trace words desc trace desc' trace' o o' p p') r) r' in
       one-trace plan o o' (λ t. same-asked words desc trace desc' trace' o o' p p' plan t) bytes' d d' (subst (λ x. TraceDecides plan o x d) b t) t'
 
@@ -358,8 +337,7 @@ pub plan-read : (R S : List ℕ → List ℕ → Type 0) → ((name bytes : List
     → PlanDecides R words plan d → PlanDecides S words plan d
 plan-read R S m words plan _ (checked desc c) = checked desc c
 plan-read R S m words plan _ (laid_out desc l) = laid_out desc l
-plan-read R S m words plan _ (hostile desc trace o place p f) = hostile desc trace o place p f
-plan-read R S m words plan _ (traced desc trace bytes o d p f r t) = traced desc trace bytes o d p f (m trace bytes r) t
+plan-read R S m words plan _ (traced desc trace bytes o d p r t) = traced desc trace bytes o d p (m trace bytes r) t
 
 pub text-read : (P Q : Plan → Decision → Type 0) → ((plan : Plan) (d : Decision) → P plan d → Q plan d) → (bytes : List ℕ) (d : Decision)
     → TextDecides P bytes d → TextDecides Q bytes d
@@ -375,7 +353,6 @@ read-before told told' same name bytes r = rw (same name) at r
 plan-said : (R : List ℕ → List ℕ → Type 0) (words : List (List ℕ)) (command : Command) (plan : Plan) (d : Decision) → Spells words command → PlanSays command plan d → PlanDecides R words plan d
 plan-said R words command plan _ s (says_accepted e) = let t : Spells words Do.Check = subst (λ (c : Command). Spells words c) e s in checked t.0 t.1
 plan-said R words command plan _ s (says_layout e) = let t : Spells words Do.Layout = subst (λ (c : Command). Spells words c) e s in laid_out t.0 t.1
-plan-said R words command plan _ s (says_hostile asked place a f) = let t = asks-of words command asked s a in hostile t.0 t.1 asked place t.2 f
 
 pub said-decides : (R : List ℕ → List ℕ → Type 0) (words : List (List ℕ)) (command : Command) (bytes : List ℕ) (d : Decision) → Spells words command → TextDecides (PlanSays command) bytes d → TextDecides (PlanDecides R words) bytes d
 said-decides R words command bytes d s h = text-read (PlanSays command) (PlanDecides R words) (λ plan e k. plan-said R words command plan e s k) bytes d h

@@ -11,7 +11,7 @@ use Rattle.shelf_core.specs.Outside.{IsRead, read_most}
 use Rattle.decision_core.specs.declared.showing.Alone.{Alone}
 use Rattle.decision_core.specs.declared.showing.Alone.TheVariants as Only
 use Rattle.decision_core.specs.Decisions.{Decision, AloneDecides, OneTextDecides, long_text_alone, bad_text, good_text, bus_played, ports_played, asked_on, TextDecides, TraceDecides, GeneratedDecides, long_description, refused, accepted, long_trace, bad_trace, good_trace, IsStatusOf}
-use Rattle.decision_core.specs.Leading.{PlanSays, says_accepted, says_layout, says_hostile}
+use Rattle.decision_core.specs.Leading.{PlanSays, says_accepted, says_layout}
 use Rattle.decision_core.specs.Readings.{IsLong, IsWithinLimit, IsOfText, IsOfPlan, IsOfPlay, IsUnread}
 use Rattle.command_words.specs.declared.command.Command.{Command}
 use Rattle.command_words.specs.declared.command.Command.TheVariants as Do
@@ -56,7 +56,6 @@ alone-status (Only.Switch schedule) told bytes d s r t h = text-alone _ _ (ports
 plan-status : (words : List (List ℕ)) (command : Command) (plan : Plan) (d : Decision) (s : Status) → Spells words command → PlanSays command plan d → IsStatusOf d s → IsOfPlan words s
 plan-status words command plan _ s spells (says_accepted e) h = let t : Spells words Do.Check = subst (λ (c : Command). Spells words c) e spells in rw h (t.0, inl t.1)
 plan-status words command plan _ s spells (says_layout e) h = let t : Spells words Do.Layout = subst (λ (c : Command). Spells words c) e spells in rw h (t.0, inr t.1)
-plan-status words command plan _ s spells (says_hostile asked place a f) h = rw h tt
 
 pub said-status : (told : Option (List ℕ)) (words : List (List ℕ)) (command : Command) (bytes : List ℕ) (d : Decision) (s : Status) → Spells words command → IsRead told bytes → TextDecides (PlanSays command) bytes d → IsStatusOf d s → IsOfText told (IsOfPlan words) s
 said-status told words command bytes _ s spells r (long_description l) h = inl (long-read told bytes r l, h)

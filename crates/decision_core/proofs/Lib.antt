@@ -1,5 +1,4 @@
 pub mod DecisionLemmas
-pub mod FriendlyLemmas
 pub mod GenLemmas
 pub mod JudgedLemmas
 pub mod LastLemmas

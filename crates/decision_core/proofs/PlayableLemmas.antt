@@ -10,7 +10,7 @@ use Rattle.decision_core.specs.declared.showing.Alone.TheVariants as Only
 use Rattle.decision_core.specs.declared.status.Status.{Status}
 use Rattle.decision_core.specs.Decided.{decision_of, IsPlayable}
 use Rattle.decision_core.specs.Decisions.{Decision, Say, Play, Run, PlayBus, PlayPorts, AloneDecides, long_text_alone, bad_text, good_text, TextDecides, long_description, refused, accepted}
-use Rattle.decision_core.specs.Leading.{PlanSays, says_accepted, says_layout, says_hostile}
+use Rattle.decision_core.specs.Leading.{PlanSays, says_accepted, says_layout}
 use Rattle.command_words.specs.declared.command.Command.{Command}
 use Rattle.sdf_plan.specs.declared.plan.Plan.{Plan}
 
@@ -56,7 +56,6 @@ text-said command bytes _ (accepted plan d l i says) = plan-says plan d says
     plan-says : (plan : Plan) (d : Decision) → PlanSays command plan d → IsOfText d
     plan-says plan _ (says_accepted e) = tt
     plan-says plan _ (says_layout e) = tt
-    plan-says plan _ (says_hostile asked place a f) = tt
 
 pub text-playable : (command : Command) (bytes : List ℕ) (d : Decided) → TextDecides (PlanSays command) bytes (decision_of d) → IsPlayable d
 text-playable command bytes d h = kept-playable d (text-said command bytes (decision_of d) h)

@@ -24,7 +24,6 @@ use Rattle.decision_core.specs.Decisions.{Say, NamesDescription, AsksFor, AsksAl
 use Rattle.decision_core.specs.Judged.{IsAccepted}
 use Rattle.decision_core.specs.Leading.{PlanSays}
 use Rattle.decision_core.specs.Readings.{IsWithinLimit, IsOfText, IsOfPlay, LeavesPlay, OpensInTurn, ReadLast, opens_nothing, opens_alone, opens_description, opens_trace, read_none, read_no_text, read_alone, read_description, read_trace}
-use Rattle.decision_core.specs.Rogues.{first_refused}
 use Rattle.decision_core.specs.Settled.{Settles, SettlesTrace}
 use Rattle.decision_core.proofs.DecisionLemmas.{alone-spell, bad-none, gen-or-alone, gen-or-named, map-ok, names-spell, read-before, said-decides}
 use Rattle.decision_core.proofs.LastLemmas.{alone-status, gen-unread, said-status, trace-status, within-read}
@@ -171,9 +170,9 @@ module _ {F : Type 0} (text : F → List ℕ → Option (List ℕ)) (left : F �
 
   -- the description is accepted, and its trace decides
   pub settle-traced : (s'' : F) (bytes trace : List ℕ) (plan : Plan) (asked : Asked) (r : Result Decided ReadStop) → NamesDescription words name → AsksFor words name trace asked → ReadsFrom text left opens faults failed (Opens name) (LeavesRest (text s) name) s s' (Ok bytes)
-      → IsRead (text s name) bytes → length bytes ≤ text_most → IsAccepted bytes plan → first_refused plan asked ≡ None → SettlesTrace text left opens faults failed trace plan asked s' s'' r → Settles text left opens faults failed words s s'' r
-  settle-traced s'' bytes trace plan asked r named asks h read short is friendly t = record {
-    decides = map-ok r _ _ (λ d k. described name bytes (decision_of d) named read (accepted plan (decision_of d) short is (traced name trace k.0 asked (decision_of d) asks friendly (read-before (text s) (text s') h.texts trace k.0 k.1) k.2))) t.decides;
+      → IsRead (text s name) bytes → length bytes ≤ text_most → IsAccepted bytes plan → SettlesTrace text left opens faults failed trace plan asked s' s'' r → Settles text left opens faults failed words s s'' r
+  settle-traced s'' bytes trace plan asked r named asks h read short is t = record {
+    decides = map-ok r _ _ (λ d k. described name bytes (decision_of d) named read (accepted plan (decision_of d) short is (traced name trace k.0 asked (decision_of d) asks (read-before (text s) (text s') h.texts trace k.0 k.1) k.2))) t.decides;
     reads = reads-on text left opens faults failed (Opens name) (Opens trace) (LeavesRest (text s) name) (OfEach (LeavesPlay (text s') trace)) (OpensInTurn (WasRead (text s)) words) (OfEach (ReadLast (text s) words)) s s' s'' bytes r h t.reads
         (opens_trace name trace bytes asked plan asks read short is (t.reads.opened ∙ ap (λ names. also_opened names trace) h.opened))
         (λ d k status e. trace-last (text s) (text s') h.texts words name trace asked (left s) (left s') (left s'') (opens s) (opens s') (opens s'') status asks (within-read (text s name) bytes read short) h.opened (k status e));

@@ -1,6 +1,5 @@
 -- What the words and the texts under their names decide, one constructor a cause.
-use Rattle.std.specs.Prelude.{◌≡◌, ◌⊎◌, ◌<◌, ◌≤◌, ℕ, Option, Some, None, List, length}
-use Rattle.sdf_plan.specs.declared.place.Place.{Place}
+use Rattle.std.specs.Prelude.{◌≡◌, ◌⊎◌, ◌<◌, ◌≤◌, ℕ, Option, List, length}
 use Rattle.sdf_plan.specs.declared.place.Refusal.{Refusal}
 use Rattle.sdf_plan.specs.declared.plan.Plan.{Plan}
 use Rattle.trace_text.specs.declared.trace.Trace.{Trace}
@@ -31,7 +30,6 @@ use Rattle.decision_core.specs.declared.status.Status.{Status}
 use Rattle.decision_core.specs.declared.status.Status.TheVariants as Ended
 use Rattle.sdf_model.specs.Counts.{text_most}
 use Rattle.decision_core.specs.Judged.{IsAccepted, IsRefusedText}
-use Rattle.decision_core.specs.Rogues.{first_refused}
 
 -- what is decided before anything is played: the status and the text of the answer, that a trace is
 -- played on a plan, or that it is run with a thread for each actor, with a limit of steps or none,
@@ -72,26 +70,17 @@ pub data AsksFor (words : List (List ℕ)) (desc trace : List ℕ) : Asked → T
   to_run : (steps : Option ℕ) → IsRun words desc trace steps
       → AsksFor words desc trace (Ask.Run steps)
 
--- nothing is run beside a hostile client, and for a run a description that has one is refused by
--- rule 0
-abbrev pub refuses_rogue : Place → Decision
-refuses_rogue place = refuses (record { rule = 0; place = place })
-
 -- what the words decide for the plan of a description that is accepted, where reads tells the bytes
--- that were read of a text: a trace is asked for what the words say, unless they ask for a run and
--- there is a hostile client, where the first one is refused
+-- that were read of a text: a trace is asked for what the words say
 pub data PlanDecides (reads : List ℕ → List ℕ → Type 0) (words : List (List ℕ)) (plan : Plan)
     : Decision → Type 0 where
   checked : (desc : List ℕ) → IsCheck words desc
       → PlanDecides reads words plan (Say Ended.Ok (accepted_text plan))
   laid_out : (desc : List ℕ) → IsLayout words desc
       → PlanDecides reads words plan (Say Ended.Ok (layout_text plan (layout_of plan)))
-  hostile : (desc trace : List ℕ) (asked : Asked) (place : Place)
-      → AsksFor words desc trace asked → first_refused plan asked ≡ Some place
-      → PlanDecides reads words plan (refuses_rogue place)
   traced : (desc trace bytes : List ℕ) (asked : Asked) (decision : Decision)
-      → AsksFor words desc trace asked → first_refused plan asked ≡ None
-      → reads trace bytes → TraceDecides plan asked bytes decision
+      → AsksFor words desc trace asked → reads trace bytes
+      → TraceDecides plan asked bytes decision
       → PlanDecides reads words plan decision
 
 -- what the bytes of a description decide: it is too long, it is refused, or it is accepted, and

@@ -1,6 +1,5 @@
 -- What a description leads to before a trace is read.
-use Rattle.std.specs.Prelude.{◌≡◌, ◌≤◌, ℕ, Some, None, List, length}
-use Rattle.sdf_plan.specs.declared.place.Place.{Place}
+use Rattle.std.specs.Prelude.{◌≡◌, ◌≤◌, ℕ, List, length}
 use Rattle.sdf_plan.specs.declared.plan.Plan.{Plan}
 use Rattle.sdf_plan.specs.Elements.{IsNumbered}
 use Rattle.sdf_model.specs.Counts.{text_most}
@@ -16,9 +15,8 @@ use Rattle.decision_core.specs.declared.status.Status.TheVariants as Ended
 use Rattle.decision_core.specs.declared.describing.Next.{Next}
 use Rattle.decision_core.specs.declared.describing.Next.TheVariants as Leads
 use Rattle.decision_core.specs.Decided.{decision_of}
-use Rattle.decision_core.specs.Decisions.{Decision, Say, TextDecides, refuses_rogue}
+use Rattle.decision_core.specs.Decisions.{Decision, Say, TextDecides}
 use Rattle.decision_core.specs.Judged.{IsAccepted}
-use Rattle.decision_core.specs.Rogues.{first_refused}
 
 -- a command asks for this of the trace that it names
 abbrev pub AsksOfTrace : Command → Asked → Type 0
@@ -36,24 +34,20 @@ pub data PlanSays (command : Command) (plan : Plan) : Decision → Type 0 where
       → PlanSays command plan (Say Ended.Ok (accepted_text plan))
   says_layout : command ≡ Do.Layout
       → PlanSays command plan (Say Ended.Ok (layout_text plan (layout_of plan)))
-  says_hostile : (asked : Asked) (place : Place) → AsksOfTrace command asked
-      → first_refused plan asked ≡ Some place → PlanSays command plan (refuses_rogue place)
 
 -- a command leads to this for the plan of a description that is accepted
 abbrev pub LeadsTo : Command → Plan → Next → Type 0
 LeadsTo command plan (Leads.Done decided) = PlanSays command plan (decision_of decided)
 LeadsTo command plan (Leads.Trace plan' asked) =
-    (plan' ≡ plan) × AsksOfTrace command asked × (first_refused plan asked ≡ None)
+    (plan' ≡ plan) × AsksOfTrace command asked
 
--- the bytes of a description are accepted, and the command asks for this of a trace, which can be
--- done of its plan
+-- the bytes of a description are accepted, and the command asks for this of a trace
 pub record LeavesTrace (command : Command) (bytes : List ℕ) (plan : Plan) (asked : Asked)
     : Type 0 where
   pub short : length bytes ≤ text_most
   pub accepted : IsAccepted bytes plan
   pub numbered : IsNumbered plan
   pub asks : AsksOfTrace command asked
-  pub friendly : first_refused plan asked ≡ None
 
 -- a command leads to this, by the bytes of its description
 abbrev pub TextLeadsTo : Command → List ℕ → Next → Type 0

@@ -7,5 +7,4 @@ pub mod Judged
 pub mod Leading
 pub mod Naming
 pub mod Readings
-pub mod Rogues
 pub mod Settled

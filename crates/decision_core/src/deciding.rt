@@ -53,7 +53,7 @@ pub enum Decided {
 }
 
 /// A description is refused.
-pub fn say_refusal(alloc: Global, refusal: Refusal) -> Result<Decided, Memory>
+fn say_refusal(alloc: Global, refusal: Refusal) -> Result<Decided, Memory>
     ensures { IfOk result (λ d. decision_of d ≡ refuses refusal) }
 {
     let text = write_refused(alloc, &refusal)?;

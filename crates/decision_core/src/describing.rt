@@ -1,21 +1,16 @@
 //! What a description leads to before a trace is read.
 ghost use Rattle.std.specs.Prelude.{IfOk};
-ghost use Rattle.sdf_plan.specs.Elements.{IsNumbered};
-ghost use Rattle.command_words.specs.declared.command.Command.TheVariants as Do;
 ghost use Rattle.decision_core.specs.Judged.{IsAcceptedPlan};
 ghost use Rattle.decision_core.specs.Leading.{LeadsTo, TextLeadsTo};
 ghost use Rattle.decision_core.specs.Naming.{HasDescription};
 
-use crate::deciding::{
-    Decided, say_accepted, say_layout, say_refusal, say_too_long, say_unaccepted,
-};
+use crate::deciding::{Decided, say_accepted, say_layout, say_too_long, say_unaccepted};
 use crate::judging::{judge, let_go};
-use crate::rogues::first_rogue;
 use crate::{Asked, Showing};
 use cargo_core::Memory;
 use command_words::Command;
 use sdf_model::TEXT_MOST;
-use sdf_plan::{Plan, Refusal};
+use sdf_plan::Plan;
 use std::alloc::Global;
 
 /// What a description leads to.
@@ -27,29 +22,9 @@ pub enum Next {
     Trace(Plan, Asked),
 }
 
-/// What a run leads to: that the description is refused where there is a hostile client, or else
-/// that the trace is read.
-fn lead_run(alloc: Global, plan: Plan, steps: Option<u64>) -> Result<Next, Memory>
-    requires { IsNumbered plan }
-    ensures { IfOk result (LeadsTo (Do.Run steps) plan) }
-{
-    match first_rogue(alloc, &plan) {
-        Ok(None) => Ok(Next::Trace(plan, Asked::Run(steps))),
-        Ok(Some(place)) => {
-            let_go(plan);
-            Ok(Next::Done(say_refusal(alloc, Refusal { rule: 0, place })?))
-        }
-        Err(memory) => {
-            let_go(plan);
-            Err(memory)
-        }
-    }
-}
-
 /// What a command leads to for the plan of a description that is accepted.
 fn lead_plan(alloc: Global, command: Command, plan: Plan) -> Result<Next, Memory>
     requires accepted { IsAcceptedPlan plan }
-    requires numbered { IsNumbered plan }
     requires named { HasDescription command }
     ensures { IfOk result (LeadsTo command plan) }
 {
@@ -65,7 +40,7 @@ fn lead_plan(alloc: Global, command: Command, plan: Plan) -> Result<Next, Memory
             Ok(Next::Done(said?))
         }
         Command::Play(options) => Ok(Next::Trace(plan, Asked::Play(Showing::Report(options)))),
-        Command::Run(steps) => lead_run(alloc, plan, steps),
+        Command::Run(steps) => Ok(Next::Trace(plan, Asked::Run(steps))),
         Command::Gen(_) => unreachable!(),
         Command::I2c(_) => unreachable!(),
         Command::Switch(_) => unreachable!(),

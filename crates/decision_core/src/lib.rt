@@ -5,7 +5,6 @@ mod alone;
 mod deciding;
 mod describing;
 mod judging;
-mod rogues;
 mod showing;
 mod status;
 

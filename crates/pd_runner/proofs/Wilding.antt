@@ -1,5 +1,5 @@
 -- A hostile actor may be stepped at its ends: their rings are wild, and stay so.
-use Rattle.std.proofs.Common.{◌≡◌, ◌⊎◌, ◌∙◌, ℕ, Bool, true, false, List, refl, sym, ap, subst, inl, inr, Option, Some, None, slice_get}
+use Rattle.std.proofs.Common.{◌≡◌, ◌⊎◌, ◌∙◌, ℕ, true, false, List, refl, sym, ap, subst, inl, inr, Option, Some, None, slice_get}
 use Rattle.std.proofs.lemmas.List.Elements.{All-append}
 use Rattle.wire_core.specs.declared.names.QueueId.{QueueId}
 use Rattle.wire_core.specs.Ends.{Role, Consumer, Producer}
@@ -28,9 +28,6 @@ wild_on a s n b t come wild hostile r k e at =
 there_owned : (o : Option EndIs) → (end_known o).owned ≡ true → (e : EndIs) × (o ≡ Some e)
 there_owned None owned = cc
 there_owned (Some e) owned = (e, refl)
-
-at_work : (b : Bool) → b ≡ true → b ≡ false → ⊥
-at_work b yes no = let e : true ≡ false = sym yes ∙ no in cc
 
 -- a step may be asked of an actor that isn't a hostile one at rest
 pub may_seated : (x : Actor) (s : SeatsAre) → FitsActor (seat_end s) x → AreWild x s → (is_hostile (manner_of (part_of x)) ≡ true → actor_rests x ≡ false) → MayStep (IsWildSeat s) x

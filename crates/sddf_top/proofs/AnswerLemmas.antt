@@ -11,7 +11,7 @@ use Rattle.decision_core.specs.declared.status.Status.TheVariants as Ended
 use Rattle.sddf_top.specs.declared.played.Played.{Played}
 use Rattle.decision_core.specs.declared.showing.Alone.{Alone}
 use Rattle.decision_core.specs.declared.showing.Alone.TheVariants as Only
-use Rattle.decision_core.specs.Decisions.{Decision, Say, Play, Run, PlayBus, PlayPorts, AloneDecides, long_text_alone, bad_text, good_text, alone, asked_on, Decides, TextDecides, PlanDecides, TraceDecides, GeneratedDecides, long_trace, bad_trace, good_trace, checked, laid_out, hostile, traced, long_description, refused, accepted, no_command, described, generated, IsStatusOf}
+use Rattle.decision_core.specs.Decisions.{Decision, Say, Play, Run, PlayBus, PlayPorts, AloneDecides, long_text_alone, bad_text, good_text, alone, asked_on, Decides, TextDecides, PlanDecides, TraceDecides, GeneratedDecides, long_trace, bad_trace, good_trace, checked, laid_out, traced, long_description, refused, accepted, no_command, described, generated, IsStatusOf}
 use Rattle.sddf_top.specs.Shown.{ending_of}
 use Rattle.sddf_top.specs.Answers.{Answers, Comes, Shows, ShowsRun, Serves, IsEnough, IsFault, no_reading, no_writing, no_memory}
 use Rattle.shelf_core.specs.Reading.{WasRead, IsTold}
@@ -139,8 +139,7 @@ module _ (R : List ℕ → List ℕ → Type 0) (words : List (List ℕ)) where
   plan-calm : (plan : Plan) (d : Decision) → PlanDecides R words plan d → IsCalm d
   plan-calm plan _ (checked desc c) = may-be Ended.Ok
   plan-calm plan _ (laid_out desc l) = may-be Ended.Ok
-  plan-calm plan _ (hostile desc trace o place p f) = may-be (Ended.Refused 0)
-  plan-calm plan _ (traced desc trace bytes o d p f r t) = trace-calm plan o bytes d t
+  plan-calm plan _ (traced desc trace bytes o d p r t) = trace-calm plan o bytes d t
 
   is-calm : (d : Decision) → Decides R words d → IsCalm d
   is-calm _ (no_command k h) = may-be (Ended.Usage k)

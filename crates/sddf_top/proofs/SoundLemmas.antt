@@ -11,14 +11,11 @@ use Rattle.decision_core.specs.declared.showing.Asked.TheVariants as Ask
 use Rattle.decision_core.specs.declared.showing.Showing.TheVariants as Show
 use Rattle.decision_core.specs.Judged.{IsAcceptedPlan}
 use Rattle.decision_core.specs.Decided.{decision_of, IsSound, AsksToRun}
-use Rattle.decision_core.proofs.FriendlyLemmas.{IsFriendlyRun, decided-friendly, no-net, no-serial, no-blk}
-use Rattle.cast_core.proofs.HostileLemmas.{no_rogue}
-use Rattle.sddf_top.specs.Friendly.{IsFriendly}
 use Rattle.i2c_text.specs.Buses.{IsReadBus}
 use Rattle.ports_text.specs.Given.{ArePorts}
 use Rattle.decision_core.specs.declared.showing.Alone.{Alone}
 use Rattle.decision_core.specs.declared.showing.Alone.TheVariants as Only
-use Rattle.decision_core.specs.Decisions.{Decision, Say, Play, Run, PlayBus, PlayPorts, AloneDecides, long_text_alone, bad_text, good_text, alone as of_one_text, asked_on, AsksFor, to_play, to_run, Decides, TextDecides, PlanDecides, TraceDecides, GeneratedDecides, long_trace, bad_trace, good_trace, checked, laid_out, hostile, traced, long_description, refused, accepted, no_command, described, generated}
+use Rattle.decision_core.specs.Decisions.{Decision, Say, Play, Run, PlayBus, PlayPorts, AloneDecides, long_text_alone, bad_text, good_text, alone as of_one_text, asked_on, AsksFor, to_play, to_run, Decides, TextDecides, PlanDecides, TraceDecides, GeneratedDecides, long_trace, bad_trace, good_trace, checked, laid_out, traced, long_description, refused, accepted, no_command, described, generated}
 
 -- what a decision plays or runs is accepted, and read for its plan
 abbrev pub Sound : Decision → Type 0
@@ -40,8 +37,7 @@ trace-sound p a bytes _ h (good_trace l g) = sound-asked p _ a h (record { text 
 plan-sound : (R : List ℕ → List ℕ → Type 0) (words : List (List ℕ)) (p : Plan) (d : Decision) → IsAcceptedPlan p → PlanDecides R words p d → Sound d
 plan-sound R words p _ h (checked desc c) = tt
 plan-sound R words p _ h (laid_out desc l) = tt
-plan-sound R words p _ h (hostile desc trace a place w f) = tt
-plan-sound R words p _ h (traced desc trace bytes a d w f r t) = trace-sound p a bytes d h t
+plan-sound R words p _ h (traced desc trace bytes a d w r t) = trace-sound p a bytes d h t
 
 text-sound : (P : Plan → Decision → Type 0) → ((p : Plan) (d : Decision) → IsAcceptedPlan p → P p d → Sound d) → (bytes : List ℕ) (d : Decision) → TextDecides P bytes d → Sound d
 text-sound P s bytes _ (long_description l) = tt
@@ -76,17 +72,6 @@ decided-sound (Is.Ports ports schedule) h = h
 pub sound : (R : List ℕ → List ℕ → Type 0) (words : List (List ℕ)) (d : Decided) → Decides R words (decision_of d) → IsSound d
 sound R words d h = decided-sound d (sound-decision R words (decision_of d) h)
 
--- and a plan that is run has no hostile client
-decided-calm : (d : Decided) → IsFriendlyRun (decision_of d) → IsFriendly d
-decided-calm (Is.Say s x) h = tt
-decided-calm (Is.Go p t (Ask.Play o)) h = tt
-decided-calm (Is.Go p t (Ask.Run n)) h = no_rogue p (no-net p h) (no-serial p h) (no-blk p h)
-decided-calm (Is.Bus bus schedule) h = tt
-decided-calm (Is.Ports ports schedule) h = tt
-
-pub friendly : (R : List ℕ → List ℕ → Type 0) (words : List (List ℕ)) (d : Decided) → Decides R words (decision_of d) → IsFriendly d
-friendly R words d h = decided-calm d (decided-friendly R words (decision_of d) h)
-
 -- a run is decided for words alone whose first is `run`
 abbrev pub IsRunning : Decision → Type 0
 IsRunning (Say s x) = ⊥
@@ -107,8 +92,7 @@ trace-run words p a bytes _ w (good_trace l g) r = w _ r
 plan-run : (R : List ℕ → List ℕ → Type 0) (words : List (List ℕ)) (p : Plan) (d : Decision) → PlanDecides R words p d → IsRunning d → BeginsRun words
 plan-run R words p _ (checked desc c) r = absurd r
 plan-run R words p _ (laid_out desc l) r = absurd r
-plan-run R words p _ (hostile desc trace a place w f) r = absurd r
-plan-run R words p _ (traced desc trace bytes a d w f i t) r = trace-run words p a bytes d (λ u. words-run words desc trace a p u w) t r
+plan-run R words p _ (traced desc trace bytes a d w i t) r = trace-run words p a bytes d (λ u. words-run words desc trace a p u w) t r
 
 text-run : (words : List (List ℕ)) (P : Plan → Decision → Type 0) → ((p : Plan) (d : Decision) → P p d → IsRunning d → BeginsRun words) → (bytes : List ℕ) (d : Decision) → TextDecides P bytes d → IsRunning d → BeginsRun words
 text-run words P w bytes _ (long_description l) r = absurd r

@@ -4,7 +4,6 @@ ghost use Rattle.command_words.specs.declared.command.Command.{Command};
 ghost use Rattle.command_words.specs.Words.{texts_of, IsGen, Spells, BeginsRun};
 ghost use Rattle.shelf_core.specs.Shelves.{ReadsFrom};
 ghost use Rattle.decision_core.specs.Decided.{decision_of, IsSound, AsksToRun};
-ghost use Rattle.sddf_top.specs.Friendly.{IsFriendly};
 ghost use Rattle.sddf_top.specs.Outcomes.{Follows, FollowsBy, EndsAfter};
 ghost use Rattle.decision_core.specs.Decisions.{Decides, PlayBus, PlayPorts};
 ghost use Rattle.i2c_text.specs.Buses.{IsReadBus};
@@ -99,8 +98,7 @@ fn answer<R: Threads + Wait + Sync, G: Gate + Sync>(
     decided: Decided,
     gate: &G,
 ) -> Result<Outcome, Memory>
-    requires sound { IsSound decided }
-    requires friendly { IsFriendly decided }
+    requires { IsSound decided }
     ensures { IfOk result (Follows (decision_of decided)) }
 {
     match decided {

@@ -3,7 +3,6 @@ ghost use Rattle.std.specs.Prelude.{◌≡◌, IfOk, string_bytes};
 ghost use Rattle.trace_text.specs.Traces.{IsReadFor};
 ghost use Rattle.region_layout.specs.Layouts.{layout_of};
 ghost use Rattle.report_text.specs.Reports.{report_text};
-ghost use Rattle.cast_core.specs.Hostile.{HasNoRogue};
 ghost use Rattle.system_core.specs.Reports.{report_of};
 ghost use Rattle.decision_core.specs.Judged.{IsAcceptedPlan};
 ghost use Rattle.decision_core.specs.Decisions.{Play, Run};
@@ -175,7 +174,7 @@ pub fn play(alloc: Global, plan: &Plan, trace: &Trace, showing: Showing) -> Resu
     play_laid(alloc, plan, &layout, trace, showing)
 }
 
-/// Runs a trace on a plan without hostile clients that is laid out, as `run` does.
+/// Runs a trace on a plan that is laid out, as `run` does.
 fn run_laid<R: Threads + Wait + Sync, G: Gate + Sync>(
     rt: &R,
     alloc: Global,
@@ -188,7 +187,6 @@ fn run_laid<R: Threads + Wait + Sync, G: Gate + Sync>(
     requires accepted { IsAcceptedPlan plan.now }
     requires layout { layout.now ≡ layout_of plan.now }
     requires read { IsReadFor plan.now trace.now }
-    requires friendly { HasNoRogue plan.now }
     ensures { IfOk result (Follows (Run plan.now trace.now steps)) }
 {
     let limit = limit_or_budget(plan, trace, steps);
@@ -206,8 +204,8 @@ fn run_laid<R: Threads + Wait + Sync, G: Gate + Sync>(
     }
 }
 
-/// Runs a trace on a plan without hostile clients with a thread for each actor, and makes the answer
-/// of what the system shows that took over what the threads left.
+/// Runs a trace on a plan with a thread for each actor, and makes the answer of what the system shows
+/// that took over what the threads left.
 pub fn run<R: Threads + Wait + Sync, G: Gate + Sync>(
     rt: &R,
     alloc: Global,
@@ -218,7 +216,6 @@ pub fn run<R: Threads + Wait + Sync, G: Gate + Sync>(
 ) -> Result<Outcome, Memory>
     requires accepted { IsAcceptedPlan plan.now }
     requires read { IsReadFor plan.now trace.now }
-    requires friendly { HasNoRogue plan.now }
     ensures { IfOk result (Follows (Run plan.now trace.now steps)) }
 {
     let layout = lay_out(alloc, plan)?;

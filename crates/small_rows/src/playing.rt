@@ -24,7 +24,6 @@ const SEEDS: u64 = 20;
 fn system_of(alloc: Global, plan: &Plan, trace: &Trace) -> Result<System, Memory>
     requires valid { Valid plan.now }
     requires read { IsReadFor plan.now trace.now }
-    requires friendly { HasNoRogue plan.now }
 {
     let layout = lay_out(alloc, plan)?;
     System::build(alloc, plan, &layout, trace)

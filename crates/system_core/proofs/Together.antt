@@ -1,4 +1,4 @@
-use Rattle.std.proofs.Common.{◌≡◌, ◌≤◌, ◌++◌, ℕ, List, [], length, sym, ap, ◌∙◌, subst, arith, refl, Result, Ok, Err, IfOk}
+use Rattle.std.proofs.Common.{◌≡◌, ◌≤◌, ◌++◌, ℕ, List, [], length, map, sym, ap, ◌∙◌, subst, arith, refl, Result, Ok, Err, IfOk}
 use Rattle.wire_core.specs.Picks.{PickedFrom}
 use Rattle.wire_core.specs.Journal.{History}
 use Rattle.sdf_plan.specs.declared.plan.Plan.{Plan}

@@ -9,7 +9,7 @@ use Rattle.decision_core.specs.declared.showing.Alone.TheVariants as Only
 use Rattle.std.specs.Prelude.{codes}
 use Rattle.decision_core.specs.declared.status.Status.{Status}
 use Rattle.decision_core.specs.declared.status.Status.TheVariants as Ended
-use Rattle.decision_core.specs.Decisions.{Decision, Say, Play, Run, PlayBus, PlayPorts, OneTextDecides, long_text_alone, bad_text, good_text, AloneDecides, AsksAlone, alone, asked_on, Decides, TextDecides, PlanDecides, TraceDecides, GeneratedDecides, long_trace, bad_trace, good_trace, checked, laid_out, hostile, traced, long_description, refused as refused_text, accepted, no_command, described, generated}
+use Rattle.decision_core.specs.Decisions.{Decision, Say, Play, Run, PlayBus, PlayPorts, OneTextDecides, long_text_alone, bad_text, good_text, AloneDecides, AsksAlone, alone, asked_on, Decides, TextDecides, PlanDecides, TraceDecides, GeneratedDecides, long_trace, bad_trace, good_trace, checked, laid_out, traced, long_description, refused as refused_text, accepted, no_command, described, generated}
 use Rattle.decision_core.specs.declared.deciding.Decided.{Decided}
 use Rattle.decision_core.specs.declared.deciding.Decided.TheVariants as Kept
 use Rattle.decision_core.specs.Decided.{decision_of, IsPlayable}
@@ -45,8 +45,7 @@ trace-says p a bytes _ (good_trace l g) = asked-says p _ a
 plan-says : (R : List ℕ → List ℕ → Type 0) (words : List (List ℕ)) (p : Plan) (d : Decision) → PlanDecides R words p d → Says d
 plan-says R words p _ (checked desc c) = λ e. cc e
 plan-says R words p _ (laid_out desc l) = λ e. cc e
-plan-says R words p _ (hostile desc trace a place w f) = λ e. cc e
-plan-says R words p _ (traced desc trace bytes a d w f r t) = trace-says p a bytes d t
+plan-says R words p _ (traced desc trace bytes a d w r t) = trace-says p a bytes d t
 
 text-says : (P : Plan → Decision → Type 0) → ((p : Plan) (d : Decision) → P p d → Says d) → (bytes : List ℕ) (d : Decision) → TextDecides P bytes d → Says d
 text-says P s bytes _ (long_description l) = λ e. cc e
@@ -81,8 +80,7 @@ trace-of-plan p a bytes _ (good_trace l g) = asked-of-plan p _ a
 plan-of-plan : (R : List ℕ → List ℕ → Type 0) (words : List (List ℕ)) (p : Plan) (d : Decision) → PlanDecides R words p d → OfPlan d
 plan-of-plan R words p _ (checked desc c) = tt
 plan-of-plan R words p _ (laid_out desc l) = tt
-plan-of-plan R words p _ (hostile desc trace a place w f) = tt
-plan-of-plan R words p _ (traced desc trace bytes a d w f r t) = trace-of-plan p a bytes d t
+plan-of-plan R words p _ (traced desc trace bytes a d w r t) = trace-of-plan p a bytes d t
 
 text-of-plan : (P : Plan → Decision → Type 0) → ((p : Plan) (d : Decision) → P p d → OfPlan d) → (bytes : List ℕ) (d : Decision) → TextDecides P bytes d → OfPlan d
 text-of-plan P s bytes _ (long_description l) = tt

@@ -14,7 +14,7 @@ use Rattle.owner_law.specs.Pools.Places.{AreNumbered, PoolAt}
 use Rattle.net_law.specs.Owners.Names.{ClientPools}
 use Rattle.net_law.specs.Parts.Numbers.{client_first}
 use Rattle.net_law.specs.Parts.Parts.{NetPart}
-use Rattle.net_law.specs.Parts.Playing.{receiver_part}
+use Rattle.net_law.specs.Parts.Playing.{receiver_part, stock_pool}
 use Rattle.net_law.specs.TxParts.Numbers.{NetPlace}
 use Rattle.net_virt_rx.specs.Sharing.{lent_many}
 use Rattle.net_virt_rx.specs.declared.NetVirtRx.{NetVirtRx}
@@ -102,7 +102,9 @@ module _ (rows : List QueueRow) (place : PoolPlace) (actors : List Actor) (place
   own_pool_is : (net : NetPlace) (frames : List (List ℕ)) (v : NetVirtRx) → IsOfNetwork net frames (NetworkPart (receiver_part v)) → v.work.stock.pool.0 ≡ net.pool.number
   own_pool_is net frames v (inl e) = absurd cc
   own_pool_is net frames v (inr (inl e)) = absurd cc
-  own_pool_is net frames v (inr (inr (inl e))) = ap (λ (p : PoolAt). p.number) cc
+  own_pool_is net frames v (inr (inr (inl e))) =
+      let same : stock_pool v.work.stock ≡ net.pool = cc in
+      ap (λ (p : PoolAt). p.number) same
   own_pool_is net frames v (inr (inr (inr (inl e)))) = absurd cc
   own_pool_is net frames v (inr (inr (inr (inr (inl x))))) = let e = x.2 in absurd cc
   own_pool_is net frames v (inr (inr (inr (inr (inr x))))) = let e = x.5 in absurd cc

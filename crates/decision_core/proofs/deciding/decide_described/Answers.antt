@@ -61,4 +61,4 @@ returns g c =
     let asks : AsksFor (texts_of c.args.words.now) c.as_str.result.now c.as_str-in-Trace.result.now c.in-Trace.asked
     = trace-asked c.args.words.now c.args.command c.in-Trace.asked c.index-words-2.result c.as_str.result.now c.as_str-in-Trace.result.now c.requires.spells lead.asks named c.index-words-2.is c.as_str-in-Trace.ensures.value in
     settle-traced g.F.Shelf.text g.F.Shelf.left g.F.Shelf.opens g.F.Shelf.faults g.F.Shelf.failed (texts_of c.args.words.now) _ _ c.as_str.result.now _ c.in_ok-text.text c.as_str-in-Trace.result.now c.in-Trace.plan c.in-Trace.asked _
-    named asks c.in_ok-text.ensures.reads c.in_ok-text.ensures.bytes lead.short lead.accepted lead.friendly c.decide_named.ensures
+    named asks c.in_ok-text.ensures.reads c.in_ok-text.ensures.bytes lead.short lead.accepted c.decide_named.ensures

@@ -2,8 +2,7 @@ use Rattle.std.proofs.Common.{refl, sym, subst}
 use Rattle.command_words.specs.declared.command.Command.{Command}
 use Rattle.decision_core.specs.declared.showing.Showing.TheVariants as Show
 use Rattle.decision_core.specs.declared.showing.Asked.TheVariants as Ask
-use Rattle.decision_core.specs.Leading.{AsksOfTrace, LeadsTo, PlanSays, says_accepted, says_layout}
-use Rattle.decision_core.proofs.DecisionLemmas.{map-ok}
+use Rattle.decision_core.specs.Leading.{AsksOfTrace, PlanSays, says_accepted, says_layout}
 use Rattle.decision_core.proofs.describing.lead_plan.Goals as goal
 
 pub returns-in_ok-said-in-Check : goal.returns-in_ok-said-in-Check
@@ -16,8 +15,7 @@ returns-in_ok-said-in-Layout c =
 
 pub returns-in-Play : goal.returns-in-Play
 returns-in-Play c =
-    (refl, subst (λ (x : Command). AsksOfTrace x (Ask.Play (Show.Report c.in-Play.options))) (sym c.in-Play.is) refl, refl)
+    (refl, subst (λ (x : Command). AsksOfTrace x (Ask.Play (Show.Report c.in-Play.options))) (sym c.in-Play.is) refl)
 
 pub returns-in-Run : goal.returns-in-Run
-returns-in-Run c =
-    map-ok c.lead_run.result _ _ (λ next h. subst (λ (x : Command). LeadsTo x c.args.plan next) (sym c.in-Run.is) h) c.lead_run.ensures
+returns-in-Run c = (refl, subst (λ (x : Command). AsksOfTrace x (Ask.Run c.in-Run.steps)) (sym c.in-Run.is) refl)

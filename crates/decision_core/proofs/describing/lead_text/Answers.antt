@@ -15,7 +15,7 @@ use Rattle.decision_core.proofs.describing.lead_text.Goals as goal
 -- what a plan leads to is what its description leads to
 plan-leads : (command : Command) (bytes : List ℕ) (plan : Plan) (next : Next) → length bytes ≤ text_most → IsAccepted bytes plan → IsNumbered plan → LeadsTo command plan next → TextLeadsTo command bytes next
 plan-leads command bytes plan (Leads.Done decided) short is numbered h = accepted plan (decision_of decided) short is h
-plan-leads command bytes plan (Leads.Trace plan' asked) short is numbered h = rw h.0 (record { short = short; accepted = is; numbered = numbered; asks = h.1; friendly = h.2 })
+plan-leads command bytes plan (Leads.Trace plan' asked) short is numbered h = rw h.0 (record { short = short; accepted = is; numbered = numbered; asks = h.1 })
 
 pub lead_plan-requires-clause-accepted : goal.lead_plan-requires-clause-accepted
 lead_plan-requires-clause-accepted c = (c.args.text.now, c.in-Ok.ensures.accepted)

@@ -8,6 +8,6 @@ use Rattle.small_rows.proofs.playing.small_of.Goals as goal
 pub new-requires : goal.new-requires
 new-requires c =
     wrapped_begin c.queues.result.now c.in_ok-cast.cast.items c.in_ok-actors.actors.items
-    (are_seated c.args.plan.now c.requires.valid c.args.trace.now c.requires.read c.in_ok-cast.cast.items c.requires.friendly c.in_ok-cast.ensures c.queues.result.now (c.queues.ensures ∙ layout_queues c.args.plan.now c.in_ok-layout.layout c.in_ok-layout.ensures.layout))
+    (are_seated c.args.plan.now c.requires.valid c.args.trace.now c.requires.read c.in_ok-cast.cast.items c.in_ok-cast.ensures c.queues.result.now (c.queues.ensures ∙ layout_queues c.args.plan.now c.in_ok-layout.layout c.in_ok-layout.ensures.layout))
     (all_calm c.args.plan.now c.args.trace.now c.in_ok-cast.cast.items (calm_cast c.args.plan.now c.args.trace.now c.in_ok-cast.cast.items c.requires.friendly c.in_ok-cast.ensures))
     c.in_ok-actors.ensures
