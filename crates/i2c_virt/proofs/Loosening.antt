@@ -1,5 +1,5 @@
 -- Which ends may be unsettled, and the lowest of those that aren't settled.
-use Rattle.std.proofs.Common.{◌≡◌, ◌⊎◌, ◌+◌, ◌-◌, ◌*◌, ◌/◌, ◌%◌, ◌^◌, ◌≤◌, ◌<◌, ◌&&◌, bit_and, bit_or, w64, ℕ, zero, suc, Bool, true, false, not, Option, Some, None, is_none, is_some, inl, inr, List, [], ◌∷◌, ◌++◌, length, drop, slice_get, slice_index_or, slice_set, refl, sym, ap, ◌∙◌, subst, add-zero, arith}
+use Rattle.std.proofs.Common.{◌≡◌, ◌⊎◌, ◌+◌, ◌-◌, ◌*◌, ◌/◌, ◌%◌, ◌^◌, ◌≤◌, ◌<◌, ◌&&◌, bit_and, bit_or, w64, ℕ, zero, suc, Bool, true, false, not, Option, Some, None, is_none, is_some, inl, inr, List, [], ◌∷◌, length, drop, slice_get, slice_index_or, slice_set, refl, sym, ap, ◌∙◌, subst, add-zero, arith}
 use Rattle.std.specs.Int.{bit_at, bit_not, trailing_zeros}
 use Rattle.std.proofs.lemmas.Nat.{shr-shr}
 use Rattle.std.proofs.Math.Nat.{div-le_self}

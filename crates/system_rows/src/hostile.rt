@@ -109,22 +109,21 @@ fn is_right(
     plan: &Plan,
     layout: &Layout,
     trace: &Trace,
-    system: &System,
+    journal: &[Entry],
+    report: &Report,
     limit: u64,
 ) -> Result<bool, Memory>
     requires valid { Valid plan.now }
     requires trace { IsReadFor plan.now trace.now }
 {
-    let report = system.report()?;
-    let journal = system.journal();
     Ok(
         report.steps <= limit
-            && do_add_up(&report)
-            && is_network_right(alloc, plan, trace, &report)?
-            && is_serial_right(alloc, plan, trace, &report)?
-            && is_block_right(alloc, plan, trace, &report)?
+            && do_add_up(report)
+            && is_network_right(alloc, plan, trace, report)?
+            && is_serial_right(alloc, plan, trace, report)?
+            && is_block_right(alloc, plan, trace, report)?
             && goes_right(alloc, plan, layout, journal)?
-            && (!report.quiet || are_at_home(alloc, plan, layout, &report, journal)?),
+            && (!report.quiet || are_at_home(alloc, plan, layout, report, journal)?),
     )
 }
 

@@ -1,4 +1,3 @@
-use Rattle.std.proofs.Common.{not}
 use Rattle.i2c_virt.proofs.Loosening.{without_bit}
 use Rattle.i2c_virt.proofs.loose.Loose.unless_settled.Goals as goal
 

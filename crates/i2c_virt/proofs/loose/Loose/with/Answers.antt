@@ -1,4 +1,4 @@
-use Rattle.std.proofs.Common.{◌%◌, ◌∙◌, ◌≡◌, arith}
+use Rattle.std.proofs.Common.{◌%◌, arith}
 use Rattle.i2c_virt.proofs.Loosening.{with_bit}
 use Rattle.i2c_virt.proofs.loose.Loose.with.Goals as goal
 

@@ -1,4 +1,4 @@
-use Rattle.std.proofs.Common.{◌+◌, refl, sym, ap, ◌∙◌, arith}
+use Rattle.std.proofs.Common.{◌+◌, arith}
 use Rattle.turn_kit.specs.Lowests.{found}
 use Rattle.i2c_virt.proofs.Loosening.{first_on, looked_on, last_on}
 use Rattle.i2c_virt.proofs.virtualiser.I2cVirt.find.Goals as goal

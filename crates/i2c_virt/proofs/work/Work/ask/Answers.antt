@@ -1,4 +1,4 @@
-use Rattle.std.proofs.Common.{◌≡◌, Some, length, drop, refl, sym, ap, ◌∙◌, subst, arith}
+use Rattle.std.proofs.Common.{drop, refl, sym, ap, ◌∙◌, arith}
 use Rattle.std.proofs.lemmas.Option.{slice_get_within}
 use Rattle.i2c_virt.specs.I2cKit.Pages.{head_in, asked}
 use Rattle.i2c_virt.proofs.Working.{head_below, head_spells, wanted_there, asks_there, asks_open, request_parts, asked_work, asked_log, ask_turn}

@@ -1,4 +1,4 @@
-use Rattle.std.proofs.Common.{◌≡◌, ◌++◌, ◌∷◌, [], Some, ℕ, slice_get, refl, sym, ap, ◌∙◌, subst}
+use Rattle.std.proofs.Common.{◌≡◌, Some, slice_get, refl, sym, ap, ◌∙◌, subst}
 use Rattle.cargo_core.specs.declared.item.PoolId.{PoolId}
 use Rattle.i2c_virt.proofs.Working.{desk_read, response_parts, away_desk, back_work, back_answered, back_turn}
 use Rattle.i2c_virt.proofs.Loosening.{rises_at}
