@@ -49,6 +49,15 @@ fn longest() -> [u8; LONGEST]
     bytes
 }
 
+// The first sixty bytes of that frame.
+fn short_of_it() -> [u8; 60]
+    ensures { length result ≡ 60 }
+{
+    let mut bytes = [7; 60];
+    bytes[..6].copy_from_slice(&OWN.0);
+    bytes
+}
+
 // Whether these are the bytes of that frame.
 fn is_longest(bytes: &[u8]) -> bool {
     bytes == longest().as_slice()
@@ -343,7 +352,7 @@ fn a_copier_that_drops_waits_for_no_buffer(rt: HostRuntime) -> Result<(), Memory
             &mut wires,
             QueueId(1),
             descriptor(16_384, 60),
-            &longest()[..60]
+            &short_of_it()
         )
     );
     Ok(())
@@ -367,11 +376,11 @@ fn a_copier_that_drops_uses_the_buffer_that_is_there(rt: HostRuntime) -> Result<
             &mut wires,
             QueueId(3),
             descriptor(32_768, 60),
-            &longest()[..60]
+            &short_of_it()
         )
     );
     assert!(rt; next(&mut wires, QueueId(3)).is_none());
-    assert!(rt; brings(&mut wires, QueueId(1), descriptor(0, 60), &longest()[..60]));
+    assert!(rt; brings(&mut wires, QueueId(1), descriptor(0, 60), &short_of_it()));
     assert!(rt;
         brings(
             &mut wires,
