@@ -250,11 +250,20 @@ impl I2cVirt {
         self.lowest.stand().is_none()
     }
 
-    // Whether the end where requests go to the driver is settled.
+    // Whether the end where requests go to the driver is settled. Whether one is to go is asked
+    // only where it matters.
     fn is_driver_served(&self) -> bool
         ensures { result ≡ is_settled self.now.ends.output.state (is_owing self.now.work) }
     {
-        self.ends.output.settled(self.is_owing())
+        let idle = self.ends.output.settled(false);
+        if !idle {
+            return false;
+        }
+        let loaded = self.ends.output.settled(true);
+        if loaded {
+            return true;
+        }
+        !self.is_owing()
     }
 
     // The next call where responses come. It gives the client for which one came.
