@@ -18,7 +18,7 @@ use Rattle.order_law.specs.ActorParts.Given.{Kept, apart_of}
 use Rattle.order_law.specs.ActorParts.Going.{AreSeatsOf}
 use Rattle.order_law.specs.ActorParts.Numbered.{numbered}
 use Rattle.order_law.specs.ActorParts.Placing.{placed}
-use Rattle.order_law.specs.ActorParts.Parting.{Apart, ends_at, end_in, apart_end, StandsApart, HasItsEnds, AreApart, IsRingOf, hostile_apart}
+use Rattle.order_law.specs.ActorParts.Parting.{Apart, ends_at, end_in, StandsApart, HasItsEnds, AreApart, IsRingOf, hostile_apart}
 use Rattle.wire_core.specs.Journal.{Hostiles}
 use Rattle.wire_core.specs.declared.names.QueueId.{QueueId}
 use Rattle.std.specs.List.{AllZip}

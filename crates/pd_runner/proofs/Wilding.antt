@@ -1,17 +1,15 @@
 -- A hostile actor may be stepped at its ends: their rings are wild, and stay so.
-use Rattle.std.proofs.Common.{◌≡◌, ◌⊎◌, ◌∙◌, ℕ, true, false, List, refl, sym, ap, subst, inl, inr, Option, Some, None, slice_get}
+use Rattle.std.proofs.Common.{◌≡◌, ◌⊎◌, ◌∙◌, ℕ, true, false, List, refl, sym, ap, subst, inl, inr, Option, Some, None}
 use Rattle.std.proofs.lemmas.List.Elements.{All-append}
 use Rattle.wire_core.specs.declared.names.QueueId.{QueueId}
-use Rattle.wire_core.specs.Ends.{Role, Consumer, Producer}
+use Rattle.wire_core.specs.Ends.{Consumer, Producer}
 use Rattle.spsc_queue.specs.Known.Ends.{EndIs, RingIs}
 use Rattle.seat_wires.specs.Places.Are.{SeatsAre}
 use Rattle.seat_wires.specs.Places.{IsWildRing, IsWildSeat, ends_of, end_known, seat_end, stands_at}
-use Rattle.seat_wires.specs.Went.{Went}
 use Rattle.play_core.specs.Manners.{Calm, is_hostile}
 use Rattle.client_programs.specs.declared.rogue.Rogue.{Rogue}
 use Rattle.client_programs.specs.Rogue.Clients.{FitsRogue}
 use Rattle.actor_set.specs.Actors.{FitsActor, MayStep, actor_rests, part_of}
-use Rattle.actor_set.specs.Parts.{Part}
 use Rattle.actor_set.specs.Laws.Kinds.{manner_of}
 use Rattle.actor_set.specs.declared.actor.Actor.{Actor}
 use Rattle.actor_set.specs.declared.actor.Actor.TheVariants as Kinds

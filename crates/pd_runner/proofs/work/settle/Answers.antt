@@ -1,4 +1,4 @@
-use Rattle.std.proofs.Common.{arith, rules, refl, ap, ◌+◌, ◌∙◌}
+use Rattle.std.proofs.Common.{arith, rules, ◌+◌}
 use Rattle.pd_runner.proofs.Wilding.{may_seated, wild_on}
 use Rattle.pd_runner.proofs.Stepping.{worked_none, worked_on, worked_of}
 use Rattle.pd_runner.specs.Running.{part_seats}
