@@ -7,7 +7,7 @@ use Rattle.cargo_core.specs.Lists.{IsPrefix}
 use Rattle.shelf_core.specs.Outside.{appended}
 use Rattle.shelf_core.proofs.Appending.{appended-twice}
 use Rattle.wire_core.specs.declared.names.Entry.{Entry}
-use Rattle.wire_core.specs.Journal.{start_history}
+use Rattle.wire_core.specs.Journal.{EachMoment, start_history}
 use Rattle.wire_core.specs.Picks.{PickedFrom, next_seed, drawn}
 use Rattle.play_core.proofs.Staying.{picked_same}
 use Rattle.sdf_plan.specs.declared.plan.Plan.{Plan}
@@ -21,8 +21,9 @@ use Rattle.system_core.specs.Reports.{report_of}
 use Rattle.system_core.specs.declared.system.Ending.{Ending}
 use Rattle.system_core.specs.declared.system.Ending.TheVariants as Ends
 use Rattle.std.specs.Prelude.{◌==◌}
-use Rattle.system_core.specs.Shows.{Setting, Shown, KeepsSetting, runs}
-use Rattle.system_core.proofs.Telling.{keeps_runs}
+use Rattle.system_core.specs.Shows.{Setting, Shown, KeepsSetting, NamesTell, runs}
+use Rattle.system_core.proofs.Growing.{told_runs}
+use Rattle.system_core.proofs.Playing.{part_moment}
 use Rattle.view_plays.specs.ToldPlays.Progress.{progress_line, progress_text, IsProgress, HasTold}
 
 -- picks go on from the number that was drawn last
@@ -65,7 +66,7 @@ made-more plan trace seed x n old new valid read made is p stays = record {
   begins = still-anew old.setting new.setting p.setting made.begins;
   system = stays plan trace valid read made.system;
   picked =
-      let first = picked_same (runs old.setting) (runs new.setting) seed [] old.journal (λ some rest is. keeps_runs old.setting new.setting made.system.calm p.setting some) made.picked in
+      let first = picked_same (runs old.setting) (runs new.setting) seed [] old.journal (λ some rest is. told_runs old.setting new.setting p.setting some (part_moment (NamesTell old.setting) some rest (subst (EachMoment (NamesTell old.setting)) (sym is) made.system.stands.lawful.names_tell))) made.picked in
       subst (λ j. PickedFrom (runs new.setting) seed [] j) (sym p.journal)
       (picked-on (runs new.setting) seed [] old.journal p.more first (subst (λ y. PickedFrom (runs new.setting) y old.journal p.more) is p.picked));
 }

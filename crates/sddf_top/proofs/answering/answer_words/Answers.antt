@@ -10,7 +10,7 @@ use Rattle.sddf_top.proofs.SoundLemmas.{sound}
 use Rattle.sddf_top.proofs.answering.answer_words.Goals as goal
 
 pub answer-requires : goal.answer-requires
-answer-requires g c κs within = sound (WasRead (g.F.Shelf.text c.args.shelf.now)) (texts_of c.args.words.now) _ c.in_ok-decided.ensures.decides
+answer-requires g c = sound (WasRead (g.F.Shelf.text c.args.shelf.now)) (texts_of c.args.words.now) _ c.in_ok-decided.ensures.decides
 
 pub returns-clause-reads : goal.returns-clause-reads
 returns-clause-reads g c =
