@@ -98,7 +98,7 @@ fn answer<R: Threads + Wait + Sync, G: Gate + Sync>(
     decided: Decided,
     gate: &G,
 ) -> Result<Outcome, Memory>
-    requires { IsSound decided }
+    requires sound { IsSound decided }
     ensures { IfOk result (Follows (decision_of decided)) }
 {
     match decided {

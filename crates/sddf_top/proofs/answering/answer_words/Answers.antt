@@ -9,8 +9,8 @@ use Rattle.sddf_top.proofs.AnswerLemmas.{come-status}
 use Rattle.sddf_top.proofs.SoundLemmas.{sound}
 use Rattle.sddf_top.proofs.answering.answer_words.Goals as goal
 
-pub answer-requires : goal.answer-requires
-answer-requires g c = sound (WasRead (g.F.Shelf.text c.args.shelf.now)) (texts_of c.args.words.now) _ c.in_ok-decided.ensures.decides
+pub answer-requires-clause-sound : goal.answer-requires-clause-sound
+answer-requires-clause-sound g c κs within = sound (WasRead (g.F.Shelf.text c.args.shelf.now)) (texts_of c.args.words.now) _ c.in_ok-decided.ensures.decides
 
 pub returns-clause-reads : goal.returns-clause-reads
 returns-clause-reads g c =
