@@ -48,8 +48,8 @@ pub record StandsAt (Fits : Type 0) (w : List Queue) : Type 0 where
   pub fits : Fits
   pub long : length w ≡ 4
 
--- an Ethernet device stands there: free buffers come at the queue 0 and go at 1, frames to send at 2
--- and 3
+-- an Ethernet device stands there: free buffers come at the queue 0 and go at 1, frames to send come
+-- at 2, and their buffers go back at 3
 pub record DeviceStands (w : List Queue) (d : EthDevice) : Type 0 where
   pub fits : FitsDevice (end_at w) d
   pub long : length w ≡ 4
