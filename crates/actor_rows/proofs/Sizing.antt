@@ -1,5 +1,5 @@
 -- Actors of the network in their start state fit four queues of which two were filled by hand.
-use Rattle.std.proofs.Common.{◌≡◌, ◌⊎◌, ◌<◌, ◌≤◌, ◌+◌, ◌*◌, ◌^◌, ◌-◌, ℕ, zero, suc, true, Option, Some, None, Result, Ok, Err, IfOk, OnErr, List, [], ◌∷◌, ◌++◌, All, length, length-set, length-append, map, reverse, slice_get, refl, sym, ap, ◌∙◌, subst, inl, inr, arith}
+use Rattle.std.proofs.Common.{◌≡◌, ◌⊎◌, ◌<◌, ◌≤◌, ◌+◌, ◌*◌, ◌^◌, ℕ, Option, Some, None, Result, Ok, Err, IfOk, OnErr, List, [], ◌∷◌, All, length, length-set, length-append, map, reverse, slice_get, refl, sym, ap, ◌∙◌, subst, inl, inr, arith}
 use Rattle.std.specs.Option.{ForSome, option_to_list}
 use Rattle.std.proofs.lemmas.List.{length-map, length-reverse}
 use Rattle.cargo_core.specs.declared.item.QueueKind.TheVariants as Kind
@@ -28,7 +28,6 @@ use Rattle.device_model.specs.Ethernet.Devices.{IsNewDevice}
 use Rattle.device_model.specs.declared.ethernet.EthDevice.{EthDevice}
 use Rattle.net_copier.specs.Copying.{CopierStandsFor, IsNewCopier}
 use Rattle.net_copier.specs.declared.NetCopier.{NetCopier}
-use Rattle.net_virt_rx.specs.declared.LeaseEnds.{LeaseEnds}
 use Rattle.net_virt_rx.specs.Receiving.{IsNewRx, RxStandsFor}
 use Rattle.net_virt_rx.specs.declared.NetVirtRx.{NetVirtRx}
 use Rattle.client_programs.specs.Net.Clients.{IsNewClient}
@@ -38,8 +37,6 @@ use Rattle.frame_core.specs.declared.mac.Mac.{Mac}
 use Rattle.actor_rows.specs.Hands.{OnlyAt, AreQueues}
 use Rattle.actor_rows.specs.Standings.{queue}
 use Rattle.actor_rows.specs.Sizes.{IsInput, IsOutput, AreFed, DeviceStands, LenderStands, CopierStands, ClientStands, pool, AreFedEight, FourStand, IsNewFour}
-use Rattle.pipe_driver.specs.Drivers.{FitsPipes}
-use Rattle.eth_driver.specs.Four.{four_pipes}
 use Rattle.eth_driver.specs.declared.EthDriver.{EthDriver}
 use Rattle.actor_rows.proofs.NetTx.Fitting.{one_at, one_apart, intake_one, outlet_one}
 
