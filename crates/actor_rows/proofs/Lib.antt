@@ -7,3 +7,4 @@ pub mod Merging
 pub mod NetTx
 pub mod Emptiness
 pub mod Sizing
+pub mod Beside

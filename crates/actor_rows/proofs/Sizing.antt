@@ -1,5 +1,5 @@
 -- Actors of the network in their start state fit four queues of which two were filled by hand.
-use Rattle.std.proofs.Common.{◌≡◌, ◌⊎◌, ◌<◌, ◌≤◌, ◌+◌, ◌*◌, ◌^◌, ◌-◌, ℕ, zero, suc, true, Option, Some, None, Result, Ok, Err, IfOk, OnErr, List, [], ◌∷◌, ◌++◌, All, length, length-set, length-append, map, reverse, slice_get, refl, sym, ap, ◌∙◌, subst, inl, inr, arith}
+use Rattle.std.proofs.Common.{◌≡◌, ◌⊎◌, ◌<◌, ◌≤◌, ◌+◌, ◌*◌, ◌^◌, ℕ, Option, Some, None, Result, Ok, Err, IfOk, OnErr, List, [], ◌∷◌, All, length, length-set, length-append, map, reverse, slice_get, refl, sym, ap, ◌∙◌, subst, inl, inr, arith}
 use Rattle.std.specs.Option.{ForSome, option_to_list}
 use Rattle.std.proofs.lemmas.List.{length-map, length-reverse}
 use Rattle.cargo_core.specs.declared.item.QueueKind.TheVariants as Kind
@@ -13,6 +13,7 @@ use Rattle.wire_core.specs.Deeds.{Cargo}
 use Rattle.wire_core.specs.Ends.{Role, Consumer, Producer}
 use Rattle.wire_core.specs.Lists.{Passed, Stepped, nothing_passed}
 use Rattle.wire_core.specs.Queues.{Queue, Happens, end_at}
+use Rattle.wire_core.proofs.Moving.{moves}
 use Rattle.turn_kit.specs.Table.{Agrees, start_state}
 use Rattle.turn_kit.specs.ManyEnds.{AreApart}
 use Rattle.turn_kit.specs.Pipes.{FitsPipe, IsNewPipe}
@@ -27,7 +28,6 @@ use Rattle.device_model.specs.Ethernet.Devices.{IsNewDevice}
 use Rattle.device_model.specs.declared.ethernet.EthDevice.{EthDevice}
 use Rattle.net_copier.specs.Copying.{CopierStandsFor, IsNewCopier}
 use Rattle.net_copier.specs.declared.NetCopier.{NetCopier}
-use Rattle.net_virt_rx.specs.declared.LeaseEnds.{LeaseEnds}
 use Rattle.net_virt_rx.specs.Receiving.{IsNewRx, RxStandsFor}
 use Rattle.net_virt_rx.specs.declared.NetVirtRx.{NetVirtRx}
 use Rattle.client_programs.specs.Net.Clients.{IsNewClient}
@@ -37,8 +37,6 @@ use Rattle.frame_core.specs.declared.mac.Mac.{Mac}
 use Rattle.actor_rows.specs.Hands.{OnlyAt, AreQueues}
 use Rattle.actor_rows.specs.Standings.{queue}
 use Rattle.actor_rows.specs.Sizes.{IsInput, IsOutput, AreFed, DeviceStands, LenderStands, CopierStands, ClientStands, pool, AreFedEight, FourStand, IsNewFour}
-use Rattle.pipe_driver.specs.Drivers.{FitsPipes}
-use Rattle.eth_driver.specs.Four.{four_pipes}
 use Rattle.eth_driver.specs.declared.EthDriver.{EthDriver}
 use Rattle.actor_rows.proofs.NetTx.Fitting.{one_at, one_apart, intake_one, outlet_one}
 
@@ -59,7 +57,7 @@ new_fed w b = record {
   hands = λ n at. ap (λ e. e.kind) (b.start Producer n (below n at));
 }
 
-others : (q n : ℕ) → IsInput q → IsOutput n → n ≡ q → ⊥
+pub others : (q n : ℕ) → IsInput q → IsOutput n → n ≡ q → ⊥
 others q n (inl a) (inl b) e = omega (arith, a, b, e)
 others q n (inl a) (inr b) e = omega (arith, a, b, e)
 others q n (inr a) (inl b) e = omega (arith, a, b, e)
@@ -74,8 +72,11 @@ after_feed w u q at fed only = record {
   hands = λ n input. only.kinds Producer n ∙ fed.hands n input;
 }
 
+pub in_there : (w : List Queue) (q : ℕ) → IsInput q → length w ≡ 4 → q < length w
+in_there w q at long = let few = below q at in omega (arith, few, long)
+
 pub feed_there : (w : List Queue) (q : ℕ) → IsInput q → AreFed w → q < length w
-feed_there w q at fed = let few = below q at in let long = fed.long in omega (arith, few, long)
+feed_there w q at fed = in_there w q at fed.long
 
 -- a call leaves as many queues
 pub after_call : {A : Type 0} {n : ℕ} (S : A → Passed → Type 0) (w u : List Queue) (a b : A) (e : Event) → Stepped S (λ old d new. Happens old d new) w u a b e → length w ≡ n → length u ≡ n
@@ -85,6 +86,14 @@ after_call S w u a b e st long = ap length st.happened.after_is ∙ (length-set 
 pub after_try : {A : Type 0} (S : A → Passed → Type 0) (w u : List Queue) (a b : A) (r : Result Event Memory) → IfOk r (λ e. Stepped S (λ old d new. Happens old d new) w u a b e) → OnErr r (u ≡ w) → length w ≡ 4 → length u ≡ 4
 after_try S w u a b (Ok e) st same long = after_call S w u a b e st long
 after_try S w u a b (Err m) st same long = ap length same ∙ long
+
+-- a call leaves the kinds of the queues
+pub kinds_call : {A : Type 0} (S : A → Passed → Type 0) (w u : List Queue) (a b : A) (e : Event) → Stepped S (λ old d new. Happens old d new) w u a b e → (r : Role) (n : ℕ) → (end_at u r n).kind ≡ (end_at w r n).kind
+kinds_call S w u a b e st = (moves w _ u st.happened).kinds
+
+pub kinds_try : {A : Type 0} (S : A → Passed → Type 0) (w u : List Queue) (a b : A) (r : Result Event Memory) → IfOk r (λ e. Stepped S (λ old d new. Happens old d new) w u a b e) → OnErr r (u ≡ w) → (s : Role) (n : ℕ) → (end_at u s n).kind ≡ (end_at w s n).kind
+kinds_try S w u a b (Ok e) st same = kinds_call S w u a b e st
+kinds_try S w u a b (Err m) st same = λ s n. ap (λ x. (end_at x s n).kind) same
 
 no_load : (o : Option Cargo) → o ≡ None → (c : Cargo) → o ≡ Some c → ⊥
 no_load o none c some = let e : None ≡ Some c = sym none ∙ some in cc
@@ -147,6 +156,11 @@ module _ (w : List Queue) (fed : AreFed w) where
       frames = subst (λ fs. All (λ frame. length frame < 2 ^ 16) fs) (sym new.frames_are) short;
     };
     long = fed.long;
+    hands = fed.hands;
+    free = ap (λ (x : Intake). x.queue.0) new.free;
+    active = ap (λ (x : Outlet). x.queue.0) new.active;
+    input = ap (λ (x : QueueId). x.0) new.wire.input;
+    output = ap (λ (x : QueueId). x.0) new.wire.output;
   }
 
   pub new_copier : (c : NetCopier) → IsNewCopier (queue 0) (queue 1) (queue 3) (queue 2) c.drops c → CopierStandsFor c nothing_passed → CopierStands w c
@@ -173,6 +187,11 @@ module _ (w : List Queue) (fed : AreFed w) where
       work = stands.work;
     };
     long = fed.long;
+    hands = fed.hands;
+    leases = ap (λ (x : Intake). x.queue.0) new.lease_input;
+    leases_back = ap (λ (x : Outlet). x.queue.0) new.lease_output;
+    buffers = ap (λ (x : Intake). x.queue.0) new.buffer_input;
+    filled = ap (λ (x : Outlet). x.queue.0) new.buffer_output;
   }
 
   -- no more of a stock is left than there were pages

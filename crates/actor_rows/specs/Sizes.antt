@@ -48,17 +48,30 @@ pub record StandsAt (Fits : Type 0) (w : List Queue) : Type 0 where
   pub fits : Fits
   pub long : length w ≡ 4
 
--- an Ethernet device stands there
-abbrev pub DeviceStands : List Queue → EthDevice → Type 0
-DeviceStands w d = StandsAt (FitsDevice (end_at w) d) w
+-- an Ethernet device stands there: free buffers come at the queue 0 and go at 1, frames to send come
+-- at 2, and their buffers go back at 3
+pub record DeviceStands (w : List Queue) (d : EthDevice) : Type 0 where
+  pub fits : FitsDevice (end_at w) d
+  pub long : length w ≡ 4
+  pub hands : (n : ℕ) → IsInput n → (end_at w Producer n).kind ≡ Kind.Net
+  pub free : d.free.queue.0 ≡ 0
+  pub active : d.active.queue.0 ≡ 1
+  pub input : d.wire.pipe.input.queue.0 ≡ 2
+  pub output : d.wire.pipe.output.queue.0 ≡ 3
 
 -- a receiving virtualiser
 abbrev pub LenderStands : List Queue → NetVirtRx → Type 0
 LenderStands w v = StandsAt (FitsRx (end_at w) v) w
 
--- a copier
-abbrev pub CopierStands : List Queue → NetCopier → Type 0
-CopierStands w c = StandsAt (FitsCopier (end_at w) c) w
+-- a copier: leases come at the queue 0 and go back at 1, buffers come at 2 and go at 3
+pub record CopierStands (w : List Queue) (c : NetCopier) : Type 0 where
+  pub fits : FitsCopier (end_at w) c
+  pub long : length w ≡ 4
+  pub hands : (n : ℕ) → IsInput n → (end_at w Producer n).kind ≡ Kind.Net
+  pub leases : c.lease_input.queue.0 ≡ 0
+  pub leases_back : c.lease_output.queue.0 ≡ 1
+  pub buffers : c.buffer_input.queue.0 ≡ 2
+  pub filled : c.buffer_output.queue.0 ≡ 3
 
 -- a client
 abbrev pub ClientStands : List Queue → NetClient → Type 0

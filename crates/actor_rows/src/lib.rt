@@ -4,6 +4,8 @@
 
 #[cfg(test)]
 mod alone;
+#[cfg(test)]
+mod drop_tests;
 mod hand;
 #[cfg(test)]
 mod net_rx_tests;

@@ -1,5 +1,5 @@
 -- The virtualiser fits its queues from the start on, whatever the hand does at the other ends.
-use Rattle.std.proofs.Common.{◌≡◌, ◌⊎◌, ◌<◌, ◌+◌, ℕ, zero, suc, Some, List, [], ◌∷◌, length, length-set, map, slice_get, refl, sym, ap, ◌∙◌, subst, inl, inr, arith}
+use Rattle.std.proofs.Common.{◌≡◌, ◌⊎◌, ◌<◌, ℕ, zero, suc, Some, List, [], ◌∷◌, length, length-set, map, slice_get, refl, sym, ap, ◌∙◌, subst, inl, inr, arith}
 use Rattle.cargo_core.specs.declared.item.QueueKind.TheVariants as Kind
 use Rattle.wire_core.specs.declared.names.Event.{Event}
 use Rattle.wire_core.specs.declared.names.QueueId.{QueueId}
@@ -11,7 +11,7 @@ use Rattle.turn_kit.specs.Table.{Agrees}
 use Rattle.turn_kit.specs.ManyEnds.{AreApart}
 use Rattle.turn_kit.specs.declared.ends.Intake.{Intake}
 use Rattle.turn_kit.specs.declared.ends.Outlet.{Outlet}
-use Rattle.buffer_kit.specs.Virtualising.{SameVirt, VirtOwns, from_queues, new_intake, new_outlet, to_queues}
+use Rattle.buffer_kit.specs.Virtualising.{VirtOwns, from_queues, new_intake, new_outlet, to_queues}
 use Rattle.net_virt_tx.specs.declared.NetVirtTx.{NetVirtTx}
 use Rattle.net_virt_tx.specs.Sending.{FitsTx, SameTx, TxStandsFor}
 use Rattle.actor_rows.specs.Hands.{OnlyAt, AreQueues}
