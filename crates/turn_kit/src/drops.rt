@@ -28,6 +28,7 @@ fn is_vain(event: &Event) -> bool
 /// Makes the next call of the table at an end that takes. Where `drops` says so, a look that
 /// answers no is a drop, and is forgotten, so that the end looks again; the last answer tells
 /// whether it was.
+#[inline(always)]
 pub fn take_or_drop<W: Wires>(
     end: &mut Intake,
     wires: &mut W,
@@ -65,6 +66,7 @@ pub fn take_or_drop<W: Wires>(
 
 /// Makes the next call of the table at an end that puts its load. Where `drops` says so, a look
 /// that answers no is a drop, and is forgotten; the answer tells whether it was. The load is left.
+#[inline(always)]
 pub fn put_or_drop<W: Wires>(
     end: &mut Outlet,
     wires: &mut W,
@@ -103,6 +105,7 @@ pub fn put_or_drop<W: Wires>(
 }
 
 /// The same at the end of a place among several.
+#[inline(always)]
 pub fn put_or_drop_at<W: Wires>(
     ends: &mut Outlets,
     wires: &mut W,
