@@ -20,6 +20,20 @@ use crate::{EndState, Intake, Intakes, Outlet, Outlets};
 use cargo_core::{Body, Item};
 use wire_core::{Answer, Event, Op, QueueId, Side, Wires};
 
+/// A place for an event: what it tells is written over by the call that it is given to.
+#[inline(always)]
+pub fn event_place() -> Event
+    ensures op { result.op ≡ Op.See }
+    ensures item { result.item ≡ None }
+{
+    Event {
+        op: Op::See,
+        queue: QueueId(0),
+        answer: Answer::No,
+        item: None,
+    }
+}
+
 // Takes an entry, and keeps it in `got`.
 #[inline(never)]
 fn take_in<W: Wires>(
