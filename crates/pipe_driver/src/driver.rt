@@ -51,6 +51,7 @@ impl<P: PipeList> PipeDriver<P> {
 
     // The end that is stepped now: those of the first pipe come first, each input before its
     // output. The rotation is asked only where all are settled.
+    #[inline(always)]
     fn choose(&mut self) -> usize
         requires { length (P.list self.old.pipes) < 2 ^ 16 }
         ensures place { result ≡ chosen_place (choice_of

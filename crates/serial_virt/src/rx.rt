@@ -78,6 +78,7 @@ fn forget_outputs(outputs: &mut Outlets)
 }
 
 // Reads what was taken, and answers the client that gets a byte for it.
+#[inline(always)]
 fn read(switch: &mut Switch, taken: Option<(Item, Body)>) -> Option<(u32, u8)>
     ensures after { (clients : ℕ) (input : List ℕ) → StandsAfter clients input switch.old
         → StandsAfter clients (input ++ bytes_carried (option_to_list taken)) switch.new }
@@ -146,6 +147,7 @@ impl SerialVirtRx {
 
     // The end that is stepped now: the input is the first, the clients follow in their order. The
     // rotation is asked only where all are settled.
+    #[inline(always)]
     fn choose(&mut self) -> usize
         ensures place { result ≡ chosen_place (choice_of (rx_round self.old)) }
         ensures within { result < 1 + length (outlet_queues self.old.outputs) }
