@@ -1,4 +1,4 @@
-use Rattle.std.proofs.Common.{◌≡◌, ◌≢◌, ◌⊎◌, ◌==◌, ◌+◌, ◌-◌, ◌++◌, ◌<◌, ℕ, zero, suc, Bool, true, false, cond, nat_lt, if◌then◌else◌, Some, List, [], ◌∷◌, length, length-append, map, slice_get, refl, sym, ap, ◌∙◌, subst, arith, inl, inr}
+use Rattle.std.proofs.Common.{◌≡◌, ◌≢◌, ◌⊎◌, ◌==◌, ◌+◌, ◌-◌, ◌++◌, ◌<◌, ◌≤◌, ℕ, zero, suc, Bool, true, false, cond, nat_lt, if◌then◌else◌, Some, List, [], ◌∷◌, length, length-append, map, slice_get, refl, sym, ap, ◌∙◌, subst, arith, inl, inr}
 use Rattle.std.proofs.Math.Dec.{eqb}
 use Rattle.std.proofs.lemmas.Bool.{ltb-true, lt-ltb}
 use Rattle.std.proofs.lemmas.Bool.Decides.{eqb_tells}
@@ -11,7 +11,7 @@ use Rattle.wire_core.specs.Fates.{without, marked}
 use Rattle.wire_core.proofs.Fating.{without_length}
 use Rattle.serial_switch.specs.Switching.{input_of}
 use Rattle.serial_virt.specs.Shares.{policy_at}
-use Rattle.play_core.specs.Moved.{Moved, Seat, with_put}
+use Rattle.play_core.specs.Moved.{Moved, Seat, gone_at, with_put}
 use Rattle.play_core.specs.Wants.{Want, seat_of, intake, outlet, intake_want, outlet_want}
 use Rattle.play_core.specs.Sheets.{Due, AreApart, due_want}
 use Rattle.play_core.specs.Totals.{total}
@@ -182,20 +182,28 @@ module _ (marks : Marks) (rx : ℕ) (clients : List ℕ) (drops : List Bool) (m 
 
 -- whatever is marked, a client that may be given one more is owed some
 module _ (rx : ℕ) (clients : List ℕ) (drops : List Bool) (m : Moved) (c q : ℕ) (at : slice_get clients c ≡ Some q) where
-  pub share_only : (x : Item) → SharesSome drops rx clients (with_put m q x) → is_owed_to (length clients) (bytes_in (m.taken rx)) drops c q m ≡ true
-  share_only x some =
-      let put = some.out in
-      let input = input_of (length clients) c (bytes_in (m.taken rx)) in
-      let part = without (some.marks c) input in
-      let left = without_length (some.marks c) input (put.settled c q at) in
-      let gone = put.as_many c q at in
+  abbrev all_of : List ℕ
+  all_of = input_of (length clients) c (bytes_in (m.taken rx))
+
+  shorter_by : (marks : Marks) (x : Item) → SharesOut marks drops rx clients (with_put m q x) → length (m.sent q) + 1 ≤ length (without (marks c) all_of)
+  shorter_by marks x put =
       let whole = put.given c q at in
-      let n : length ((with_put m q x).sent q ++ (if put.owner == c then put.owed else [])) ≡ length (byte_items part) = ap length whole in
+      let n : length ((with_put m q x).sent q ++ (if put.owner == c then put.owed else [])) ≡ length (byte_items (without (marks c) all_of)) = ap length whole in
       let a = length-append ((with_put m q x).sent q) (if put.owner == c then put.owed else []) in
       let b : length ((with_put m q x).sent q) ≡ length (m.sent q ++ x ∷ []) = ap length (put_here m q x) in
       let d = length-append (m.sent q) (x ∷ []) in
-      let k : length (byte_items part) ≡ length part = length-map part (λ b. ItemOf.Byte b) in
-      lt-ltb (length (m.sent q)) (due_to (length clients) (bytes_in (m.taken rx)) drops c q m) (omega (arith, n, a, b, d, k, left, gone))
+      let k : length (byte_items (without (marks c) all_of)) ≡ length (without (marks c) all_of) = length-map (without (marks c) all_of) (λ b. ItemOf.Byte b) in
+      omega (arith, n, a, b, d, k)
+
+  due_less : (marks : Marks) (x : Item) → SharesOut marks drops rx clients (with_put m q x) → length (m.sent q) < due_to (length clients) (bytes_in (m.taken rx)) drops c q m
+  due_less marks x put =
+      let short = shorter_by marks x put in
+      let left = without_length (marks c) all_of (put.settled c q at) in
+      let gone : marked (marks c) ≡ gone_at (policy_at drops c) m Producer q = put.as_many c q at in
+      omega (arith, short, left, gone)
+
+  pub share_only : (x : Item) → SharesSome drops rx clients (with_put m q x) → is_owed_to (length clients) (bytes_in (m.taken rx)) drops c q m ≡ true
+  share_only x some = lt-ltb (length (m.sent q)) (due_to (length clients) (bytes_in (m.taken rx)) drops c q m) (due_less some.marks x some.out)
 
 -- one more byte of those that are held
 module _ (tx : ℕ) (clients : List ℕ) (m : Moved) (row : MergesAll tx clients m) where

@@ -38,6 +38,9 @@ items_if : (b : Bool) (cs : List Cargo) → (if b then items_of cs else []) ≡ 
 items_if true cs = refl
 items_if false cs = refl
 
+abbrev taker_by : Bool → (k n p : ℕ) → Taker
+taker_by drops k n p = record { clients = n; client = k; drops = drops; queue = p }
+
 module _ (v : SerialVirtRx) (passed : Passed) (m : Moved) (t : TellsReceiver v passed m) (row : RxRow v passed) where
   abbrev rx : ℕ
   rx = v.input.queue.0
@@ -61,10 +64,7 @@ module _ (v : SerialVirtRx) (passed : Passed) (m : Moved) (t : TellsReceiver v p
   taker_is k q x at is =
       let many : length (client_queues v) ≡ clients_of v = length-map (outlet_queues v.outputs) (λ (q : QueueId). q.0) in
       let queue : slice_index_or (client_queues v) k 0 ≡ x.0 = index_at (client_queues v) k q at ∙ sym is in
-      ap (λ n. with_both n (slice_index_or (client_queues v) k 0)) many ∙ ap (λ n. with_both (clients_of v) n) queue
-    where
-      with_both : ℕ → ℕ → Taker
-      with_both n p = record { clients = n; client = k; drops = policy_of v k; queue = p }
+      ap (λ n. taker_by (policy_of v k) k n (slice_index_or (client_queues v) k 0)) many ∙ ap (λ p. taker_by (policy_of v k) k (clients_of v) p) queue
 
   marks_are : (k q : ℕ) (x : QueueId) → slice_get (client_queues v) k ≡ Some q → x.0 ≡ q → marks k ≡ cond (policy_of v k) (gone k x) []
   marks_are k q x at is = ap (λ (t : Taker). cond (policy_of v k) (byte_fate rx t passed.calls).dropped []) (taker_is k q x at is)

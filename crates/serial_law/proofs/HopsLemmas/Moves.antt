@@ -19,7 +19,7 @@ use Rattle.play_core.specs.Still.{Holds}
 use Rattle.play_core.proofs.Lists.{there_is, there_below}
 use Rattle.play_core.proofs.Merges.{merge_total}
 use Rattle.serial_law.specs.Bytes.{bytes_in, byte_items}
-use Rattle.serial_law.specs.Table.{SharesSome, MergesAll}
+use Rattle.serial_law.specs.Table.{Marks, SharesOut, SharesSome, MergesAll}
 use Rattle.serial_law.specs.Serial.{SerialClass, IsSerial}
 use Rattle.serial_law.proofs.Arrivals.{RowAt}
 use Rattle.serial_law.specs.Hops.Hops.{put_to, gone_from, serial_put, serial_gone, serial_bytes}
@@ -105,20 +105,25 @@ module _ (hostile : Hostiles) (history : History) (rows : List QueueRow) (j : Li
       let b = flow c.device_rx w.holds_device_rx in
       omega (arith, a, b)
 
+  abbrev part : ℕ → List ℕ
+  part k = input_of (length c.client_rx) k (bytes_in (m.taken c.rx))
+
   abbrev share : ℕ → ℕ
-  share k = length (input_of (length c.client_rx) k (bytes_in (m.taken c.rx)))
+  share k = length (part k)
 
   -- each client is given, and of its bytes are dropped, no more than its part
   client_given : (k q : ℕ) → slice_get c.client_rx k ≡ Some q → put q + gone_at (policy_at c.drops k) m Producer q ≤ share k
   client_given k q at =
       let shares : SharesSome c.drops c.rx c.client_rx m = w.receiver in
-      let part = input_of (length c.client_rx) k (bytes_in (m.taken c.rx)) in
-      let left = without (shares.marks k) part in
-      let a = shorter (m.sent q) (byte_items left) (_, shares.out.given k q at) in
-      let b = few_items left in
-      let d = without_length (shares.marks k) part (shares.out.settled k q at) in
-      let g = shares.out.as_many k q at in
-      omega (arith, a, b, d, g)
+      few_given shares.marks shares.out
+    where
+      few_given : (marks : Marks) → SharesOut marks c.drops c.rx c.client_rx m → put q + gone_at (policy_at c.drops k) m Producer q ≤ share k
+      few_given marks out =
+          let a = shorter (m.sent q) (byte_items (without (marks k) (part k))) (_, out.given k q at) in
+          let b = few_items (without (marks k) (part k)) in
+          let d = without_length (marks k) (part k) (out.settled k q at) in
+          let g = out.as_many k q at in
+          omega (arith, a, b, d, g)
 
   receiver_puts : put_to c.client_rx m + serial_gone c m ≤ put c.rx
   receiver_puts =
