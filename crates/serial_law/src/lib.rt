@@ -1,7 +1,7 @@
 //! The serial class as a law of its own, apart from any system: what is said of each kind of its
 //! actors, that their needs follow from it, and what the class brings at any moment and where
-//! nobody may make a call; what its receiver drops; how often its entries are moved; and that its actors hand on entries
-//! without pages.
+//! nobody may make a call; what its receiver drops; how often its entries are moved; and that its
+//! actors hand on entries without pages.
 #![tactic(auto)]
 
 ghost use Rattle.std.specs.Prelude.{◌≡◌, ℕ, false, List, length};
