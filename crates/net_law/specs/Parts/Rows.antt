@@ -9,6 +9,7 @@ use Rattle.cargo_core.specs.declared.item.Item.TheVariants as ItemOf
 use Rattle.cargo_core.specs.declared.item.QueueKind.TheVariants as Kind
 use Rattle.frame_core.specs.declared.mac.Mac.{Mac}
 use Rattle.wire_core.specs.Bells.{bit}
+use Rattle.wire_core.specs.Fates.{without, marked}
 use Rattle.play_core.specs.Moved.{Moved}
 use Rattle.owner_law.specs.Things.{Buffer, Window, names_in, times}
 use Rattle.owner_law.specs.Keeping.{at_start}
@@ -37,14 +38,23 @@ abbrev pub AllCopy : List Way → Moved → Type 0
 AllCopy ways m = (k : ℕ) (w : Way) → slice_get ways k ≡ Some w
     → IsPrefix (m.sent w.output) (m.taken w.input)
 
--- what a copier may have put: the buffers that it took, in their order and each with the length of
--- the lease of its place, of which it took no more than leases; and the leases as they came, no
--- more of them than buffers
-pub record CopiesLeases (leases buffers gave back : List Item) : Type 0 where
-  pub copies : IsPrefix gave (sized_items (map len_of leases) buffers)
-  pub takes_for : length buffers ≤ length leases
+-- what a copier may have put that dropped so many leases, those that are marked: the buffers that it
+-- took, in their order and each with the length of the lease of its place among those that weren't
+-- dropped, of which it took no more, with the dropped ones, than leases; and the leases as they
+-- came, no more of them than buffers and dropped ones
+pub record CopiesLeases (dropped : List Bool) (gone : ℕ) (leases buffers gave back : List Item) :
+    Type 0 where
+  pub settled : length dropped ≤ length leases
+  pub as_many : marked dropped ≡ gone
+  pub copies : IsPrefix gave (sized_items (map len_of (without dropped leases)) buffers)
+  pub takes_for : length buffers + gone ≤ length leases
   pub gives_back : IsPrefix back leases
-  pub after_copy : length back ≤ length gave
+  pub after_copy : length back ≤ length gave + gone
+
+-- so it is with some leases marked
+pub record CopiesSome (gone : ℕ) (leases buffers gave back : List Item) : Type 0 where
+  pub dropped : List Bool
+  pub out : CopiesLeases dropped gone leases buffers gave back
 
 -- the item by which the buffer of a number is given
 abbrev pub given_item : Window → ℕ → Item

@@ -5,7 +5,8 @@ use Rattle.std.specs.Prelude.{length, map, flat_map}
 use Rattle.cargo_core.specs.declared.item.Item.{Item}
 use Rattle.wire_core.specs.Bells.{bit}
 use Rattle.wire_core.specs.Marks.{sum_below}
-use Rattle.play_core.specs.Moved.{Moved, Seat}
+use Rattle.wire_core.specs.Ends.{Consumer}
+use Rattle.play_core.specs.Moved.{Moved, Seat, gone_at}
 use Rattle.play_core.specs.Wants.{Want, intake, outlet, intake_want, outlet_want}
 use Rattle.play_core.specs.Sheets.{Scene, Sheet, Due}
 use Rattle.frame_core.specs.declared.mac.Mac.{Mac}
@@ -14,7 +15,7 @@ use Rattle.owner_law.specs.Pools.Places.{PoolAt, by_offset, pool_hand}
 use Rattle.net_law.specs.Owners.Lending.{Lender}
 use Rattle.net_law.specs.Parts.Parts.{NetPart, NetDevice, NetDriver, NetReceiver, NetCopier}
 use Rattle.net_law.specs.Parts.Parts.{NetClient, Way, Lessee}
-use Rattle.net_law.specs.Parts.Rows.{FillsFrames, AllCopy, CopiesLeases, ServesClient}
+use Rattle.net_law.specs.Parts.Rows.{FillsFrames, AllCopy, CopiesSome, ServesClient}
 use Rattle.net_law.specs.Parts.Rows.{sent_where, sent_items, is_answering, SharesFrames}
 use Rattle.net_law.specs.Parts.Rows.{leases_from, lender_of, is_lent}
 
@@ -123,17 +124,22 @@ net_sheet scene (NetReceiver active free pool clients) = record {
       }) clients;
   hand = pool_hand pool;
 }
-net_sheet scene (NetCopier lease_active lease_free rx_active rx_free) = record {
+net_sheet scene (NetCopier lease_active lease_free rx_active rx_free drops) = record {
   ends = intake lease_active ∷ intake rx_free ∷ outlet rx_active ∷ outlet lease_free ∷ [];
-  row = λ m. CopiesLeases (m.taken lease_active) (m.taken rx_free) (m.sent rx_active)
-      (m.sent lease_free);
+  row = λ m. CopiesSome (gone_at drops m Consumer rx_free) (m.taken lease_active)
+      (m.taken rx_free) (m.sent rx_active) (m.sent lease_free);
   wants = λ m.
       intake_want lease_active (not (is_short (m.sent lease_free) (m.taken lease_active)))
-      ∷ intake_want rx_free (is_short (m.taken rx_free) (m.taken lease_active))
+      ∷ intake_want rx_free (nat_lt (length (m.taken rx_free)
+      + gone_at drops m Consumer rx_free) (length (m.taken lease_active)))
       ∷ outlet_want rx_active (is_short (m.sent rx_active) (m.taken rx_free))
-      ∷ outlet_want lease_free (is_short (m.sent lease_free) (m.sent rx_active)) ∷ [];
+      ∷ outlet_want lease_free (nat_lt (length (m.sent lease_free))
+      (length (m.sent rx_active) + gone_at drops m Consumer rx_free)) ∷ [];
   dues = λ m. record { queue = rx_active; number = length (m.taken rx_free) }
-      ∷ record { queue = lease_free; number = length (m.sent rx_active) } ∷ [];
+      ∷ record {
+        queue = lease_free;
+        number = length (m.sent rx_active) + gone_at drops m Consumer rx_free;
+      } ∷ [];
   hand = λ pool. [];
 }
 net_sheet scene (NetClient program mac rx_active rx_free tx_active tx_free rx tx) = record {
