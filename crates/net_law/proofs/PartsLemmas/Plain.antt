@@ -1,11 +1,14 @@
-use Rattle.std.proofs.Common.{◌≡◌, ◌≢◌, ◌+◌, ◌++◌, ◌<◌, ◌≤◌, ℕ, zero, suc, true, false, nat_lt, Some, List, length, map, slice_get, length-append, refl, sym, ap, ◌∙◌, subst, arith}
+use Rattle.std.proofs.Common.{◌≡◌, ◌≢◌, ◌+◌, ◌++◌, ◌<◌, ◌≤◌, ℕ, zero, suc, Bool, true, false, cond, nat_lt, Some, List, length, map, slice_get, length-append, refl, sym, ap, ◌∙◌, subst, arith}
 use Rattle.std.proofs.lemmas.Bool.{ltb-true, lt-ltb}
 use Rattle.std.proofs.lemmas.List.{length-map}
 use Rattle.cargo_core.specs.Lists.{IsPrefix}
 use Rattle.cargo_core.specs.declared.item.Item.{Item}
 use Rattle.frame_core.specs.declared.mac.Mac.{Mac}
 use Rattle.net_expect.specs.Expecting.{Program}
-use Rattle.play_core.specs.Moved.{Moved, AreAlike}
+use Rattle.wire_core.specs.Ends.{Consumer}
+use Rattle.wire_core.specs.Fates.{without}
+use Rattle.wire_core.proofs.Fating.{without_length}
+use Rattle.play_core.specs.Moved.{Moved, AreAlike, LookAlike, gone_at, with_put}
 use Rattle.play_core.specs.Wants.{intake, outlet, intake_want, outlet_want}
 use Rattle.play_core.specs.Sheets.{Scene, Sheet, Due, CouldPut, IsOwn, NeedsFollow, AreApart, due_want}
 use Rattle.play_core.proofs.Lists.{some_is, map_from}
@@ -14,7 +17,7 @@ use Rattle.play_core.proofs.Walks.{begins_few}
 use Rattle.buffer_kit.specs.Entries.{len_of}
 use Rattle.owner_law.specs.Pools.Places.{PoolAt, by_offset, numbers_from}
 use Rattle.net_law.specs.Parts.Parts.{NetDevice, NetDriver, NetCopier, NetClient, Way}
-use Rattle.net_law.specs.Parts.Rows.{FillsFrames, CopiesLeases, ServesClient, SendsItems, sent_where, sized_items, given_item, given_items}
+use Rattle.net_law.specs.Parts.Rows.{FillsFrames, CopiesLeases, CopiesSome, ServesClient, SendsItems, sent_where, sized_items, given_item, given_items}
 use Rattle.net_law.specs.Parts.Table.{net_sheet, is_short, way_wants, way_due, client_items}
 use Rattle.net_law.proofs.PartsLemmas.Fits.{Fits, AllFit, intake_fits, outlet_fits, pairs_fit, sheet_follows}
 use Rattle.net_law.proofs.PartsLemmas.Pairs.{twice, twice_same, pair_first, pair_second, pair_seats, flat_alike, each_owed, carry, put_length, sized_length}
@@ -26,8 +29,8 @@ module _ (scene : Scene) (rx_free rx_active tx_active tx_free : ℕ) (frames : L
 
   pub device_own : IsOwn Device
   device_own = record {
-    row = λ a b alike h. carry (λ x y z w. FillsFrames frames x y z w) (a.taken rx_free) (a.sent rx_active) (a.taken tx_active) (a.sent tx_free) (b.taken rx_free) (b.sent rx_active) (b.taken tx_active) (b.sent tx_free) (alike 0 (intake rx_free) refl) (alike 1 (outlet rx_active) refl) (alike 2 (intake tx_active) refl) (alike 3 (outlet tx_free) refl) h;
-    wants = λ a b alike.
+    row = λ a b alike look h. carry (λ x y z w. FillsFrames frames x y z w) (a.taken rx_free) (a.sent rx_active) (a.taken tx_active) (a.sent tx_free) (b.taken rx_free) (b.sent rx_active) (b.taken tx_active) (b.sent tx_free) (alike 0 (intake rx_free) refl) (alike 1 (outlet rx_active) refl) (alike 2 (intake tx_active) refl) (alike 3 (outlet tx_free) refl) h;
+    wants = λ a b alike look.
         let e0 : a.taken rx_free ≡ b.taken rx_free = alike 0 (intake rx_free) refl in
         let e1 : a.sent rx_active ≡ b.sent rx_active = alike 1 (outlet rx_active) refl in
         let e2 : a.taken tx_active ≡ b.taken tx_active = alike 2 (intake tx_active) refl in
@@ -94,7 +97,7 @@ module _ (scene : Scene) (ways : List Way) where
   pub driver_own : IsOwn Driver
   driver_own = record {
     row = λ a b alike h k w at. way_row a b alike k w at (h k w at);
-    wants = λ a b alike. flat_alike (way_wants a) (way_wants b) ways (way_same a b alike);
+    wants = λ a b alike look. flat_alike (way_wants a) (way_wants b) ways (way_same a b alike);
     ends = λ m. pair_seats (λ (w : Way). intake_want w.input (Rattle.std.specs.Prelude.not (is_short (m.sent w.output) (m.taken w.input)))) (λ w. outlet_want w.output (is_short (m.sent w.output) (m.taken w.input))) ways;
   }
 
@@ -125,68 +128,114 @@ module _ (scene : Scene) (ways : List Way) where
   pub driver_follows : NeedsFollow Driver
   driver_follows = sheet_follows Driver (λ m apart row. driver_fits m apart row) driver_due
 
+-- what a copier has filled is as long as the buffers
+pub filled_long : (dropped : List Bool) (gone : ℕ) (leases buffers gave back : List Item) → CopiesLeases dropped gone leases buffers gave back → length (sized_items (map len_of (without dropped leases)) buffers) ≡ length buffers
+filled_long dropped gone leases buffers gave back row =
+    let left = without_length dropped leases row.settled in
+    let many = length-map (without dropped leases) len_of in
+    let t = row.takes_for in
+    let g = row.as_many in
+    sized_length (map len_of (without dropped leases)) buffers (omega (arith, left, many, t, g))
+
+-- what it put and dropped is no more than came
+pub few_hops : (dropped : List Bool) (gone : ℕ) (leases buffers gave back : List Item) → CopiesLeases dropped gone leases buffers gave back → length gave + gone ≤ length leases
+few_hops dropped gone leases buffers gave back row =
+    let few = begins_few gave (sized_items (map len_of (without dropped leases)) buffers) row.copies in
+    let long = filled_long dropped gone leases buffers gave back row in
+    let t = row.takes_for in
+    omega (arith, few, long, t)
+
 -- a copier
-module _ (scene : Scene) (lease_active lease_free rx_active rx_free : ℕ) where
+module _ (scene : Scene) (lease_active lease_free rx_active rx_free : ℕ) (drops : Bool) where
   abbrev Copier : Sheet
-  Copier = net_sheet scene (NetCopier lease_active lease_free rx_active rx_free)
+  Copier = net_sheet scene (NetCopier lease_active lease_free rx_active rx_free drops)
+
+  copier_same : (a b : Moved) → AreAlike Copier.ends a b → LookAlike Copier.ends a b → Copier.row a → Copier.row b
+  copier_same a b alike look row =
+      let gone : gone_at drops a Consumer rx_free ≡ gone_at drops b Consumer rx_free = ap (λ n. cond drops n 0) (look 1 (intake rx_free) refl) in
+      subst (λ g. CopiesSome g (b.taken lease_active) (b.taken rx_free) (b.sent rx_active) (b.sent lease_free)) gone
+      (carry (λ x y z w. CopiesSome (gone_at drops a Consumer rx_free) x y z w) (a.taken lease_active) (a.taken rx_free) (a.sent rx_active) (a.sent lease_free) (b.taken lease_active) (b.taken rx_free) (b.sent rx_active) (b.sent lease_free) (alike 0 (intake lease_active) refl) (alike 1 (intake rx_free) refl) (alike 2 (outlet rx_active) refl) (alike 3 (outlet lease_free) refl) row)
 
   pub copier_own : IsOwn Copier
   copier_own = record {
-    row = λ a b alike h. carry (λ x y z w. CopiesLeases x y z w) (a.taken lease_active) (a.taken rx_free) (a.sent rx_active) (a.sent lease_free) (b.taken lease_active) (b.taken rx_free) (b.sent rx_active) (b.sent lease_free) (alike 0 (intake lease_active) refl) (alike 1 (intake rx_free) refl) (alike 2 (outlet rx_active) refl) (alike 3 (outlet lease_free) refl) h;
-    wants = λ a b alike.
+    row = copier_same;
+    wants = λ a b alike look.
         let e0 : a.taken lease_active ≡ b.taken lease_active = alike 0 (intake lease_active) refl in
         let e1 : a.taken rx_free ≡ b.taken rx_free = alike 1 (intake rx_free) refl in
         let e2 : a.sent rx_active ≡ b.sent rx_active = alike 2 (outlet rx_active) refl in
         let e3 : a.sent lease_free ≡ b.sent lease_free = alike 3 (outlet lease_free) refl in
-        rw (e0, e1, e2, e3) refl;
+        let eg : gone_at drops a Consumer rx_free ≡ gone_at drops b Consumer rx_free = ap (λ n. cond drops n 0) (look 1 (intake rx_free) refl) in
+        rw (e0, e1, e2, e3, eg) refl;
     ends = λ m. refl;
   }
 
   module _ (m : Moved) (apart : AreApart Copier.ends) (row : Copier.row m) where
-    abbrev filled : List Item
-    filled = sized_items (map len_of (m.taken lease_active)) (m.taken rx_free)
+    abbrev gone : ℕ
+    gone = gone_at drops m Consumer rx_free
 
-    filled_long : length filled ≡ length (m.taken rx_free)
-    filled_long = sized_length (map len_of (m.taken lease_active)) (m.taken rx_free) (let many : length (map len_of (m.taken lease_active)) ≡ length (m.taken lease_active) = length-map (m.taken lease_active) len_of in omega (arith, many, row.takes_for))
+    abbrev filled : List Item
+    filled = sized_items (map len_of (without row.dropped (m.taken lease_active))) (m.taken rx_free)
+
+    long : length filled ≡ length (m.taken rx_free)
+    long = filled_long row.dropped gone (m.taken lease_active) (m.taken rx_free) (m.sent rx_active) (m.sent lease_free) row.out
 
     two_outputs : rx_active ≢ lease_free
     two_outputs same = let e : 2 ≡ 3 = apart 2 3 (outlet rx_active) refl (ap (λ n. Some (outlet n)) (sym same)) in omega (arith, e)
 
     copies : is_short (m.sent rx_active) (m.taken rx_free) ≡ true → CouldPut Copier m rx_active
     copies lt =
-        let more = copy_more m rx_active filled row.copies (subst (λ n. nat_lt (length (m.sent rx_active)) n ≡ true) (sym filled_long) lt) in
-        let beside = put_beside m rx_active more.0 lease_free two_outputs in (
+        let more = copy_more m rx_active filled row.out.copies (subst (λ n. nat_lt (length (m.sent rx_active)) n ≡ true) (sym long) lt) in
+        let beside = put_beside m rx_active more.0 lease_free two_outputs in
+        let n = put_length m rx_active more.0 in
+        let same = ap length beside in
+        let t = row.out.after_copy in (
           more.0,
           record {
-            copies = more.1;
-            takes_for = row.takes_for;
-            gives_back = subst (λ l. IsPrefix l (m.taken lease_active)) (sym beside) row.gives_back;
-            after_copy = omega (arith, put_length m rx_active more.0, ap length beside, row.after_copy);
+            dropped = row.dropped;
+            out = record {
+              settled = row.out.settled;
+              as_many = row.out.as_many;
+              copies = more.1;
+              takes_for = row.out.takes_for;
+              gives_back = subst (λ l. IsPrefix l (m.taken lease_active)) (sym beside) row.out.gives_back;
+              after_copy = omega (arith, n, same, t);
+            };
           },
         )
 
     copies_only : CouldPut Copier m rx_active → is_short (m.sent rx_active) (m.taken rx_free) ≡ true
-    copies_only put = subst (λ n. nat_lt (length (m.sent rx_active)) n ≡ true) filled_long (copy_shorter m rx_active filled put.0 put.1.copies)
+    copies_only put =
+        let then = filled_long put.1.dropped gone (m.taken lease_active) (m.taken rx_free) ((with_put m rx_active put.0).sent rx_active) ((with_put m rx_active put.0).sent lease_free) put.1.out in
+        subst (λ n. nat_lt (length (m.sent rx_active)) n ≡ true) then (copy_shorter m rx_active (sized_items (map len_of (without put.1.dropped (m.taken lease_active))) (m.taken rx_free)) put.0 put.1.out.copies)
 
-    returns : is_short (m.sent lease_free) (m.sent rx_active) ≡ true → CouldPut Copier m lease_free
+    returns : nat_lt (length (m.sent lease_free)) (length (m.sent rx_active) + gone) ≡ true → CouldPut Copier m lease_free
     returns lt =
-        let less : length (m.sent lease_free) < length (m.sent rx_active) = ltb-true (length (m.sent lease_free)) (length (m.sent rx_active)) lt in
-        let few = begins_few (m.sent rx_active) filled row.copies in
-        let more = copy_more m lease_free (m.taken lease_active) row.gives_back (lt-ltb (length (m.sent lease_free)) (length (m.taken lease_active)) (omega (arith, less, few, filled_long, row.takes_for))) in
-        let beside = put_beside m lease_free more.0 rx_active (λ e. two_outputs (sym e)) in (
+        let less : length (m.sent lease_free) < length (m.sent rx_active) + gone = ltb-true (length (m.sent lease_free)) (length (m.sent rx_active) + gone) lt in
+        let few = few_hops row.dropped gone (m.taken lease_active) (m.taken rx_free) (m.sent rx_active) (m.sent lease_free) row.out in
+        let more = copy_more m lease_free (m.taken lease_active) row.out.gives_back (lt-ltb (length (m.sent lease_free)) (length (m.taken lease_active)) (omega (arith, less, few))) in
+        let beside = put_beside m lease_free more.0 rx_active (λ e. two_outputs (sym e)) in
+        let n = put_length m lease_free more.0 in
+        let same = ap length beside in (
           more.0,
           record {
-            copies = subst (λ l. IsPrefix l filled) (sym beside) row.copies;
-            takes_for = row.takes_for;
-            gives_back = more.1;
-            after_copy = omega (arith, put_length m lease_free more.0, ap length beside, less);
+            dropped = row.dropped;
+            out = record {
+              settled = row.out.settled;
+              as_many = row.out.as_many;
+              copies = subst (λ l. IsPrefix l filled) (sym beside) row.out.copies;
+              takes_for = row.out.takes_for;
+              gives_back = more.1;
+              after_copy = omega (arith, n, same, less);
+            };
           },
         )
 
-    returns_only : CouldPut Copier m lease_free → is_short (m.sent lease_free) (m.sent rx_active) ≡ true
+    returns_only : CouldPut Copier m lease_free → nat_lt (length (m.sent lease_free)) (length (m.sent rx_active) + gone) ≡ true
     returns_only put =
-        let beside = put_beside m lease_free put.0 rx_active (λ e. two_outputs (sym e)) in
-        lt-ltb (length (m.sent lease_free)) (length (m.sent rx_active)) (omega (arith, put_length m lease_free put.0, ap length beside, put.1.after_copy))
+        let beside = ap length (put_beside m lease_free put.0 rx_active (λ e. two_outputs (sym e))) in
+        let n = put_length m lease_free put.0 in
+        let t = put.1.out.after_copy in
+        lt-ltb (length (m.sent lease_free)) (length (m.sent rx_active) + gone) (omega (arith, n, beside, t))
 
     copier_fits : AllFit Copier m (Copier.wants m)
     copier_fits = (intake_fits Copier m lease_active _, (intake_fits Copier m rx_free _, (outlet_fits Copier m rx_active _ copies copies_only, (outlet_fits Copier m lease_free _ returns returns_only, tt))))
@@ -210,8 +259,8 @@ module _ (scene : Scene) (program : Program) (mac : Mac) (rx_active rx_free tx_a
 
   pub client_own : IsOwn Client
   client_own = record {
-    row = λ a b alike h. carry (λ x y z w. ServesClient program mac scene.frames (by_offset rx) (by_offset tx) x y z w) (a.taken rx_active) (a.sent rx_free) (a.taken tx_free) (a.sent tx_active) (b.taken rx_active) (b.sent rx_free) (b.taken tx_free) (b.sent tx_active) (alike 0 (intake rx_active) refl) (alike 1 (outlet rx_free) refl) (alike 2 (intake tx_free) refl) (alike 3 (outlet tx_active) refl) h;
-    wants = λ a b alike.
+    row = λ a b alike look h. carry (λ x y z w. ServesClient program mac scene.frames (by_offset rx) (by_offset tx) x y z w) (a.taken rx_active) (a.sent rx_free) (a.taken tx_free) (a.sent tx_active) (b.taken rx_active) (b.sent rx_free) (b.taken tx_free) (b.sent tx_active) (alike 0 (intake rx_active) refl) (alike 1 (outlet rx_free) refl) (alike 2 (intake tx_free) refl) (alike 3 (outlet tx_active) refl) h;
+    wants = λ a b alike look.
         let e0 : a.taken rx_active ≡ b.taken rx_active = alike 0 (intake rx_active) refl in
         let e1 : a.sent rx_free ≡ b.sent rx_free = alike 1 (outlet rx_free) refl in
         let e2 : a.taken tx_free ≡ b.taken tx_free = alike 2 (intake tx_free) refl in

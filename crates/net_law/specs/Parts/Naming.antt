@@ -29,7 +29,7 @@ NamesPart naming scene (NetDriver ways) = (k : ℕ) (w : Way) → slice_get ways
 NamesPart naming scene (NetReceiver active free pool clients) =
     LenderNames naming (by_address pool ∷ []) (by_offset pool ∷ [])
     (lender_of scene.frames active free pool clients)
-NamesPart naming scene (NetCopier lease_active lease_free rx_active rx_free) =
+NamesPart naming scene (NetCopier lease_active lease_free rx_active rx_free drops) =
     ((leased : List Window) × (naming lease_active ≡ Leases leased)
     × (naming lease_free ≡ Returns leased))
     × ((buffers : List Window) × NamePair naming buffers rx_free rx_active)

@@ -43,7 +43,7 @@ driver_part ps = NetDriver (map way_of ps)
 -- a copier's part
 abbrev pub copier_part : NetCopier → NetPart
 copier_part c = CopierPart c.lease_input.queue.0 c.lease_output.queue.0 c.buffer_output.queue.0
-    c.buffer_input.queue.0
+    c.buffer_input.queue.0 c.drops
 
 -- the pool of which a stock has the buffers
 abbrev pub stock_pool : Stock → PoolAt
