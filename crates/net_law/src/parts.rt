@@ -3,11 +3,13 @@
 //! comes out of turn.
 
 ghost use Rattle.std.specs.Prelude.{◌≡◌, ℕ, Some, List, [], length, slice_get};
+ghost use Rattle.wire_core.specs.Ends.{Consumer};
+ghost use Rattle.wire_core.specs.Fates.{noes_at};
 ghost use Rattle.cargo_core.specs.Lists.{IsPrefix};
 ghost use Rattle.frame_core.specs.declared.mac.Mac.{Mac};
 ghost use Rattle.wire_core.specs.Deeds.{Cargo};
 ghost use Rattle.wire_core.specs.Lists.{Passed};
-ghost use Rattle.play_core.specs.Moved.{Moved};
+ghost use Rattle.play_core.specs.Moved.{Moved, gone_at};
 ghost use Rattle.play_core.specs.Sheets.{Scene, IsOwn, NeedsFollow};
 ghost use Rattle.owner_law.specs.Things.{Naming};
 ghost use Rattle.owner_law.specs.Keeping.{PutsItsOwn};
@@ -20,20 +22,20 @@ ghost use Rattle.device_model.specs.Ethernet.Devices.{HoldingDeviceRow};
 ghost use Rattle.device_model.specs.declared.ethernet.EthDevice.{EthDevice};
 ghost use Rattle.client_programs.specs.Net.Clients.{ClientRow};
 ghost use Rattle.client_programs.specs.declared.net.NetClient.{NetClient};
-ghost use Rattle.net_copier.specs.Copying.{HoldingCopierRow, leased_bytes};
+ghost use Rattle.net_copier.specs.Copying.{CopierRow, leased_bytes};
 ghost use Rattle.net_copier.specs.declared.NetCopier.{NetCopier};
 ghost use Rattle.net_virt_rx.specs.Receiving.{RxRow};
 ghost use Rattle.net_virt_rx.specs.declared.NetVirtRx.{NetVirtRx};
 ghost use Rattle.net_law.specs.Owners.Names.{ClientPools};
 ghost use Rattle.owner_law.specs.Pools.Places.{PoolAt};
-ghost use Rattle.net_law.specs.Owners.Ends.{AreItemsOf};
+ghost use Rattle.net_law.specs.Owners.Ends.{AreItemsOf, copier_ends};
 ghost use Rattle.net_law.specs.Parts.Parts.{NetPart};
-ghost use Rattle.net_law.specs.Parts.Rows.{frame_at};
+ghost use Rattle.net_law.specs.Parts.Rows.{CopiesLeases, frame_at};
 ghost use Rattle.net_law.specs.Parts.Table.{net_sheet};
 ghost use Rattle.net_law.specs.Parts.Naming.{NamesPart};
 ghost use Rattle.net_law.specs.Parts.Numbers.{device_at, driver_at, receiver_at, copier_at};
 ghost use Rattle.net_law.specs.Parts.Numbers.{client_at, layout_naming};
-ghost use Rattle.net_law.specs.Parts.Playing.{device_part, driver_part, copier_part};
+ghost use Rattle.net_law.specs.Parts.Playing.{device_part, driver_part, dropped_of};
 ghost use Rattle.net_law.specs.Parts.Playing.{client_part, receiver_part, AreLeases};
 ghost use Rattle.net_law.specs.Parts.Playing.{ReceivesInTurn, HasBuffers, AnswersInTurn};
 ghost use Rattle.net_law.specs.Parts.Turning.{IsReceiveHalf, IsClient};
@@ -46,7 +48,8 @@ pub fn table_law()
 {}
 
 /// The rows of the actors, of entries with their bodies, say of the items what the table says. A
-/// copier's does where it took leases alone, each as long as its item says; the virtualiser's where
+/// copier's does where it took leases alone, each as long as its item says, with those dropped that
+/// its calls tell; the virtualiser's where
 /// the frames that it took are those of their places and none came out of turn.
 pub fn row_law()
     ensures device { (scene : Scene) (d : EthDevice) (passed : Passed) (m : Moved)
@@ -59,10 +62,15 @@ pub fn row_law()
         → ReceivesInTurn scene.frames v passed
         → AreItemsOf (net_sheet scene (receiver_part v)).ends passed m
         → RxRow v passed → (net_sheet scene (receiver_part v)).row m }
-    ensures copier { (scene : Scene) (c : NetCopier) (passed : Passed) (m : Moved)
-        → AreItemsOf (net_sheet scene (copier_part c)).ends passed m
-        → AreLeases (passed.taken c.lease_input.queue.0)
-        → HoldingCopierRow c passed → (net_sheet scene (copier_part c)).row m }
+    ensures copier { (c : NetCopier) (passed : Passed) (m : Moved)
+        → AreItemsOf (copier_ends c) passed m
+        → noes_at Consumer c.buffer_input.queue.0 passed.calls
+        ≡ m.noes Consumer c.buffer_input.queue.0
+        → AreLeases (passed.taken c.lease_input.queue.0) → CopierRow c passed
+        → CopiesLeases (dropped_of c passed.calls)
+        (gone_at c.drops m Consumer c.buffer_input.queue.0) (m.taken c.lease_input.queue.0)
+        (m.taken c.buffer_input.queue.0) (m.sent c.buffer_output.queue.0)
+        (m.sent c.lease_output.queue.0) }
     ensures client { (scene : Scene) (c : NetClient) (passed : Passed) (m : Moved)
         → HasBuffers c → AnswersInTurn scene.frames c
         → AreItemsOf (net_sheet scene (client_part c)).ends passed m

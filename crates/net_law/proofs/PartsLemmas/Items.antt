@@ -1,4 +1,4 @@
-use Rattle.std.proofs.Common.{◌≡◌, ◌+◌, ◌++◌, ℕ, zero, suc, true, false, Some, List, [], ◌∷◌, All, length, map, take, slice_get, refl, sym, ap, ap₂, ◌∙◌, subst, arith}
+use Rattle.std.proofs.Common.{◌≡◌, ◌+◌, ◌++◌, ℕ, zero, suc, Bool, true, false, cond, ◌≤◌, Some, List, [], ◌∷◌, All, length, map, take, slice_get, refl, sym, ap, ap₂, ◌∙◌, subst, arith}
 use Rattle.std.proofs.lemmas.List.{append-nil, length-map, map-append}
 use Rattle.std.proofs.Math.Seq.{take-append_seam}
 use Rattle.cargo_core.specs.Lists.{IsPrefix}
@@ -7,7 +7,7 @@ use Rattle.cargo_core.specs.Pages.{Paged}
 use Rattle.wire_core.specs.Deeds.{Cargo}
 use Rattle.wire_core.specs.Lists.{Passed}
 use Rattle.wire_core.specs.Queues.{items_of}
-use Rattle.play_core.specs.Moved.{Moved}
+use Rattle.play_core.specs.Moved.{Moved, gone_at}
 use Rattle.play_core.specs.Sheets.{Scene}
 use Rattle.play_core.proofs.Lists.{some_is}
 use Rattle.owner_law.specs.Things.{Window}
@@ -26,16 +26,20 @@ use Rattle.client_programs.specs.Net.Programs.{program_with, program_of, sent_fo
 use Rattle.client_programs.specs.Net.Sending.{SendsFrames}
 use Rattle.client_programs.specs.Net.Clients.{ClientRow, rx_active, rx_free, tx_active, tx_free}
 use Rattle.client_programs.specs.declared.net.NetClient.{NetClient}
-use Rattle.net_copier.specs.Copying.{HoldingCopierRow, is_stray, leased_bytes}
+use Rattle.wire_core.specs.Ends.{Consumer}
+use Rattle.wire_core.specs.Fates.{without, marked, noes_at}
+use Rattle.wire_core.proofs.Fating.{without_none, without-map}
+use Rattle.net_copier.specs.Copying.{CopierRow, leases_dropped, is_stray, leased_bytes}
+use Rattle.net_copier.proofs.Dropping.{none_dropped_held}
 use Rattle.net_copier.specs.declared.NetCopier.{NetCopier}
 use Rattle.owner_law.specs.Pools.Places.{by_offset, numbers_from}
-use Rattle.net_law.specs.Owners.Ends.{AreItemsOf}
+use Rattle.net_law.specs.Owners.Ends.{AreItemsOf, copier_ends}
 use Rattle.net_law.proofs.Beginnings.{begins_map}
 use Rattle.net_law.proofs.Answering.{answers_are}
 use Rattle.net_law.specs.Parts.Parts.{Way}
 use Rattle.net_law.specs.Parts.Rows.{FillsFrames, CopiesLeases, ServesClient, SendsItems, sent_where, is_answering, sized_items, given_item, given_items}
 use Rattle.net_law.specs.Parts.Table.{net_sheet}
-use Rattle.net_law.specs.Parts.Playing.{device_part, driver_part, copier_part, client_part, stock_pool, AreLeases, HasBuffers, AnswersInTurn}
+use Rattle.net_law.specs.Parts.Playing.{device_part, driver_part, copier_part, dropped_of, client_part, stock_pool, AreLeases, HasBuffers, AnswersInTurn}
 use Rattle.net_law.proofs.PartsLemmas.Pairs.{carry}
 
 pub all_at : {X : Type 0} (P : X → Type 0) (xs : List X) → All P xs → (k : ℕ) (x : X) → slice_get xs k ≡ Some x → P x
@@ -91,22 +95,73 @@ none_strays taken leases (x ∷ stray) is out all =
     let e : false ≡ true = sym lease.in_turn ∙ out 0 x (omega arith) in
     cc
 
-pub copier_row : (scene : Scene) (c : NetCopier) (passed : Passed) (m : Moved) → AreItemsOf (net_sheet scene (copier_part c)).ends passed m → AreLeases (passed.taken c.lease_input.queue.0) → HoldingCopierRow c passed → (net_sheet scene (copier_part c)).row m
-copier_row scene c passed m items leases row =
-    let taken = passed.taken c.lease_input.queue.0 in
-    let buffers = passed.taken c.buffer_input.queue.0 in
-    let gave = passed.sent c.buffer_output.queue.0 in
-    let back = passed.sent c.lease_output.queue.0 in
-    let same : row.leases ≡ taken = sym (none_strays taken row.leases row.stray row.taken row.out_of_turn leases) in
-    let filled : IsPrefix gave (all_filled (map leased_bytes taken) buffers) = subst (λ l. IsPrefix gave (all_filled (map leased_bytes l) buffers)) same row.copies in
-    let sized : items_of (all_filled (map leased_bytes taken) buffers) ≡ sized_items (map len_of (items_of taken)) (items_of buffers) = sized_is (map leased_bytes taken) buffers ∙ ap (λ ns. sized_items ns (items_of buffers)) (lens_are taken leases) in
-    let said : CopiesLeases (items_of taken) (items_of buffers) (items_of gave) (items_of back) = record {
-      copies = subst (IsPrefix (items_of gave)) sized (items_begin gave (all_filled (map leased_bytes taken) buffers) filled);
-      takes_for = omega (arith, row.takes_for, items_long buffers, items_long taken, ap length same);
-      gives_back = items_begin back taken (subst (IsPrefix back) same row.gives_back);
-      after_copy = omega (arith, row.after_copy, items_long back, items_long gave);
-    } in
-    carry (λ x y z w. CopiesLeases x y z w) (items_of taken) (items_of buffers) (items_of gave) (items_of back) (m.taken c.lease_input.queue.0) (m.taken c.buffer_input.queue.0) (m.sent c.buffer_output.queue.0) (m.sent c.lease_output.queue.0) (sym (items 0 _ refl)) (sym (items 1 _ refl)) (sym (items 2 _ refl)) (sym (items 3 _ refl)) said
+-- the lengths of what wasn't dropped
+lens_left : (bs : List Bool) (cs : List Cargo) → AreLeases cs → map (λ (f : List ℕ). length f) (map leased_bytes (without bs cs)) ≡ map len_of (without bs (items_of cs))
+lens_left bs cs leases =
+    ap (map (λ (f : List ℕ). length f)) (without-map leased_bytes bs cs)
+    ∙ (without-map (λ (f : List ℕ). length f) bs (map leased_bytes cs)
+    ∙ (ap (without bs) (lens_are cs leases) ∙ sym (without-map len_of bs (items_of cs))))
+
+module _ (c : NetCopier) (passed : Passed) (m : Moved) (items : AreItemsOf (copier_ends c) passed m) (noes : noes_at Consumer c.buffer_input.queue.0 passed.calls ≡ m.noes Consumer c.buffer_input.queue.0) (leases : AreLeases (passed.taken c.lease_input.queue.0)) (row : CopierRow c passed) where
+  abbrev taken : List Cargo
+  taken = passed.taken c.lease_input.queue.0
+
+  abbrev buffers : List Cargo
+  buffers = passed.taken c.buffer_input.queue.0
+
+  abbrev gave : List Cargo
+  gave = passed.sent c.buffer_output.queue.0
+
+  abbrev back : List Cargo
+  back = passed.sent c.lease_output.queue.0
+
+  abbrev all_dropped : List Bool
+  all_dropped = leases_dropped c passed.calls
+
+  abbrev gone : ℕ
+  gone = gone_at c.drops m Consumer c.buffer_input.queue.0
+
+  same : row.leases ≡ taken
+  same = sym (none_strays taken row.leases row.stray row.taken row.out_of_turn leases)
+
+  left_by : (b : Bool) → c.drops ≡ b → (xs : List Cargo) → without all_dropped xs ≡ without (cond b all_dropped []) xs
+  left_by true e xs = refl
+  left_by false e xs = without_none all_dropped xs (none_dropped_held c e passed.calls)
+
+  many_by : (b : Bool) → c.drops ≡ b → marked (cond b all_dropped []) ≡ cond b (m.noes Consumer c.buffer_input.queue.0) 0
+  many_by true e = sym (row.each e) ∙ noes
+  many_by false e = refl
+
+  -- as many as it dropped are marked, also where it waits
+  all_many : (b : Bool) → c.drops ≡ b → marked all_dropped ≡ marked (cond b all_dropped [])
+  all_many true e = refl
+  all_many false e = none_dropped_held c e passed.calls
+
+  settled_by : (b : Bool) → c.drops ≡ b → length (cond b all_dropped []) ≤ length (items_of taken)
+  settled_by true e = let s = row.settled e in let n = ap length same in let i = items_long taken in omega (arith, s, n, i)
+  settled_by false e = omega arith
+
+  many : marked all_dropped ≡ gone
+  many = all_many c.drops refl ∙ many_by c.drops refl
+
+  copied : IsPrefix (items_of gave) (sized_items (map len_of (without (dropped_of c passed.calls) (items_of taken))) (items_of buffers))
+  copied =
+      let filled : IsPrefix gave (all_filled (map leased_bytes (without (dropped_of c passed.calls) taken)) buffers) = subst (λ l. IsPrefix gave (all_filled (map leased_bytes l) buffers)) (ap (without all_dropped) same ∙ left_by c.drops refl taken) row.copies in
+      let sized = sized_is (map leased_bytes (without (dropped_of c passed.calls) taken)) buffers ∙ ap (λ ns. sized_items ns (items_of buffers)) (lens_left (dropped_of c passed.calls) taken leases) in
+      subst (IsPrefix (items_of gave)) sized (items_begin gave (all_filled (map leased_bytes (without (dropped_of c passed.calls) taken)) buffers) filled)
+
+  said : CopiesLeases (dropped_of c passed.calls) gone (items_of taken) (items_of buffers) (items_of gave) (items_of back)
+  said = record {
+    settled = settled_by c.drops refl;
+    as_many = many_by c.drops refl;
+    copies = copied;
+    takes_for = let t = row.takes_for in let n = ap length same in let i = items_long buffers in let k = items_long taken in omega (arith, t, n, i, k, many);
+    gives_back = items_begin back taken (subst (IsPrefix back) same row.gives_back);
+    after_copy = let t = row.after_copy in let i = items_long back in let k = items_long gave in omega (arith, t, i, k, many);
+  }
+
+  pub copier_row : CopiesLeases (dropped_of c passed.calls) gone (m.taken c.lease_input.queue.0) (m.taken c.buffer_input.queue.0) (m.sent c.buffer_output.queue.0) (m.sent c.lease_output.queue.0)
+  copier_row = carry (λ x y z w. CopiesLeases (dropped_of c passed.calls) gone x y z w) (items_of taken) (items_of buffers) (items_of gave) (items_of back) (m.taken c.lease_input.queue.0) (m.taken c.buffer_input.queue.0) (m.sent c.buffer_output.queue.0) (m.sent c.lease_output.queue.0) (sym (items 0 _ refl)) (sym (items 1 _ refl)) (sym (items 2 _ refl)) (sym (items 3 _ refl)) said
 
 -- the entries by which a pool's buffers are given have these items
 given_are : (w : Window) (pages : List Paged) (first : ℕ) → ((i : ℕ) (p : Paged) → slice_get pages i ≡ Some p → p.no ≡ first + i) → items_of (map (given_entry w.base w.size) pages) ≡ map (given_item w) (numbers_from first (length pages))

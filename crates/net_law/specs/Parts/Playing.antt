@@ -1,9 +1,11 @@
 -- Which part each actor of the network's receive half plays, and what the laws ask of what passed
 -- at its ends.
-use Rattle.std.specs.Prelude.{◌≡◌, ℕ, true, false, Some, List, [], ◌∷◌, length, map, slice_get}
+use Rattle.std.specs.Prelude.{◌≡◌, ℕ, Bool, true, false, cond, Some, List, [], ◌∷◌, length, map}
+use Rattle.std.specs.Prelude.{slice_get}
 use Rattle.cargo_core.specs.Lists.{IsPrefix}
 use Rattle.frame_core.specs.declared.mac.Mac.{Mac}
 use Rattle.wire_core.specs.declared.names.QueueId.{QueueId}
+use Rattle.wire_core.specs.declared.names.Event.{Event}
 use Rattle.wire_core.specs.Deeds.{Cargo}
 use Rattle.wire_core.specs.Lists.{Passed}
 use Rattle.turn_kit.specs.declared.pipe.Pipe.{Pipe}
@@ -15,7 +17,7 @@ use Rattle.device_model.specs.declared.ethernet.EthDevice.{EthDevice}
 use Rattle.client_programs.specs.Net.Programs.{program_of, is_echo}
 use Rattle.client_programs.specs.Net.Clients as client
 use Rattle.client_programs.specs.declared.net.NetClient.{NetClient}
-use Rattle.net_copier.specs.Copying.{is_stray, leased_bytes}
+use Rattle.net_copier.specs.Copying.{is_stray, leased_bytes, leases_dropped}
 use Rattle.net_copier.specs.declared.NetCopier.{NetCopier}
 use Rattle.net_virt_rx.specs.Receiving.{RxRow}
 use Rattle.net_virt_rx.specs.declared.NetVirtRx.{NetVirtRx}
@@ -44,6 +46,10 @@ driver_part ps = NetDriver (map way_of ps)
 abbrev pub copier_part : NetCopier → NetPart
 copier_part c = CopierPart c.lease_input.queue.0 c.lease_output.queue.0 c.buffer_output.queue.0
     c.buffer_input.queue.0 c.drops
+
+-- of the leases that a copier took, whether each was dropped, as its calls tell
+abbrev pub dropped_of : NetCopier → List Event → List Bool
+dropped_of c calls = cond c.drops (leases_dropped c calls) []
 
 -- the pool of which a stock has the buffers
 abbrev pub stock_pool : Stock → PoolAt

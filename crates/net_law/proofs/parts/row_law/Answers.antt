@@ -12,7 +12,7 @@ pub returns-clause-receiver : goal.returns-clause-receiver
 returns-clause-receiver c = λ scene v passed m turn items row. receiver_row scene v passed m items turn.takes row (turn.in_turn row)
 
 pub returns-clause-copier : goal.returns-clause-copier
-returns-clause-copier c = copier_row
+returns-clause-copier c = λ k passed m items noes leases row. copier_row k passed m items noes leases row
 
 pub returns-clause-client : goal.returns-clause-client
 returns-clause-client c = client_row
