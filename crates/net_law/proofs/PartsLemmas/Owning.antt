@@ -99,9 +99,9 @@ module _ (naming : Naming) (m : Moved) where
       (λ b. omega (arith, ways_went_none ways names (as_lease b) refl (λ c. refl) (λ c r. refl)))
 
 -- a copier
-module _ (naming : Naming) (scene : Scene) (lease_active lease_free rx_active rx_free : ℕ) (m : Moved) (names : NamesPart naming scene (NetCopier lease_active lease_free rx_active rx_free)) (row : (net_sheet scene (NetCopier lease_active lease_free rx_active rx_free)).row m) where
+module _ (naming : Naming) (scene : Scene) (lease_active lease_free rx_active rx_free : ℕ) (drops : Bool) (m : Moved) (names : NamesPart naming scene (NetCopier lease_active lease_free rx_active rx_free drops)) (row : (net_sheet scene (NetCopier lease_active lease_free rx_active rx_free drops)).row m) where
   abbrev copier_seats : List Seat
-  copier_seats = (net_sheet scene (NetCopier lease_active lease_free rx_active rx_free)).ends
+  copier_seats = (net_sheet scene (NetCopier lease_active lease_free rx_active rx_free drops)).ends
 
   copier_came : (f : Thing → ℕ) → sum_by f (all_taken naming m copier_seats) ≡ carried naming m lease_active (m.taken lease_active) f + carried naming m rx_free (m.taken rx_free) f
   copier_came f =
@@ -119,8 +119,8 @@ module _ (naming : Naming) (scene : Scene) (lease_active lease_free rx_active rx
       let buffers = names.1.0 in
       keeps_plain (λ pool. []) (all_taken naming m copier_seats) (all_put naming m copier_seats)
       (λ b. omega (arith, copier_came (lends b), leases_none naming m lease_active (m.taken lease_active) leased (lends b) names.0.1 refl (λ d. refl), buffers_none naming m rx_free (m.taken rx_free) buffers (lends b) names.1.1.0 refl (λ d. refl)))
-      (λ b. omega (arith, copier_came (as_buffer b), copier_went (as_buffer b), buffers_are naming m rx_free (m.taken rx_free) buffers (as_buffer b) b names.1.1.0 refl (λ d. refl), buffers_are naming m rx_active (m.sent rx_active) buffers (as_buffer b) b names.1.1.1 refl (λ d. refl), returns_none naming m lease_free (m.sent lease_free) leased (as_buffer b) names.0.2 refl (λ d. refl), sized_few b buffers (map Rattle.buffer_kit.specs.Entries.len_of (m.taken lease_active)) (m.sent rx_active) (m.taken rx_free) row.copies))
-      (λ b. omega (arith, copier_came (brings_leases b), copier_went (as_lease b), leases_are naming m lease_active (m.taken lease_active) leased (brings_leases b) b names.0.1 refl (λ d. refl), returns_are naming m lease_free (m.sent lease_free) leased (as_lease b) b names.0.2 refl (λ d. refl), buffers_none naming m rx_active (m.sent rx_active) buffers (as_lease b) names.1.1.1 refl (λ d. refl), few_of b leased (m.sent lease_free) (m.taken lease_active) row.gives_back))
+      (λ b. omega (arith, copier_came (as_buffer b), copier_went (as_buffer b), buffers_are naming m rx_free (m.taken rx_free) buffers (as_buffer b) b names.1.1.0 refl (λ d. refl), buffers_are naming m rx_active (m.sent rx_active) buffers (as_buffer b) b names.1.1.1 refl (λ d. refl), returns_none naming m lease_free (m.sent lease_free) leased (as_buffer b) names.0.2 refl (λ d. refl), sized_few b buffers (map Rattle.buffer_kit.specs.Entries.len_of (Rattle.wire_core.specs.Fates.without row.dropped (m.taken lease_active))) (m.sent rx_active) (m.taken rx_free) row.out.copies))
+      (λ b. omega (arith, copier_came (brings_leases b), copier_went (as_lease b), leases_are naming m lease_active (m.taken lease_active) leased (brings_leases b) b names.0.1 refl (λ d. refl), returns_are naming m lease_free (m.sent lease_free) leased (as_lease b) b names.0.2 refl (λ d. refl), buffers_none naming m rx_active (m.sent rx_active) buffers (as_lease b) names.1.1.1 refl (λ d. refl), few_of b leased (m.sent lease_free) (m.taken lease_active) row.out.gives_back))
 
 -- a window's buffers, from one on, are named by their numbers
 given_few : (w : Window) (b : Buffer) (k count : ℕ) → 0 < w.size → k + count ≤ w.buffers → times b (names_in (w ∷ []) (map (given_item w) (numbers_from k count))) ≤ count_by (λ x. x == b.no) (if w.pool == b.pool then numbers_from k count else [])
@@ -225,5 +225,5 @@ pub net_puts : (naming : Naming) (scene : Scene) (p : NetPart) → NamesPart nam
 net_puts naming scene (NetDevice rx_free rx_active tx_active tx_free frames) names m apart row = device_keeps naming scene rx_free rx_active tx_active tx_free frames m names row
 net_puts naming scene (NetDriver ways) names m apart row = driver_keeps naming m ways names row
 net_puts naming scene (NetReceiver active free pool clients) names m apart row = receiver_keeps naming scene active free pool clients m names row
-net_puts naming scene (NetCopier lease_active lease_free rx_active rx_free) names m apart row = copier_keeps naming scene lease_active lease_free rx_active rx_free m names row
+net_puts naming scene (NetCopier lease_active lease_free rx_active rx_free drops) names m apart row = copier_keeps naming scene lease_active lease_free rx_active rx_free drops m names row
 net_puts naming scene (NetClient program mac rx_active rx_free tx_active tx_free rx tx) names m apart row = client_keeps naming scene program mac rx_active rx_free tx_active tx_free rx tx m names row
