@@ -16,6 +16,7 @@ use net_virt_rx::NetVirtRx;
 use net_virt_tx::NetVirtTx;
 use plain_wires::World;
 use serial_virt::{SerialVirtRx, SerialVirtTx};
+use turn_kit::event_place;
 use uart_driver::UartDriver;
 
 /// How many calls an actor of these tests makes at most until it is at rest.
@@ -36,7 +37,8 @@ impl Alone for SerialVirtRx {
     ghost stands = { RxStands };
 
     fn call(&mut self, world: &mut World) {
-        self.step(world);
+        let mut event = event_place();
+        self.step(world, &mut event);
     }
 }
 
@@ -52,7 +54,8 @@ impl Alone for UartDriver {
     ghost stands = { DriverStands };
 
     fn call(&mut self, world: &mut World) {
-        self.step(world);
+        let mut event = event_place();
+        self.step(world, &mut event);
     }
 }
 
@@ -68,7 +71,8 @@ impl Alone for EthDriver {
     ghost stands = { FourStand };
 
     fn call(&mut self, world: &mut World) {
-        self.step(world);
+        let mut event = event_place();
+        self.step(world, &mut event);
     }
 }
 

@@ -1,6 +1,6 @@
 //! One actor of any kind, so that a system can keep a list of them.
 
-ghost use Rattle.std.specs.Prelude.{◌≡◌, ℕ, IfOk, OnErr};
+ghost use Rattle.std.specs.Prelude.{◌≡◌, ℕ, OnOk, OnErr};
 ghost use Rattle.wire_core.specs.Ends.{Role, End};
 ghost use Rattle.wire_core.specs.Lists.{Passed, Stepped};
 ghost use Rattle.cargo_core.specs.Bodies.{buffers_of};
@@ -142,39 +142,40 @@ impl Actor {
         }
     }
 
-    /// Makes one call on one of its ends; a hostile client may store a word of one of its queues in
-    /// its place. After want of memory no call was made and nothing changed.
-    pub fn step<W: WildWires>(&mut self, wires: &mut W) -> Result<Event, Memory>
+    /// Makes one call on one of its ends, which `event` tells then; a hostile client may store a
+    /// word of one of its queues in its place. After want of memory no call was made and nothing
+    /// changed.
+    pub fn step<W: WildWires>(&mut self, wires: &mut W, event: &mut Event) -> Result<(), Memory>
         requires fits { FitsActor (W.ends wires.old) self.old }
         requires may { MayStep (W.wild wires.old) self.old }
         ensures fits { FitsActor (W.ends wires.new) self.new }
-        ensures own { IfOk result (λ e. IsActorCall self.old e) }
+        ensures own { OnOk result (IsActorCall self.old event.new) }
         ensures part { part_of self.new ≡ part_of self.old }
-        ensures stepped { IfOk result
-            (λ e. Stepped ActorStandsFor W.did wires.old wires.new self.old self.new e) }
-        ensures turned { IfOk result (λ e. ActorTurned self.old e self.new) }
+        ensures stepped { OnOk result (Stepped ActorStandsFor W.did wires.old wires.new self.old
+            self.new event.new) }
+        ensures turned { OnOk result (ActorTurned self.old event.new self.new) }
         ensures no_call { OnErr result (wires.new ≡ wires.old) }
         ensures unchanged { OnErr result (self.new ≡ self.old) }
     {
-        let event = match self {
-            Actor::UartDevice(device) => return device.step(wires),
-            Actor::UartDriver(driver) => driver.step(wires),
-            Actor::SerialVirtRx(virt) => virt.step(wires),
-            Actor::SerialVirtTx(virt) => virt.step(wires),
-            Actor::SerialClient(client) => return client.step(wires),
-            Actor::EthDevice(device) => return device.step(wires),
-            Actor::EthDriver(driver) => driver.step(wires),
-            Actor::NetVirtRx(virt) => return virt.step(wires),
-            Actor::NetCopier(copier) => copier.step(wires),
-            Actor::NetClient(client) => return client.step(wires),
-            Actor::NetVirtTx(virt) => virt.step(wires),
-            Actor::DiskDevice(disk) => disk.device.step(wires),
-            Actor::BlkDriver(driver) => driver.step(wires),
-            Actor::BlkVirt(virt) => virt.step(wires),
-            Actor::BlkClient(client) => return client.step(wires),
-            Actor::Rogue(client) => client.step(wires),
-        };
-        Ok(event)
+        match self {
+            Actor::UartDevice(device) => device.step(wires, event)?,
+            Actor::UartDriver(driver) => driver.step(wires, event),
+            Actor::SerialVirtRx(virt) => virt.step(wires, event),
+            Actor::SerialVirtTx(virt) => *event = virt.step(wires),
+            Actor::SerialClient(client) => client.step(wires, event)?,
+            Actor::EthDevice(device) => *event = device.step(wires)?,
+            Actor::EthDriver(driver) => driver.step(wires, event),
+            Actor::NetVirtRx(virt) => *event = virt.step(wires)?,
+            Actor::NetCopier(copier) => *event = copier.step(wires),
+            Actor::NetClient(client) => *event = client.step(wires)?,
+            Actor::NetVirtTx(virt) => *event = virt.step(wires),
+            Actor::DiskDevice(disk) => *event = disk.device.step(wires),
+            Actor::BlkDriver(driver) => driver.step(wires, event),
+            Actor::BlkVirt(virt) => *event = virt.step(wires),
+            Actor::BlkClient(client) => *event = client.step(wires)?,
+            Actor::Rogue(client) => *event = client.step(wires),
+        }
+        Ok(())
     }
 
     /// Discards the last look of each end, and nothing else; a hostile client's journal begins

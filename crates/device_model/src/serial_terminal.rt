@@ -1,7 +1,7 @@
 //! An actor that puts given bytes in order and records the bytes that come: what a serial device
 //! and a serial client have in common.
 
-ghost use Rattle.std.specs.Prelude.{◌≡◌, ◌<◌, ◌≤◌, ◌+◌, ◌^◌, ℕ, [], ◌++◌, OnErr, IfOk, OnOk};
+ghost use Rattle.std.specs.Prelude.{◌≡◌, ◌<◌, ◌≤◌, ◌+◌, ◌^◌, ℕ, [], ◌++◌, OnErr, OnOk};
 ghost use Rattle.std.specs.Prelude.{slice_get, length, nat_lt, is_some, true, false};
 ghost use Rattle.std.specs.Option.{option_map, option_to_list};
 ghost use Rattle.wire_core.specs.Ends.{role_of, Role, End};
@@ -21,7 +21,7 @@ ghost use Rattle.device_model.specs.SerialTerminal.Terminals.{terminal_forgotten
 
 use cargo_core::{Body, Bytes, Item, Memory, PoolId, Tape};
 use std::alloc::Global;
-use turn_kit::{Intake, Outlet, Turn, count_held};
+use turn_kit::{Intake, Outlet, Turn, count_held, pull, push};
 use wire_core::{Event, QueueId, Wires};
 
 /// A serial actor with a script, of which it put the first `next` bytes, and a record of what came.
@@ -128,70 +128,71 @@ impl Terminal {
     }
 
     // The next call of the input. What it takes is recorded.
-    fn step_input<W: Wires>(&mut self, wires: &mut W) -> Event
+    fn step_input<W: Wires>(&mut self, wires: &mut W, event: &mut Event)
         requires fits { FitsTerminal (W.ends wires.old) self.old }
         requires room { 0 < self.old.recorded.spare }
         ensures fits { FitsTerminal (W.ends wires.new) self.new }
-        ensures own { TerminalEnd self.old (role_of result.op) result.queue.0 }
+        ensures own { TerminalEnd self.old (role_of event.new.op) event.new.queue.0 }
         ensures same { SameTerminal self.old self.new }
         ensures stepped { Stepped TerminalStandsFor W.did wires.old wires.new self.old self.new
-            result }
-        ensures posted { Posted (intake_post self.old.input) true result
+            event.new }
+        ensures posted { Posted (intake_post self.old.input) true event.new
             (intake_post self.new.input) }
         ensures output { self.new.output ≡ self.old.output }
         ensures next { self.new.next ≡ self.old.next }
         ensures turn { self.new.turn ≡ self.old.turn }
     {
-        let (event, taken) = self.input.step(wires, true);
+        let mut taken = None;
+        pull(&mut self.input, wires, true, &mut taken, event);
         note(&mut self.recorded, taken);
-        event
     }
 
     // The next call of the output, which puts the next byte of the script.
-    fn step_output<W: Wires>(&mut self, wires: &mut W) -> Event
+    fn step_output<W: Wires>(&mut self, wires: &mut W, event: &mut Event)
         requires { FitsTerminal (W.ends wires.old) self.old }
         ensures fits { FitsTerminal (W.ends wires.new) self.new }
-        ensures own { TerminalEnd self.old (role_of result.op) result.queue.0 }
+        ensures own { TerminalEnd self.old (role_of event.new.op) event.new.queue.0 }
         ensures same { SameTerminal self.old self.new }
         ensures stepped { Stepped TerminalStandsFor W.did wires.old wires.new self.old self.new
-            result }
+            event.new }
         ensures posted { Posted (outlet_post self.old.output)
-            (nat_lt self.old.next (length self.old.script)) result (outlet_post self.new.output) }
+            (nat_lt self.old.next (length self.old.script)) event.new (outlet_post
+            self.new.output) }
         ensures input { self.new.input ≡ self.old.input }
-        ensures still { is_mark result.op result.answer ≡ false → self.new.next ≡ self.old.next }
+        ensures still { is_mark event.new.op event.new.answer ≡ false
+            → self.new.next ≡ self.old.next }
         ensures turn { self.new.turn ≡ self.old.turn }
     {
         let mut load = self.load();
-        let event = self.output.step(wires, &mut load);
+        push(&mut self.output, wires, &mut load, event);
         drop(load);
         if event.item.is_some() {
             self.next += 1;
         }
-        event
     }
 
-    /// Makes one call on one of its ends. The memory of the record is taken first; after want of
-    /// memory no call was made and nothing changed.
+    /// Makes one call on one of its ends, which `event` tells then. The memory of the record is
+    /// taken first; after want of memory no call was made and nothing changed.
     #[inline(never)]
-    pub fn step<W: Wires>(&mut self, wires: &mut W) -> Result<Event, Memory>
+    pub fn step<W: Wires>(&mut self, wires: &mut W, event: &mut Event) -> Result<(), Memory>
         requires { FitsTerminal (W.ends wires.old) self.old }
         ensures fits { FitsTerminal (W.ends wires.new) self.new }
-        ensures own { IfOk result (λ e. TerminalEnd self.old (role_of e.op) e.queue.0) }
+        ensures own { OnOk result (TerminalEnd self.old (role_of event.new.op) event.new.queue.0) }
         ensures same { SameTerminal self.old self.new }
-        ensures stepped { IfOk result (λ e. Stepped TerminalStandsFor W.did wires.old wires.new
-            self.old self.new e) }
-        ensures turned { IfOk result (λ e. Turned (terminal_round self.old) e
+        ensures stepped { OnOk result (Stepped TerminalStandsFor W.did wires.old wires.new
+            self.old self.new event.new) }
+        ensures turned { OnOk result (Turned (terminal_round self.old) event.new
             (terminal_round self.new)) }
         ensures no_call { OnErr result (wires.new ≡ wires.old) }
         ensures unchanged { OnErr result (self.new ≡ self.old) }
     {
         self.recorded.reserve()?;
-        let event = match self.choose() {
-            0 => self.step_input(wires),
-            1 => self.step_output(wires),
+        match self.choose() {
+            0 => self.step_input(wires, event),
+            1 => self.step_output(wires, event),
             _ => unreachable!(),
-        };
-        Ok(event)
+        }
+        Ok(())
     }
 
     /// Discards the last look of each end, and nothing else.

@@ -14,11 +14,10 @@ ghost use Rattle.i2c_virt.specs.BusDevices.{FitsBus, BusStandsFor, BusRow, SameB
 ghost use Rattle.i2c_virt.specs.BusDevices.{is_serving, bus_round, Accepted};
 ghost use Rattle.i2c_virt.specs.declared.bus_device.BusDevice.{BusDevice};
 
-use crate::calls::{pull, push};
 use crate::i2c_kit::{Device, answer_to, is_bus_request, new_devices};
 use cargo_core::{Body, Bytes, Item, Memory, QueueKind};
 use std::alloc::Global;
-use turn_kit::{Intake, Lowest, Outlet, Turn};
+use turn_kit::{Intake, Lowest, Outlet, Turn, pull, push};
 use wire_core::{Event, QueueId, Wires};
 
 /// The bus. `devices` are as the requests that it took left them; `load` is the answer to the last

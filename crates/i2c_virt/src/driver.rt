@@ -16,9 +16,8 @@ ghost use Rattle.pipe_driver.specs.Lengths.{two_pipes};
 ghost use Rattle.i2c_virt.specs.Drivers.{pipes_of, driver_round, DriverStandsFor, DriverRow};
 ghost use Rattle.i2c_virt.specs.declared.driver.BusDriver.{BusDriver};
 
-use crate::calls::{pull, push};
 use pipe_driver::{PipeDriver, PipeList, Pipes};
-use turn_kit::{Lowest, Pipe};
+use turn_kit::{Lowest, Pipe, pull, push};
 use wire_core::{Event, QueueId, Wires};
 
 /// The driver of the bus: its first pipe moves requests to the bus, its second the answers.

@@ -4,7 +4,6 @@
 #![tactic(auto)]
 
 mod bus_device;
-mod calls;
 mod desk;
 mod driver;
 pub mod i2c_client;

@@ -25,12 +25,11 @@ ghost use Rattle.i2c_virt.specs.Virtualising.{FitsI2cVirt, I2cVirtStandsFor, Vir
 ghost use Rattle.i2c_virt.specs.Virtualising.{i2c_virt_round, IsNewI2cVirt, FitsEnds, KnowsLowest};
 ghost use Rattle.i2c_virt.specs.Virtualising.{lowest_of, AreLoose, IsLeft, IsSettledEnd};
 
-use crate::calls::{pull, pull_at, push, push_at};
 use crate::{Desk, Giving, Loose, Owners, Wanting, Work};
 use buffer_kit::{NetCargo, VirtEnd, VirtEnds};
 use cargo_core::{Body, Item, Memory};
 use std::alloc::Global;
-use turn_kit::Lowest;
+use turn_kit::{Lowest, pull, pull_at, push, push_at};
 use wire_core::{Event, Op, QueueId, Wires};
 
 /// The virtualiser of the bus. It answers claims and the transfers at addresses that their client

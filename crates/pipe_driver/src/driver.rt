@@ -51,6 +51,7 @@ impl<P: PipeList> PipeDriver<P> {
 
     // The end that is stepped now: those of the first pipe come first, each input before its
     // output. The rotation is asked only where all are settled.
+    #[inline(always)]
     fn choose(&mut self) -> usize
         requires { length (P.list self.old.pipes) < 2 ^ 16 }
         ensures place { result ≡ chosen_place (choice_of
@@ -69,22 +70,22 @@ impl<P: PipeList> PipeDriver<P> {
         self.turn.pass(choice)
     }
 
-    /// Makes one call on one of its ends.
+    /// Makes one call on one of its ends, which `event` tells then.
     #[inline(never)]
-    pub fn step<W: Wires>(&mut self, wires: &mut W) -> Event
+    pub fn step<W: Wires>(&mut self, wires: &mut W, event: &mut Event)
         requires fits { FitsPipes (W.ends wires.old) (P.list self.old.pipes) }
         requires few { length (P.list self.old.pipes) < 2 ^ 16 }
         ensures fits { FitsPipes (W.ends wires.new) (P.list self.new.pipes) }
-        ensures own { PipesEnd (P.list self.old.pipes) (role_of result.op) result.queue.0 }
+        ensures own { PipesEnd (P.list self.old.pipes) (role_of event.new.op) event.new.queue.0 }
         ensures inputs { inputs_of (P.list self.new.pipes) ≡ inputs_of (P.list self.old.pipes) }
         ensures outputs { outputs_of (P.list self.new.pipes) ≡ outputs_of (P.list self.old.pipes) }
         ensures stepped { Stepped PipesStandFor W.did wires.old wires.new (P.list self.old.pipes)
-            (P.list self.new.pipes) result }
-        ensures turned { Turned (pipes_round (P.list self.old.pipes) self.old.turn.last) result
+            (P.list self.new.pipes) event.new }
+        ensures turned { Turned (pipes_round (P.list self.old.pipes) self.old.turn.last) event.new
             (pipes_round (P.list self.new.pipes) self.new.turn.last) }
     {
         let place = self.choose();
-        self.pipes.step(wires, place)
+        self.pipes.step(wires, place, event);
     }
 
     /// Discards the last look of each end, and nothing else.

@@ -50,19 +50,19 @@ pub trait PipeList {
         ensures { found result ≡ unsettled_from (found lowest) base (pipe_posts (list self.now))
             (pipe_needs (list self.now)) };
 
-    /// Makes the next call of the end at a place.
-    fn step<W: Wires>(&mut self, wires: &mut W, place: usize) -> Event
+    /// Makes the next call of the end at a place, which `event` tells then.
+    fn step<W: Wires>(&mut self, wires: &mut W, place: usize, event: &mut Event)
         requires fits { FitsPipes (W.ends wires.old) (list self.old) }
         requires there { place < 2 * length (list self.old) }
         ensures fits { FitsPipes (W.ends wires.new) (list self.new) }
-        ensures moves { Moves (W.ends wires.old) result (W.ends wires.new) }
-        ensures own { PipesEnd (list self.old) (role_of result.op) result.queue.0 }
+        ensures moves { Moves (W.ends wires.old) event.new (W.ends wires.new) }
+        ensures own { PipesEnd (list self.old) (role_of event.new.op) event.new.queue.0 }
         ensures inputs { inputs_of (list self.new) ≡ inputs_of (list self.old) }
         ensures outputs { outputs_of (list self.new) ≡ outputs_of (list self.old) }
         ensures stepped { Stepped PipesStandFor W.did wires.old wires.new (list self.old)
-            (list self.new) result }
-        ensures posted { PipesPosted (list self.old) place result (list self.new) }
-        ensures still { is_mark result.op result.answer ≡ false
+            (list self.new) event.new }
+        ensures posted { PipesPosted (list self.old) place event.new (list self.new) }
+        ensures still { is_mark event.new.op event.new.answer ≡ false
             → pipe_needs (list self.new) ≡ pipe_needs (list self.old) };
 
     /// Discards the last look of each end, and nothing else.
@@ -110,11 +110,12 @@ impl PipeList for Pipe {
     }
 
     #[inline(always)]
-    fn step<W: Wires>(&mut self, wires: &mut W, place: usize) -> Event {
+    fn step<W: Wires>(&mut self, wires: &mut W, place: usize, event: &mut Event) {
         if place == 0 {
-            return self.step_input(wires);
+            self.step_input(wires, event);
+            return;
         }
-        self.step_output(wires)
+        self.step_output(wires, event);
     }
 
     fn forget(&mut self) {
@@ -158,14 +159,16 @@ impl<R: PipeList> PipeList for Pipes<R> {
     }
 
     #[inline(always)]
-    fn step<W: Wires>(&mut self, wires: &mut W, place: usize) -> Event {
+    fn step<W: Wires>(&mut self, wires: &mut W, place: usize, event: &mut Event) {
         if place == 0 {
-            return self.first.step_input(wires);
+            self.first.step_input(wires, event);
+            return;
         }
         if place == 1 {
-            return self.first.step_output(wires);
+            self.first.step_output(wires, event);
+            return;
         }
-        self.rest.step(wires, place - 2)
+        self.rest.step(wires, place - 2, event);
     }
 
     fn forget(&mut self) {

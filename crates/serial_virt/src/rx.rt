@@ -28,7 +28,7 @@ ghost use Rattle.serial_virt.specs.Shares.{AllHold, byte_fate};
 use cargo_core::{Body, Item, Memory, PoolId};
 use serial_switch::Switch;
 use std::alloc::Global;
-use turn_kit::{Intake, Lowest, Outlet, Outlets, Turn, count_held, put_or_drop_at};
+use turn_kit::{Intake, Lowest, Outlet, Outlets, Turn, count_held, pull, put_or_drop_at};
 use wire_core::{Event, QueueId, Wires};
 
 /// Shares out what the driver received, by the selections that stand in it. `load` is the byte that
@@ -78,6 +78,7 @@ fn forget_outputs(outputs: &mut Outlets)
 }
 
 // Reads what was taken, and answers the client that gets a byte for it.
+#[inline(always)]
 fn read(switch: &mut Switch, taken: Option<(Item, Body)>) -> Option<(u32, u8)>
     ensures after { (clients : ℕ) (input : List ℕ) → StandsAfter clients input switch.old
         → StandsAfter clients (input ++ bytes_carried (option_to_list taken)) switch.new }
@@ -146,6 +147,7 @@ impl SerialVirtRx {
 
     // The end that is stepped now: the input is the first, the clients follow in their order. The
     // rotation is asked only where all are settled.
+    #[inline(always)]
     fn choose(&mut self) -> usize
         ensures place { result ≡ chosen_place (choice_of (rx_round self.old)) }
         ensures within { result < 1 + length (outlet_queues self.old.outputs) }
@@ -180,79 +182,82 @@ impl SerialVirtRx {
     }
 
     // The next call of the input. What it takes is switched.
-    fn step_input<W: Wires>(&mut self, wires: &mut W) -> Event
+    fn step_input<W: Wires>(&mut self, wires: &mut W, event: &mut Event)
         requires { FitsRx (W.ends wires.old) self.old }
         ensures fits { FitsRx (W.ends wires.new) self.new }
-        ensures own { RxEnd self.old (role_of result.op) result.queue.0 }
+        ensures own { RxEnd self.old (role_of event.new.op) event.new.queue.0 }
         ensures queues { rx_queues self.new ≡ rx_queues self.old }
         ensures policies { self.new.drops.items ≡ self.old.drops.items }
-        ensures stepped { Stepped RxStandsFor W.did wires.old wires.new self.old self.new result }
-        ensures posted { Posted (intake_post self.old.input) (is_none self.old.load) result
+        ensures stepped { Stepped RxStandsFor W.did wires.old wires.new self.old self.new
+            event.new }
+        ensures posted { Posted (intake_post self.old.input) (is_none self.old.load) event.new
             (intake_post self.new.input) }
-        ensures still { is_mark result.op result.answer ≡ false → self.new.load ≡ self.old.load }
-        ensures to { is_mark result.op result.answer ≡ false → self.new.to ≡ self.old.to }
+        ensures still { is_mark event.new.op event.new.answer ≡ false
+            → self.new.load ≡ self.old.load }
+        ensures to { is_mark event.new.op event.new.answer ≡ false → self.new.to ≡ self.old.to }
         ensures outputs { self.new.outputs ≡ self.old.outputs }
         ensures turn { self.new.turn ≡ self.old.turn }
     {
-        let (event, taken) = self.input.step(wires, self.load.is_none());
+        let mut taken = None;
+        pull(&mut self.input, wires, self.load.is_none(), &mut taken, event);
         let given = read(&mut self.switch, taken);
         self.owe(given);
-        event
     }
 
     // The next call of a client's end, which puts the byte that is owed to it, or drops it.
-    fn step_output<W: Wires>(&mut self, wires: &mut W, k: usize) -> Event
+    fn step_output<W: Wires>(&mut self, wires: &mut W, k: usize, event: &mut Event)
         requires fits { FitsRx (W.ends wires.old) self.old }
         requires there { k < length (outlet_queues self.old.outputs) }
         ensures fits { FitsRx (W.ends wires.new) self.new }
-        ensures own { RxEnd self.old (role_of result.op) result.queue.0 }
+        ensures own { RxEnd self.old (role_of event.new.op) event.new.queue.0 }
         ensures queues { rx_queues self.new ≡ rx_queues self.old }
         ensures policies { self.new.drops.items ≡ self.old.drops.items }
-        ensures stepped { Stepped RxStandsFor W.did wires.old wires.new self.old self.new result }
-        ensures posted { PostedAt (client_posts self.old) k (is_owed_at self.old k) result
+        ensures stepped { Stepped RxStandsFor W.did wires.old wires.new self.old self.new
+            event.new }
+        ensures posted { PostedAt (client_posts self.old) k (is_owed_at self.old k) event.new
             (client_posts self.new) }
         ensures still { (p : Post) → slice_get (client_posts self.old) k ≡ Some p
-            → is_mark_at p result ≡ false → self.new.load ≡ self.old.load }
+            → is_mark_at p event.new ≡ false → self.new.load ≡ self.old.load }
         ensures to { self.new.to ≡ self.old.to }
         ensures input { self.new.input ≡ self.old.input }
         ensures turn { self.new.turn ≡ self.old.turn }
     {
         let drops = self.drops[k];
         if k == self.to {
-            let (event, dropped) = put_or_drop_at(
+            let dropped = put_or_drop_at(
                 &mut self.outputs,
                 wires,
                 k,
                 &mut self.load,
                 drops,
+                event,
             );
             if dropped {
                 self.load = None;
             }
-            event
         } else {
             let mut nothing = None;
-            let (event, _) = put_or_drop_at(&mut self.outputs, wires, k, &mut nothing, drops);
-            event
+            put_or_drop_at(&mut self.outputs, wires, k, &mut nothing, drops, event);
         }
     }
 
-    /// Makes one call on one of its ends.
+    /// Makes one call on one of its ends, which `event` tells then.
     #[inline(never)]
-    pub fn step<W: Wires>(&mut self, wires: &mut W) -> Event
+    pub fn step<W: Wires>(&mut self, wires: &mut W, event: &mut Event)
         requires { FitsRx (W.ends wires.old) self.old }
         ensures fits { FitsRx (W.ends wires.new) self.new }
-        ensures own { RxEnd self.old (role_of result.op) result.queue.0 }
+        ensures own { RxEnd self.old (role_of event.new.op) event.new.queue.0 }
         ensures queues { rx_queues self.new ≡ rx_queues self.old }
         ensures policies { self.new.drops.items ≡ self.old.drops.items }
-        ensures stepped { Stepped RxStandsFor W.did wires.old wires.new self.old self.new result }
-        ensures turned { Turned (rx_round self.old) result (rx_round self.new) }
+        ensures stepped { Stepped RxStandsFor W.did wires.old wires.new self.old self.new
+            event.new }
+        ensures turned { Turned (rx_round self.old) event.new (rx_round self.new) }
     {
         let place = self.choose();
         if place == 0 {
-            self.step_input(wires)
+            self.step_input(wires, event)
         } else {
-            self.step_output(wires, place - 1)
+            self.step_output(wires, place - 1, event)
         }
     }
 

@@ -8,6 +8,7 @@ use cargo_core::Memory;
 use plain_wires::World;
 use small_system::SmallActor;
 use std::alloc::Global;
+use turn_kit::event_place;
 use wire_core::Event;
 
 /// An actor in its wrapping.
@@ -21,7 +22,9 @@ impl SmallActor for Wrapped {
 
     #[inline(always)]
     fn step(&mut self, world: &mut World) -> Result<Event, Memory> {
-        self.actor.step(world)
+        let mut event = event_place();
+        self.actor.step(world, &mut event)?;
+        Ok(event)
     }
 
     #[inline(always)]

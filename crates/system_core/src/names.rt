@@ -92,7 +92,9 @@ pub fn keep_name(names: &mut Vec<Noted>, last: &mut Option<Option<Tag>>, queue: 
     ensures names { names.new.items ≡ names.old.items ++ notes_in queue.0 last.old }
     ensures none { last.new ≡ None }
 {
-    if let Some(name) = last.take() {
-        names.push_reserved(Noted::new(queue, name));
+    if last.is_some() {
+        if let Some(name) = last.take() {
+            names.push_reserved(Noted::new(queue, name));
+        }
     }
 }

@@ -48,6 +48,7 @@ use std::alloc::Global;
 use std::marker::Model;
 use std::snapshot::Snapshot;
 use trace_text::Trace;
+use turn_kit::event_place;
 use wire_core::{ActorId, Entry, Op, PoolRow, QueueRow, next_seed, place_of};
 
 /// How a play ended: no actor is runnable, or the steps are spent and some actor is runnable.
@@ -361,17 +362,20 @@ impl System {
     {
         make_room(&mut self.journal, &mut self.names, &self.wires.kept)?;
         let number = self.running.at(place);
-        let actor = &mut self.actors[number as usize];
-        let event = actor.step(&mut self.wires)?;
-        keep_name(&mut self.names, &mut self.wires.last, event.queue);
-        self.journal.push_reserved(Entry {
+        // The actor writes its event into the entry that the journal gets.
+        let mut entry = Entry {
             actor: ActorId(number),
-            event,
-        });
+            event: event_place(),
+        };
+        let actor = &mut self.actors[number as usize];
+        actor.step(&mut self.wires, &mut entry.event)?;
+        let (op, queue) = (entry.event.op, entry.event.queue);
+        keep_name(&mut self.names, &mut self.wires.last, queue);
+        self.journal.push_reserved(entry);
         let actor = &self.actors[number as usize];
         let idle = is_idle(actor, &self.wires.world, ActorId(number));
-        let row = &self.rows[event.queue.0 as usize];
-        let other = reach(event.op, row, number);
+        let row = &self.rows[queue.0 as usize];
+        let other = reach(op, row, number);
         let runs = is_runnable(&self.actors, &self.wires.world, other);
         self.running.note(place, idle, other, runs);
         Ok(())

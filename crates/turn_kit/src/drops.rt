@@ -14,7 +14,7 @@ ghost use Rattle.turn_kit.specs.Table.{Agrees, start_state, is_settled};
 ghost use Rattle.turn_kit.specs.ManyEnds.{FitsOutlets, outlet_queues, outlet_posts};
 ghost use Rattle.turn_kit.specs.Dropping.{dropping, with_drops, IsEager};
 
-use crate::{EndState, Intake, Outlet, Outlets};
+use crate::{EndState, Intake, Outlet, Outlets, push};
 use cargo_core::{Body, Item};
 use wire_core::{Answer, Event, Op, QueueId, Side, Wires};
 
@@ -28,6 +28,7 @@ fn is_vain(event: &Event) -> bool
 /// Makes the next call of the table at an end that takes. Where `drops` says so, a look that
 /// answers no is a drop, and is forgotten, so that the end looks again; the last answer tells
 /// whether it was.
+#[inline(always)]
 pub fn take_or_drop<W: Wires>(
     end: &mut Intake,
     wires: &mut W,
@@ -65,80 +66,84 @@ pub fn take_or_drop<W: Wires>(
 
 /// Makes the next call of the table at an end that puts its load. Where `drops` says so, a look
 /// that answers no is a drop, and is forgotten; the answer tells whether it was. The load is left.
+#[inline(always)]
 pub fn put_or_drop<W: Wires>(
     end: &mut Outlet,
     wires: &mut W,
     load: &mut Option<(Item, Body)>,
     drops: bool,
-) -> (Event, bool)
+    event: &mut Event,
+) -> bool
     requires agrees { Agrees (W.ends wires.old Producer end.old.queue.0) end.old.state }
     requires kind { ForSome load.old (λ c. kind_of c.0
         ≡ (W.ends wires.old Producer end.old.queue.0).kind) }
     ensures queue { end.new.queue ≡ end.old.queue }
-    ensures on { result.0.queue ≡ end.old.queue }
-    ensures role { role_of result.0.op ≡ Producer }
-    ensures did { W.did wires.old (deed_of result.0 (put_of result.0 load.old)) wires.new }
-    ensures moves { Moves (W.ends wires.old) result.0 (W.ends wires.new) }
+    ensures on { event.new.queue ≡ end.old.queue }
+    ensures role { role_of event.new.op ≡ Producer }
+    ensures did { W.did wires.old (deed_of event.new (put_of event.new load.old)) wires.new }
+    ensures moves { Moves (W.ends wires.old) event.new (W.ends wires.new) }
     ensures agrees { Agrees (W.ends wires.new Producer end.old.queue.0) end.new.state }
-    ensures load { option_to_list load.old ≡ option_to_list (put_of result.0 load.old)
+    ensures load { option_to_list load.old ≡ option_to_list (put_of event.new load.old)
         ++ option_to_list load.new }
-    ensures takes { (n : ℕ) → taken_by (deed_of result.0 (put_of result.0 load.old)) n ≡ [] }
-    ensures puts { (n : ℕ) → put_by (deed_of result.0 (put_of result.0 load.old)) n
-        ≡ if_there (end.old.queue.0 == n) (option_to_list (put_of result.0 load.old)) }
-    ensures item { result.0.item ≡ option_map (λ c. c.0) (put_of result.0 load.old) }
-    ensures put { IsSome result.0.item ↔ (result.0.op ≡ Op.Put) }
-    ensures dropped { result.1 ≡ is_drop (dropping drops (outlet_post end.old)) result.0 }
-    ensures drop_loaded { result.1 ≡ true → is_some load.old ≡ true }
-    ensures posted { Posted (dropping drops (outlet_post end.old)) (is_some load.old) result.0
+    ensures takes { (n : ℕ) → taken_by (deed_of event.new (put_of event.new load.old)) n ≡ [] }
+    ensures puts { (n : ℕ) → put_by (deed_of event.new (put_of event.new load.old)) n
+        ≡ if_there (end.old.queue.0 == n) (option_to_list (put_of event.new load.old)) }
+    ensures item { event.new.item ≡ option_map (λ c. c.0) (put_of event.new load.old) }
+    ensures put { IsSome event.new.item ↔ (event.new.op ≡ Op.Put) }
+    ensures dropped { result ≡ is_drop (dropping drops (outlet_post end.old)) event.new }
+    ensures drop_loaded { result ≡ true → is_some load.old ≡ true }
+    ensures posted { Posted (dropping drops (outlet_post end.old)) (is_some load.old) event.new
         (dropping drops (outlet_post end.new)) }
-    ensures still { is_mark_at (dropping drops (outlet_post end.old)) result.0 ≡ false
+    ensures still { is_mark_at (dropping drops (outlet_post end.old)) event.new ≡ false
         → load.new ≡ load.old }
 {
-    let event = end.step(wires, load);
-    let lost = drops && is_vain(&event);
+    push(end, wires, load, event);
+    let lost = drops && is_vain(event);
     if lost {
         end.forget();
     }
-    (event, lost)
+    lost
 }
 
 /// The same at the end of a place among several.
+#[inline(always)]
 pub fn put_or_drop_at<W: Wires>(
     ends: &mut Outlets,
     wires: &mut W,
     k: usize,
     load: &mut Option<(Item, Body)>,
     drops: bool,
-) -> (Event, bool)
+    event: &mut Event,
+) -> bool
     requires fits { FitsOutlets (W.ends wires.old) ends.old }
     requires there { k < length (outlet_queues ends.old) }
     requires kind { ForSome load.old (λ c. (q : QueueId)
         → slice_get (outlet_queues ends.old) k ≡ Some q
         → kind_of c.0 ≡ (W.ends wires.old Producer q.0).kind) }
     ensures queues { outlet_queues ends.new ≡ outlet_queues ends.old }
-    ensures on { slice_get (outlet_queues ends.old) k ≡ Some result.0.queue }
-    ensures role { role_of result.0.op ≡ Producer }
-    ensures did { W.did wires.old (deed_of result.0 (put_of result.0 load.old)) wires.new }
-    ensures moves { Moves (W.ends wires.old) result.0 (W.ends wires.new) }
+    ensures on { slice_get (outlet_queues ends.old) k ≡ Some event.new.queue }
+    ensures role { role_of event.new.op ≡ Producer }
+    ensures did { W.did wires.old (deed_of event.new (put_of event.new load.old)) wires.new }
+    ensures moves { Moves (W.ends wires.old) event.new (W.ends wires.new) }
     ensures fits { FitsOutlets (W.ends wires.new) ends.new }
-    ensures load { option_to_list load.old ≡ option_to_list (put_of result.0 load.old)
+    ensures load { option_to_list load.old ≡ option_to_list (put_of event.new load.old)
         ++ option_to_list load.new }
-    ensures takes { (n : ℕ) → taken_by (deed_of result.0 (put_of result.0 load.old)) n ≡ [] }
-    ensures puts { (n : ℕ) → put_by (deed_of result.0 (put_of result.0 load.old)) n
-        ≡ if_there (result.0.queue.0 == n) (option_to_list (put_of result.0 load.old)) }
-    ensures item { result.0.item ≡ option_map (λ c. c.0) (put_of result.0 load.old) }
-    ensures put { IsSome result.0.item ↔ (result.0.op ≡ Op.Put) }
-    ensures dropped { result.1 ≡ (drops && is_vain_look result.0.op result.0.answer) }
-    ensures drop_loaded { result.1 ≡ true → is_some load.old ≡ true }
+    ensures takes { (n : ℕ) → taken_by (deed_of event.new (put_of event.new load.old)) n ≡ [] }
+    ensures puts { (n : ℕ) → put_by (deed_of event.new (put_of event.new load.old)) n
+        ≡ if_there (event.new.queue.0 == n) (option_to_list (put_of event.new load.old)) }
+    ensures item { event.new.item ≡ option_map (λ c. c.0) (put_of event.new load.old) }
+    ensures put { IsSome event.new.item ↔ (event.new.op ≡ Op.Put) }
+    ensures dropped { result ≡ (drops && is_vain_look event.new.op event.new.answer) }
+    ensures drop_loaded { result ≡ true → is_some load.old ≡ true }
     ensures posted { (ds : List Bool) → slice_get ds k ≡ Some drops → PostedAt
-        (with_drops ds (outlet_posts ends.old)) k (is_some load.old) result.0
+        (with_drops ds (outlet_posts ends.old)) k (is_some load.old) event.new
         (with_drops ds (outlet_posts ends.new)) }
     ensures still { (ds : List Bool) → slice_get ds k ≡ Some drops → (p : Post)
         → slice_get (with_drops ds (outlet_posts ends.old)) k ≡ Some p
-        → is_mark_at p result.0 ≡ false → load.new ≡ load.old }
+        → is_mark_at p event.new ≡ false → load.new ≡ load.old }
 {
     let end = &mut ends.ends[k];
-    put_or_drop(end, wires, load, drops)
+    put_or_drop(end, wires, load, drops, event)
 }
 
 /// An end where its actor drops never asks for a notification: from its start state on each call of

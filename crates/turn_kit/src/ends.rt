@@ -29,7 +29,7 @@ fn yes_or_no(yes: bool) -> Answer
 
 // Makes a call that moves no entry, and gives what it answered.
 #[inline(always)]
-fn call<W: Wires>(wires: &mut W, queue: QueueId, op: Op) -> Answer
+pub(crate) fn call<W: Wires>(wires: &mut W, queue: QueueId, op: Op) -> Answer
     requires may { Allows (W.ends wires.old (role_of op) queue.0) op }
     requires plain { is_plain_call op ≡ true }
     ensures answer { may_answer op result ≡ true }

@@ -10,7 +10,7 @@ ghost use Rattle.turn_kit.specs.Posts.{intake_post, outlet_post};
 ghost use Rattle.turn_kit.specs.Table.{is_settled, start_state};
 ghost use Rattle.turn_kit.specs.Pipes.{FitsPipe, PipeStandsFor, arrival};
 
-use crate::{Intake, Outlet};
+use crate::{Intake, Outlet, pull, push};
 use cargo_core::{Body, Item};
 use wire_core::{Event, QueueId, Side, Wires};
 
@@ -38,59 +38,63 @@ impl Pipe {
         }
     }
 
-    /// The next call of the input. What it takes is loaded.
+    /// The next call of the input, which `event` tells then. What it takes is loaded.
     #[inline(always)]
-    pub fn step_input<W: Wires>(&mut self, wires: &mut W) -> Event
+    pub fn step_input<W: Wires>(&mut self, wires: &mut W, event: &mut Event)
         requires { FitsPipe (W.ends wires.old) self.old }
         ensures input { self.new.input.queue ≡ self.old.input.queue }
         ensures output { self.new.output ≡ self.old.output }
-        ensures on { result.queue ≡ self.old.input.queue }
-        ensures role { role_of result.op ≡ Consumer }
-        ensures did { W.did wires.old (deed_of result
+        ensures on { event.new.queue ≡ self.old.input.queue }
+        ensures role { role_of event.new.op ≡ Consumer }
+        ensures did { W.did wires.old (deed_of event.new
             (arrival self.old.load self.new.load)) wires.new }
-        ensures moves { Moves (W.ends wires.old) result (W.ends wires.new) }
+        ensures moves { Moves (W.ends wires.old) event.new (W.ends wires.new) }
         ensures fits { FitsPipe (W.ends wires.new) self.new }
         ensures kept { (passed : Passed) → PipeStandsFor self.old passed
             → PipeStandsFor self.new (with_deed passed
-            (deed_of result (arrival self.old.load self.new.load))) }
+            (deed_of event.new (arrival self.old.load self.new.load))) }
         ensures takes { (n : ℕ) → (n ≡ self.old.input.queue.0 → ⊥)
-            → taken_by (deed_of result (arrival self.old.load self.new.load)) n ≡ [] }
-        ensures puts { (n : ℕ) → put_by (deed_of result (arrival self.old.load self.new.load)) n
+            → taken_by (deed_of event.new (arrival self.old.load self.new.load)) n ≡ [] }
+        ensures puts { (n : ℕ) → put_by (deed_of event.new (arrival self.old.load self.new.load)) n
             ≡ [] }
-        ensures posted { Posted (intake_post self.old.input) (is_none self.old.load) result
+        ensures posted { Posted (intake_post self.old.input) (is_none self.old.load) event.new
             (intake_post self.new.input) }
-        ensures still { is_mark result.op result.answer ≡ false → self.new.load ≡ self.old.load }
+        ensures still { is_mark event.new.op event.new.answer ≡ false
+            → self.new.load ≡ self.old.load }
     {
         let need = self.load.is_none();
-        let (event, taken) = self.input.step(wires, need);
+        let mut taken = None;
+        pull(&mut self.input, wires, need, &mut taken, event);
         if taken.is_some() {
             self.load = taken;
         }
-        event
     }
 
-    /// The next call of the output, which puts the load.
+    /// The next call of the output, which puts the load; `event` tells it then.
     #[inline(always)]
-    pub fn step_output<W: Wires>(&mut self, wires: &mut W) -> Event
+    pub fn step_output<W: Wires>(&mut self, wires: &mut W, event: &mut Event)
         requires { FitsPipe (W.ends wires.old) self.old }
         ensures input { self.new.input ≡ self.old.input }
         ensures output { self.new.output.queue ≡ self.old.output.queue }
-        ensures on { result.queue ≡ self.old.output.queue }
-        ensures role { role_of result.op ≡ Producer }
-        ensures did { W.did wires.old (deed_of result (put_of result self.old.load)) wires.new }
-        ensures moves { Moves (W.ends wires.old) result (W.ends wires.new) }
+        ensures on { event.new.queue ≡ self.old.output.queue }
+        ensures role { role_of event.new.op ≡ Producer }
+        ensures did { W.did wires.old (deed_of event.new (put_of event.new
+            self.old.load)) wires.new }
+        ensures moves { Moves (W.ends wires.old) event.new (W.ends wires.new) }
         ensures fits { FitsPipe (W.ends wires.new) self.new }
         ensures kept { (passed : Passed) → PipeStandsFor self.old passed
             → PipeStandsFor self.new (with_deed passed
-            (deed_of result (put_of result self.old.load))) }
-        ensures takes { (n : ℕ) → taken_by (deed_of result (put_of result self.old.load)) n ≡ [] }
+            (deed_of event.new (put_of event.new self.old.load))) }
+        ensures takes { (n : ℕ)
+            → taken_by (deed_of event.new (put_of event.new self.old.load)) n ≡ [] }
         ensures puts { (n : ℕ) → (n ≡ self.old.output.queue.0 → ⊥)
-            → put_by (deed_of result (put_of result self.old.load)) n ≡ [] }
-        ensures posted { Posted (outlet_post self.old.output) (is_some self.old.load) result
+            → put_by (deed_of event.new (put_of event.new self.old.load)) n ≡ [] }
+        ensures posted { Posted (outlet_post self.old.output) (is_some self.old.load) event.new
             (outlet_post self.new.output) }
-        ensures still { is_mark result.op result.answer ≡ false → self.new.load ≡ self.old.load }
+        ensures still { is_mark event.new.op event.new.answer ≡ false
+            → self.new.load ≡ self.old.load }
     {
-        self.output.step(wires, &mut self.load)
+        push(&mut self.output, wires, &mut self.load, event);
     }
 
     /// Whether the input is settled; it is needed where nothing is loaded.

@@ -10,6 +10,7 @@ ghost use Rattle.base_rows.specs.Seats.Starting.{StartsOn};
 use seat_wires::Seats;
 use spsc_queue::{Consumer, Producer, Ring};
 use std::alloc::Global;
+use turn_kit::event_place;
 use uart_driver::UartDriver;
 use wire_core::QueueId;
 
@@ -67,5 +68,6 @@ pub fn drive(driver: &mut UartDriver, seats: &mut Seats)
     requires { FitsPipes (seat_end seats.old) (two_pipes driver.old.driver.pipes) }
     ensures { FitsPipes (seat_end seats.new) (two_pipes driver.new.driver.pipes) }
 {
-    driver.step(seats);
+    let mut event = event_place();
+    driver.step(seats, &mut event);
 }

@@ -13,12 +13,11 @@ ghost use Rattle.i2c_virt.specs.I2cClient.Asking.{IsAsking, SameAsking, AreReque
 ghost use Rattle.i2c_virt.specs.I2cClient.Clients.{FitsClient, ClientStandsFor, ClientRow, SameClient};
 ghost use Rattle.i2c_virt.specs.I2cClient.Clients.{IsNewClient, is_asking, client_round, Received};
 
-use crate::calls::{pull, push};
 use crate::i2c_client::Asking;
 use cargo_core::{Body, Item, Memory, PoolId, Series};
 use i2c_text::{BusAsk, BusReply};
 use std::alloc::Global;
-use turn_kit::{Intake, Lowest, Outlet, Turn};
+use turn_kit::{Intake, Lowest, Outlet, Turn, pull, push};
 use wire_core::{Event, QueueId, Wires};
 
 /// A client of the bus. `asking` has what it has yet to ask, and what came of the rest. After an

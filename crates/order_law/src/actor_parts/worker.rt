@@ -12,6 +12,7 @@ ghost use Rattle.order_law.specs.Tales.{is_waiting};
 use actor_set::Actor;
 use actor_set::laws::turn_law;
 use cargo_core::Memory;
+use turn_kit::event_place;
 use wire_core::{Event, WildWires};
 
 /// An actor at work apart from its system. It is stepped by its own call alone, which keeps the
@@ -93,8 +94,9 @@ impl Worker {
         ensures unchanged { OnErr result (self.new.actor ≡ self.old.actor) }
     {
         turn_law();
-        match self.actor.step(wires) {
-            Ok(event) => Ok(event),
+        let mut event = event_place();
+        match self.actor.step(wires, &mut event) {
+            Ok(()) => Ok(event),
             Err(memory) => {
                 self.wanted = Some(memory);
                 Err(memory)

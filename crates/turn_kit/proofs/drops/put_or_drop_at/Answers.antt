@@ -27,7 +27,7 @@ returns-clause-fits g c = record {
 }
 
 pub returns-clause-posted : goal.returns-clause-posted
-returns-clause-posted g c = λ ds at. posted_drops outlet_post ds c.args.ends.now.ends.items c.args.k c.index_mut-end.result.now c.put_or_drop.new.end c.args.drops (is_some c.args.load.now) c.put_or_drop.result.0 at (at_k g c) c.put_or_drop.ensures.posted
+returns-clause-posted g c = λ ds at. posted_drops outlet_post ds c.args.ends.now.ends.items c.args.k c.index_mut-end.result.now c.put_or_drop.new.end c.args.drops (is_some c.args.load.now) c.put_or_drop.new.event at (at_k g c) c.put_or_drop.ensures.posted
 
 pub returns-clause-still : goal.returns-clause-still
-returns-clause-still g c = λ ds at p there no. c.put_or_drop.ensures.still (ap (λ x. is_mark_at x c.put_or_drop.result.0) (some_same (sym (drops_get ds (map outlet_post c.args.ends.now.ends.items) c.args.k c.args.drops (outlet_post c.index_mut-end.result.now) at (get_map outlet_post c.args.ends.now.ends.items c.args.k c.index_mut-end.result.now (at_k g c))) ∙ there)) ∙ no)
+returns-clause-still g c = λ ds at p there no. c.put_or_drop.ensures.still (ap (λ x. is_mark_at x c.put_or_drop.new.event) (some_same (sym (drops_get ds (map outlet_post c.args.ends.now.ends.items) c.args.k c.args.drops (outlet_post c.index_mut-end.result.now) at (get_map outlet_post c.args.ends.now.ends.items c.args.k c.index_mut-end.result.now (at_k g c))) ∙ there)) ∙ no)

@@ -4,7 +4,7 @@ use Rattle.device_model.proofs.serial_terminal.Terminal.step.Goals as goal
 
 pub returns-in-0-clause-stepped : goal.returns-in-0-clause-stepped
 returns-in-0-clause-stepped g c =
-    let s = c.step_input-event.ensures.stepped in
+    let s = c.step_input.ensures.stepped in
     record {
       body = s.body;
       happened = s.happened;
@@ -13,7 +13,7 @@ returns-in-0-clause-stepped g c =
 
 pub returns-in-1-clause-stepped : goal.returns-in-1-clause-stepped
 returns-in-1-clause-stepped g c =
-    let s = c.step_output-event.ensures.stepped in
+    let s = c.step_output.ensures.stepped in
     record {
       body = s.body;
       happened = s.happened;

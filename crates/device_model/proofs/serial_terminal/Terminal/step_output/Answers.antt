@@ -8,10 +8,10 @@ use Rattle.device_model.proofs.serial_terminal.Terminal.step_output.Goals as goa
 
 pub returns-then-is_some-clause-stepped : goal.returns-then-is_some-clause-stepped
 returns-then-is_some-clause-stepped g c = record {
-  body = option_map (λ x. x.1) (put_of c.step-event.result c.load-load.result);
-  happened = c.step-event.ensures.did;
+  body = option_map (λ x. x.1) (put_of c.push.new.event c.load-load.result);
+  happened = c.push.ensures.did;
   kept = λ passed h. record {
-    sent_is = rw (c.step-event.ensures.queue, c.step-event.ensures.puts c.args.self.now.output.queue.0, if_there_here c.args.self.now.output.queue.0 (option_to_list (put_of c.step-event.result c.load-load.result)), h.sent_is) (spoken_put c.args.self.now.script c.args.self.now.next _ c.step-event.result.item c.load-load.result (sym c.is_some.ensures ∙ c.if-is_some.true) refl c.load-load.ensures.load c.step-event.ensures.item);
-    record_is = rw (c.step-event.ensures.takes c.args.self.now.input.queue.0, append-nil) h.record_is;
+    sent_is = rw (c.push.ensures.queue, c.push.ensures.puts c.args.self.now.output.queue.0, if_there_here c.args.self.now.output.queue.0 (option_to_list (put_of c.push.new.event c.load-load.result)), h.sent_is) (spoken_put c.args.self.now.script c.args.self.now.next _ c.push.new.event.item c.load-load.result (sym c.is_some.ensures ∙ c.if-is_some.true) refl c.load-load.ensures.load c.push.ensures.item);
+    record_is = rw (c.push.ensures.takes c.args.self.now.input.queue.0, append-nil) h.record_is;
   };
 }

@@ -5,59 +5,32 @@ ghost use Rattle.std.specs.Prelude.{◌≡◌, ◌==◌, ◌↔◌, ◌<◌, ◌
 ghost use Rattle.std.specs.Prelude.{IsSome, IfSome, is_some, length, slice_get};
 ghost use Rattle.std.specs.Option.{ForSome, option_map, option_to_list};
 ghost use Rattle.cargo_core.specs.Items.{kind_of};
-ghost use Rattle.wire_core.specs.Deeds.{answer_of, deed_of, put_of};
+ghost use Rattle.wire_core.specs.Deeds.{deed_of, put_of};
 ghost use Rattle.wire_core.specs.Lists.{taken_by, put_by, if_there};
 ghost use Rattle.wire_core.specs.Ends.{Consumer, Producer, Allows, Moves, role_of};
 ghost use Rattle.wire_core.specs.Marks.{is_mark};
-ghost use Rattle.turn_kit.specs.Calls.{bare_event, may_answer};
 ghost use Rattle.turn_kit.specs.ManyEnds.{FitsIntakes, FitsOutlets, intake_queues, outlet_queues};
 ghost use Rattle.turn_kit.specs.ManyEnds.{intake_posts, outlet_posts};
 ghost use Rattle.turn_kit.specs.Turns.{Posted, PostedAt};
 ghost use Rattle.turn_kit.specs.Posts.{intake_post, outlet_post};
-ghost use Rattle.turn_kit.specs.Table.{next_op, state_after, Agrees, is_plain_call};
+ghost use Rattle.turn_kit.specs.Table.{next_op, state_after, Agrees};
 
+use crate::ends::call;
+use crate::{EndState, Intake, Intakes, Outlet, Outlets};
 use cargo_core::{Body, Item};
-use turn_kit::{EndState, Intake, Intakes, Outlet, Outlets};
 use wire_core::{Answer, Event, Op, QueueId, Side, Wires};
 
+/// A place for an event: what it tells is written over by the call that it is given to.
 #[inline(always)]
-fn yes_or_no(yes: bool) -> Answer
-    ensures { result ≡ answer_of yes }
+pub fn event_place() -> Event
+    ensures op { result.op ≡ Op.See }
+    ensures item { result.item ≡ None }
 {
-    if yes { Answer::Yes } else { Answer::No }
-}
-
-// Makes a call that moves no entry, and gives what it answered.
-#[inline(always)]
-fn call<W: Wires>(wires: &mut W, queue: QueueId, op: Op) -> Answer
-    requires may { Allows (W.ends wires.old (role_of op) queue.0) op }
-    requires plain { is_plain_call op ≡ true }
-    ensures answer { may_answer op result ≡ true }
-    ensures did { W.did wires.old (deed_of (bare_event queue op result) None) wires.new }
-    ensures moves { Moves (W.ends wires.old) (bare_event queue op result) (W.ends wires.new) }
-{
-    match op {
-        Op::See => yes_or_no(wires.see(queue)),
-        Op::Room => yes_or_no(wires.room(queue)),
-        Op::Wake(side) => yes_or_no(wires.wake(queue, side)),
-        Op::Wanted(side) => yes_or_no(wires.wanted(queue, side)),
-        Op::Ask(side) => {
-            wires.ask(queue, side);
-            Answer::Done
-        }
-        Op::Waive(side) => {
-            wires.waive(queue, side);
-            Answer::Done
-        }
-        Op::Settle(side) => {
-            wires.settle(queue, side);
-            Answer::Done
-        }
-        Op::Ring(side) => {
-            wires.ring(queue, side);
-            Answer::Done
-        }
-        Op::Take | Op::Put | Op::Store(_, _) => unreachable!(),
+    Event {
+        op: Op::See,
+        queue: QueueId(0),
+        answer: Answer::No,
+        item: None,
     }
 }
 
@@ -95,7 +68,7 @@ fn take_in<W: Wires>(
 
 /// Makes the next call of a consuming end, where `need` says whether an entry is needed. An entry
 /// is kept in `got` exactly for a take, and a take comes only where one is needed.
-#[inline(never)]
+#[inline(always)]
 pub fn pull<W: Wires>(
     input: &mut Intake,
     wires: &mut W,
@@ -172,7 +145,7 @@ fn put_out<W: Wires>(
 }
 
 /// Makes the next call of a producing end. The load goes exactly at a put.
-#[inline(never)]
+#[inline(always)]
 pub fn push<W: Wires>(
     output: &mut Outlet,
     wires: &mut W,

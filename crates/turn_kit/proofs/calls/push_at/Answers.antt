@@ -7,7 +7,7 @@ use Rattle.turn_kit.specs.Posts.{outlet_post}
 use Rattle.turn_kit.proofs.Offers.{posted_at}
 use Rattle.turn_kit.specs.declared.ends.Outlet.{Outlet}
 use Rattle.turn_kit.proofs.ManyEnds.{queue_of, same_queues, all_agree}
-use Rattle.i2c_virt.proofs.calls.push_at.Goals as goal
+use Rattle.turn_kit.proofs.calls.push_at.Goals as goal
 
 at_k : (g : _) (c : goal.After-outputs-1 g) → slice_get c.args.outputs.now.ends.items c.args.k ≡ Some c.index_mut-end.result.now
 at_k g c = slice_get_read c.args.outputs.now.ends.items _ c.args.k c.index_mut-end.result.now refl (subst (λ n. c.args.k < n) (simp length-map) c.requires.there) c.index_mut-end.ensures.value

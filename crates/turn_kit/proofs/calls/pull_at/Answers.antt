@@ -7,7 +7,7 @@ use Rattle.turn_kit.specs.Posts.{intake_post}
 use Rattle.turn_kit.proofs.Offers.{posted_at}
 use Rattle.turn_kit.specs.declared.ends.Intake.{Intake}
 use Rattle.turn_kit.proofs.ManyEnds.{queue_of, same_queues, all_agree}
-use Rattle.i2c_virt.proofs.calls.pull_at.Goals as goal
+use Rattle.turn_kit.proofs.calls.pull_at.Goals as goal
 
 at_k : (g : _) (c : goal.After-inputs-1 g) → slice_get c.args.inputs.now.ends.items c.args.k ≡ Some c.index_mut-end.result.now
 at_k g c = slice_get_read c.args.inputs.now.ends.items _ c.args.k c.index_mut-end.result.now refl (subst (λ n. c.args.k < n) (simp length-map) c.requires.there) c.index_mut-end.ensures.value
