@@ -8,9 +8,10 @@ use Rattle.wire_core.specs.declared.names.Event.{Event}
 use Rattle.wire_core.specs.declared.names.Op.{Op}
 use Rattle.wire_core.specs.declared.names.Op.TheVariants as Do
 use Rattle.wire_core.specs.Ends.{Role, Consumer, Producer, role_of}
-use Rattle.wire_core.specs.Journal.{History, Hostiles, MayCall, Track, track, track_after, history_at, owner_of}
+use Rattle.wire_core.specs.declared.names.Answer.{Answer}
+use Rattle.wire_core.specs.Journal.{History, Hostiles, MayCall, Tally, Track, track, track_after, tally_after, history_at, owner_of}
 use Rattle.wire_core.proofs.Tracks.{track_from-append}
-use Rattle.play_core.specs.Moved.{Moved, Seat, moved, went, AreAlike}
+use Rattle.play_core.specs.Moved.{Moved, Seat, moved, went, noes_of, AreAlike, LookAlike}
 use Rattle.play_core.specs.Wants.{Want, seat_of}
 use Rattle.play_core.specs.Manners.{Manners, hostile_by}
 use Rattle.play_core.specs.Runs.{is_runnable, reach_of}
@@ -53,6 +54,17 @@ tracked_after t e (Do.Ring s) is Producer other = rw is refl
 tracked_after t e (Do.Store w v) is Consumer other = rw is refl
 tracked_after t e (Do.Store w v) is Producer other = rw is refl
 
+-- an end counts its own looks alone
+tally_kept : (y : Tally) (mine caller : Role) (o : Op) (a : Answer) → (mine ≡ caller → ⊥) → tally_after y mine caller o a ≡ y
+tally_kept y Consumer Consumer o a off = absurd (off refl)
+tally_kept y Producer Producer o a off = absurd (off refl)
+tally_kept y Consumer Producer o a off = refl
+tally_kept y Producer Consumer o a off = refl
+
+noes_kept : (t : Track) (e : Event) (r : Role) → (r ≡ role_of e.op → ⊥) → noes_of r (track_after t e) ≡ noes_of r t
+noes_kept t e Consumer off = ap (λ (y : Tally). y.noes) (tally_kept t.consumer Consumer (role_of e.op) e.op e.answer off)
+noes_kept t e Producer off = ap (λ (y : Tally). y.noes) (tally_kept t.producer Producer (role_of e.op) e.op e.answer off)
+
 -- after a call of actor k
 module _ (history : History) (journal : List Entry) (k : ℕ) (e : Event) where
   abbrev then_ : List Entry
@@ -66,6 +78,14 @@ module _ (history : History) (journal : List Entry) (k : ℕ) (e : Event) where
   pub went_still : (r : Role) (n : ℕ) → (n ≡ e.queue.0 → r ≡ role_of e.op → ⊥) → went (moved history then_) r n ≡ went (moved history journal) r n
   went_still r n off = tracked_is history then_ r n ∙ (went_at r n off (eqb_tells e.queue.0 n) ∙ sym (tracked_is history journal r n))
 
+  noes_at : (r : Role) (n : ℕ) → (n ≡ e.queue.0 → r ≡ role_of e.op → ⊥) → ((eqb e.queue.0 n ≡ true) × (e.queue.0 ≡ n)) ⊎ ((eqb e.queue.0 n ≡ false) × (e.queue.0 ≢ n)) → noes_of r (track history n then_) ≡ noes_of r (track history n journal)
+  noes_at r n off (inl on) = rw (track_from-append (history_at history n) n journal (entry_of k e), on.0) (noes_kept (track history n journal) e r (λ same. off (sym on.1) same))
+  noes_at r n off (inr away) = rw (track_from-append (history_at history n) n journal (entry_of k e), away.0) refl
+
+  -- and it looked in vain as often
+  pub noes_still : (r : Role) (n : ℕ) → (n ≡ e.queue.0 → r ≡ role_of e.op → ⊥) → noes_of r (track history n then_) ≡ noes_of r (track history n journal)
+  noes_still r n off = noes_at r n off (eqb_tells e.queue.0 n)
+
   -- one of a sheet's ends is the caller's
   abbrev pub Touches : Sheet → Type 0
   Touches s = (i : ℕ) × (x : Seat) × (slice_get s.ends i ≡ Some x) × (x.queue ≡ e.queue.0) × (x.role ≡ role_of e.op)
@@ -73,12 +93,15 @@ module _ (history : History) (journal : List Entry) (k : ℕ) (e : Event) where
   alike_then : (s : Sheet) → (Touches s → ⊥) → AreAlike s.ends (moved history journal) (moved history then_)
   alike_then s off i x at = sym (went_still x.role x.queue (λ q r. off (i, x, at, q, r)))
 
+  look_then : (s : Sheet) → (Touches s → ⊥) → LookAlike s.ends (moved history journal) (moved history then_)
+  look_then s off i x at = sym (noes_still x.role x.queue (λ q r. off (i, x, at, q, r)))
+
   -- an actor of which no end is the caller's needs what it needed, and its row goes on to hold
   pub wants_still : (s : Sheet) → IsOwn s → (Touches s → ⊥) → s.wants (moved history then_) ≡ s.wants (moved history journal)
-  wants_still s own off = sym (own.wants (moved history journal) (moved history then_) (alike_then s off))
+  wants_still s own off = sym (own.wants (moved history journal) (moved history then_) (alike_then s off) (look_then s off))
 
   pub row_still : (s : Sheet) → IsOwn s → (Touches s → ⊥) → s.row (moved history journal) → s.row (moved history then_)
-  row_still s own off holds = own.row (moved history journal) (moved history then_) (alike_then s off) holds
+  row_still s own off holds = own.row (moved history journal) (moved history then_) (alike_then s off) (look_then s off) holds
 
 -- a want of a sheet is of one of its ends
 pub want_seat : (s : Sheet) → IsOwn s → (m : Moved) (i : ℕ) (w : Want) → slice_get (s.wants m) i ≡ Some w → slice_get s.ends i ≡ Some (seat_of w)

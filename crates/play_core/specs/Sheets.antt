@@ -5,7 +5,7 @@ use Rattle.cargo_core.specs.declared.item.Item.{Item}
 use Rattle.wire_core.specs.declared.names.QueueRow.{QueueRow}
 use Rattle.wire_core.specs.Ends.{Consumer, Producer}
 use Rattle.wire_core.specs.Journal.{Hostiles, owner_of}
-use Rattle.play_core.specs.Moved.{Moved, Seat, AreAlike, with_put}
+use Rattle.play_core.specs.Moved.{Moved, Seat, AreAlike, LookAlike, with_put}
 use Rattle.play_core.specs.Wants.{Want, Needful, seat_of, outlet_want}
 
 -- what a trace gives the classes beside the parts of their actors: the frames that the network's
@@ -47,8 +47,10 @@ AreApart seats = (i j : ℕ) (s : Seat) → slice_get seats i ≡ Some s → sli
 
 -- a sheet speaks of its own ends alone
 pub record IsOwn (s : Sheet) : Type 0 where
-  pub row : (a b : Moved) → AreAlike s.ends a b → s.row a → s.row b
-  pub wants : (a b : Moved) → AreAlike s.ends a b → s.wants a ≡ s.wants b
+  pub row : (a b : Moved) → AreAlike s.ends a b → LookAlike s.ends a b
+      → s.row a → s.row b
+  pub wants : (a b : Moved) → AreAlike s.ends a b → LookAlike s.ends a b
+      → s.wants a ≡ s.wants b
   pub ends : (m : Moved) → map seat_of (s.wants m) ≡ s.ends
 
 -- its needs follow from its row: an output is owed exactly where the row would still hold after one

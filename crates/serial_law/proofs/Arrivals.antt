@@ -5,6 +5,8 @@ use Rattle.cargo_core.specs.declared.item.Item.{Item}
 use Rattle.wire_core.specs.declared.names.QueueRow.{QueueRow}
 use Rattle.wire_core.specs.declared.names.Entry.{Entry}
 use Rattle.wire_core.specs.Journal.{History, Hostiles, QueuesFlow}
+use Rattle.wire_core.specs.Fates.{without}
+use Rattle.wire_core.proofs.Fating.{without_more}
 use Rattle.serial_switch.specs.Carried.{byte_of}
 use Rattle.serial_switch.specs.Switching.{input_of}
 use Rattle.play_core.specs.Moved.{Moved, moved, sent, taken}
@@ -14,7 +16,7 @@ use Rattle.play_core.proofs.Lists.{some_is, map_from, prefix_trans, there_is, th
 use Rattle.play_core.proofs.Merges.{prefix_merge, prefix_merge_flat, prefix_merge_wider}
 use Rattle.serial_law.specs.Parts.{SerialPart}
 use Rattle.serial_law.specs.Bytes.{bytes_in, byte_items}
-use Rattle.serial_law.specs.Table.{SharesOut, MergesAll, serial_sheet}
+use Rattle.serial_law.specs.Table.{Marks, SharesOut, MergesAll, serial_sheet}
 use Rattle.serial_law.specs.Serial.{SerialClass, IsSerial, ArrivesInPart}
 use Rattle.serial_law.specs.Beside.{Rogues, HasQueue, IsSerialBeside, ArrivesBeside, said_from, said_beside}
 use Rattle.serial_law.proofs.Lists.{bytes_of_begin}
@@ -107,7 +109,7 @@ module _ (rogues : Rogues) (m : Moved) where
       let rest = said_calm calm (k + 1) qs scripts (omega (arith, n)) in
       ap (λ b. by_sort b (bytes_in (m.taken q)) s ∷ said_from rogues m (k + 1) qs scripts) (calm k) ∙ ap (λ ss. s ∷ ss) rest
 
-module _ (history : History) (rows : List QueueRow) (j : List Entry) (rogues : Rogues) (c : SerialClass) (flows : QueuesFlow history rows j) (w : IsSerialBeside (RowAt (moved history j)) rogues rows c) where
+module _ (history : History) (rows : List QueueRow) (j : List Entry) (rogues : Rogues) (c : SerialClass) (marks : Marks) (flows : QueuesFlow history rows j) (shares : SharesOut marks c.drops c.rx c.client_rx (moved history j)) (w : IsSerialBeside (RowAt (moved history j)) rogues rows c) where
   abbrev m : Moved
   m = moved history j
 
@@ -128,12 +130,24 @@ module _ (history : History) (rows : List QueueRow) (j : List Entry) (rogues : R
       (prefix_trans (put c.rx) (got c.device_rx) (byte_items c.input) w.driver.0
       (prefix_trans (got c.device_rx) (put c.device_rx) (byte_items c.input) (flow c.device_rx w.has_device_rx) w.device)))
 
-  records_at : (k q : ℕ) → slice_get c.client_rx k ≡ Some q → IsPrefix (bytes_in (got q)) (input_of (length c.client_rx) k c.input)
+  -- a client's part of what was heard, and of all that comes
+  abbrev heard_part : ℕ → List ℕ
+  heard_part k = input_of (length c.client_rx) k (bytes_in (got c.rx))
+
+  abbrev whole_part : ℕ → List ℕ
+  whole_part k = input_of (length c.client_rx) k c.input
+
+  -- what is marked was heard, so what comes behind it stays
+  part_begins : (k q : ℕ) → slice_get c.client_rx k ≡ Some q → IsPrefix (without (marks k) (heard_part k)) (without (marks k) (whole_part k))
+  part_begins k q at =
+      let more = input_begins (length c.client_rx) k (bytes_in (got c.rx)) c.input reached in
+      (more.0, sym (without_more (marks k) (heard_part k) more.0 (shares.settled k q at)) ∙ ap (without (marks k)) more.1)
+
+  records_at : (k q : ℕ) → slice_get c.client_rx k ≡ Some q → IsPrefix (bytes_in (got q)) (without (marks k) (whole_part k))
   records_at k q at =
-      let shares : SharesOut c.rx c.client_rx m = w.receiver in
-      let given : IsPrefix (put q) (byte_items (input_of (length c.client_rx) k (bytes_in (got c.rx)))) = (_, shares.given k q at) in
-      let bytes : IsPrefix (bytes_in (got q)) (input_of (length c.client_rx) k (bytes_in (got c.rx))) = bytes_of_begin (got q) (input_of (length c.client_rx) k (bytes_in (got c.rx))) (prefix_trans (got q) (put q) _ (flow q (w.has_client_rx k q at)) given) in
-      prefix_trans _ _ _ bytes (input_begins (length c.client_rx) k (bytes_in (got c.rx)) c.input reached)
+      let given : IsPrefix (put q) (byte_items (without (marks k) (heard_part k))) = (_, shares.given k q at) in
+      let bytes : IsPrefix (bytes_in (got q)) (without (marks k) (heard_part k)) = bytes_of_begin (got q) (without (marks k) (heard_part k)) (prefix_trans (got q) (put q) _ (flow q (w.has_client_rx k q at)) given) in
+      prefix_trans _ _ _ bytes (part_begins k q at)
 
   -- the script of a client that isn't hostile goes on what was taken of it
   script_at : (k p : ℕ) (script : List ℕ) → rogues k ≡ false → slice_get c.client_tx k ≡ Some p → slice_get c.scripts k ≡ Some script → IsPrefix (bytes_in (got p)) script
@@ -169,13 +183,13 @@ module _ (history : History) (rows : List QueueRow) (j : List Entry) (rogues : R
           let begin : IsPrefix (bytes_in (got s.0)) told = by_cases k s.0 s.1 told s.2 s.3 (rogues k) refl (ap (λ i. by_sort (rogues i) (bytes_in (got s.0)) s.1) z ∙ s.4) in
           subst (λ z. IsPrefix z told) (ap (λ x. bytes_in (got x)) (sym same) ∙ (ap bytes_in n.2 ∙ i.2)) begin
 
-  pub arrives_beside : ArrivesBeside rogues c (moved history j)
+  pub arrives_beside : ArrivesBeside marks rogues c (moved history j)
   arrives_beside = record { records = records_at; line = line_at }
 
 -- where nobody is hostile
-pub arrives_in_part : (hostile : Hostiles) (history : History) (rows : List QueueRow) (j : List Entry) (c : SerialClass) → QueuesFlow history rows j → IsSerial (RowAt (moved history j)) hostile rows c → ArrivesInPart c (moved history j)
-arrives_in_part hostile history rows j c flows w =
-    let b : ArrivesBeside (λ k. false) c (moved history j) = arrives_beside history rows j (λ k. false) c flows (as_beside (RowAt (moved history j)) hostile rows c w) in record {
+pub arrives_in_part : (hostile : Hostiles) (history : History) (rows : List QueueRow) (j : List Entry) (c : SerialClass) (marks : Marks) → QueuesFlow history rows j → SharesOut marks c.drops c.rx c.client_rx (moved history j) → IsSerial (RowAt (moved history j)) hostile rows c → ArrivesInPart marks c (moved history j)
+arrives_in_part hostile history rows j c marks flows shares w =
+    let b : ArrivesBeside marks (λ k. false) c (moved history j) = arrives_beside history rows j (λ k. false) c marks flows shares (as_beside (RowAt (moved history j)) hostile rows c w) in record {
       records = b.records;
       line = subst (λ ls. PrefixMerge ls (bytes_in (taken history c.device_tx j))) (said_calm (λ k. false) (moved history j) (λ k. refl) 0 c.client_tx c.scripts w.tx_count) b.line;
     }

@@ -5,5 +5,7 @@ pub mod Own
 pub mod InputBegins
 pub mod Arrivals
 pub mod Wholes
+pub mod Telling
+pub mod Keeping
 pub mod HopsLemmas
 pub mod PoolsLemmas

@@ -1,16 +1,18 @@
-use Rattle.std.proofs.Common.{◌≡◌, ◌≢◌, ◌==◌, ◌++◌, ◌+◌, ℕ, zero, suc, Bool, true, not, if◌then◌else◌, Some, List, [], ◌∷◌, length, map, slice_get, refl, sym, ap, ◌∙◌, subst, arith}
+use Rattle.std.proofs.Common.{◌≡◌, ◌≢◌, ◌≤◌, ◌==◌, ◌++◌, ◌+◌, ℕ, zero, suc, Bool, true, cond, not, if◌then◌else◌, Some, List, [], ◌∷◌, length, map, slice_get, refl, sym, ap, ◌∙◌, subst, arith}
 use Rattle.cargo_core.specs.Lists.{IsPrefix, Merge}
 use Rattle.cargo_core.specs.declared.item.Item.{Item}
 use Rattle.wire_core.specs.Ends.{Consumer, Producer}
+use Rattle.wire_core.specs.Fates.{without}
 use Rattle.serial_switch.specs.Switching.{input_of}
-use Rattle.play_core.specs.Moved.{Moved, Seat, AreAlike, with_put}
+use Rattle.serial_virt.specs.Shares.{policy_at}
+use Rattle.play_core.specs.Moved.{Moved, Seat, AreAlike, LookAlike, with_put}
 use Rattle.play_core.specs.Wants.{Want, intake, outlet, intake_want, outlet_want}
 use Rattle.play_core.specs.Sheets.{Due, IsOwn, NeedsFollow, AreApart, due_want}
 use Rattle.play_core.proofs.Lists.{some_is, map_get, map_from, map_alike}
 use Rattle.play_core.proofs.Puts.{put_beside, copy_more, copy_shorter}
 use Rattle.serial_law.specs.Bytes.{bytes_in, byte_items, is_owed}
 use Rattle.serial_law.specs.Parts.{SerialPart, SerialDevice, SerialDriver, SerialReceiver, SerialSender, SerialClient}
-use Rattle.serial_law.specs.Table.{SharesOut, MergesAll, some_owed, shares, taken_count, is_held, serial_sheet}
+use Rattle.serial_law.specs.Table.{SharesSome, MergesAll, is_owed_to, some_owed, shares, taken_count, is_held, serial_sheet}
 use Rattle.serial_law.proofs.Lists.{say_more, say_shorter}
 use Rattle.serial_law.proofs.Shares.{share_from, shares_same, owed_same, count_same, share_seats, intake_seats, share_due, share_owed, share_only, merge_owed, merge_only}
 
@@ -20,38 +22,47 @@ prefix_same xs ys us vs e f h = subst (λ zs. IsPrefix zs vs) e (subst (IsPrefix
 
 -- each part's sheet speaks of its own ends alone
 
-receiver_own : (rx : ℕ) (clients : List ℕ) → IsOwn (serial_sheet (SerialReceiver rx clients))
-receiver_own rx clients = record {
-  row = λ a b alike h. record {
-    owner = h.owner;
-    owed = h.owed;
-    few = h.few;
-    given = λ c q at.
+receiver_own : (rx : ℕ) (clients : List ℕ) (drops : List Bool) → IsOwn (serial_sheet (SerialReceiver rx clients drops))
+receiver_own rx clients drops = record {
+  row = λ a b alike look h. record {
+    marks = h.marks;
+    out =
         let took : a.taken rx ≡ b.taken rx = alike 0 (intake rx) refl in
-        let put : a.sent q ≡ b.sent q = alike (suc c) (outlet q) (map_get outlet clients c q at) in
-        ap (λ (xs : List Item). xs ++ (if h.owner == c then h.owed else [])) (sym put) ∙ (h.given c q at ∙ ap (λ (xs : List Item). byte_items (input_of (length clients) c (bytes_in xs))) took);
+        record {
+          owner = h.out.owner;
+          owed = h.out.owed;
+          few = h.out.few;
+          given = λ c q at. ap (λ (xs : List Item). xs ++ (if h.out.owner == c then h.out.owed else [])) (sym (put a b alike c q at)) ∙ (h.out.given c q at ∙ ap (λ (xs : List Item). byte_items (without (h.marks c) (input_of (length clients) c (bytes_in xs)))) took);
+          settled = λ c q at. subst (λ (xs : List Item). length (h.marks c) ≤ length (input_of (length clients) c (bytes_in xs))) took (h.out.settled c q at);
+          as_many = λ c q at. h.out.as_many c q at ∙ ap (λ n. cond (policy_at drops c) n 0) (looked a b look c q at);
+        };
   };
-  wants = λ a b alike.
+  wants = λ a b alike look.
       let took : a.taken rx ≡ b.taken rx = alike 0 (intake rx) refl in
-      let put : (k q : ℕ) → slice_get clients k ≡ Some q → a.sent q ≡ b.sent q = λ k q at. alike (suc k) (outlet q) (map_get outlet clients k q at) in
-      let owed = owed_same (length clients) (bytes_in (a.taken rx)) 0 clients a b put in
-      let each = shares_same (length clients) (bytes_in (a.taken rx)) 0 clients a b put in
-      ap (λ (b : Bool). intake_want rx (not b) ∷ shares (length clients) (bytes_in (a.taken rx)) 0 clients a) owed
-      ∙ (ap (λ ws. intake_want rx (not (some_owed (length clients) (bytes_in (a.taken rx)) 0 clients b)) ∷ ws) each
-      ∙ ap (λ (xs : List Item). intake_want rx (not (some_owed (length clients) (bytes_in xs) 0 clients b)) ∷ shares (length clients) (bytes_in xs) 0 clients b) took);
-  ends = λ m. ap (λ (ss : List Seat). intake rx ∷ ss) (share_seats (length clients) (bytes_in (m.taken rx)) 0 clients m);
+      let owed = owed_same (length clients) (bytes_in (a.taken rx)) drops 0 clients a b (put a b alike) (looked a b look) in
+      let each = shares_same (length clients) (bytes_in (a.taken rx)) drops 0 clients a b (put a b alike) (looked a b look) in
+      ap (λ (b : Bool). intake_want rx (not b) ∷ shares (length clients) (bytes_in (a.taken rx)) drops 0 clients a) owed
+      ∙ (ap (λ ws. intake_want rx (not (some_owed (length clients) (bytes_in (a.taken rx)) drops 0 clients b)) ∷ ws) each
+      ∙ ap (λ (xs : List Item). intake_want rx (not (some_owed (length clients) (bytes_in xs) drops 0 clients b)) ∷ shares (length clients) (bytes_in xs) drops 0 clients b) took);
+  ends = λ m. ap (λ (ss : List Seat). intake rx ∷ ss) (share_seats (length clients) (bytes_in (m.taken rx)) drops 0 clients m);
 }
+  where
+    put : (a b : Moved) → AreAlike (intake rx ∷ map outlet clients) a b → (k q : ℕ) → slice_get clients k ≡ Some q → a.sent q ≡ b.sent q
+    put a b alike k q at = alike (suc k) (outlet q) (map_get outlet clients k q at)
+
+    looked : (a b : Moved) → LookAlike (intake rx ∷ map outlet clients) a b → (k q : ℕ) → slice_get clients k ≡ Some q → a.noes Producer q ≡ b.noes Producer q
+    looked a b look k q at = look (suc k) (outlet q) (map_get outlet clients k q at)
 
 sender_own : (tx : ℕ) (clients : List ℕ) → IsOwn (serial_sheet (SerialSender tx clients))
 sender_own tx clients = record {
-  row = λ a b alike h. record {
+  row = λ a b alike look h. record {
     owed = h.owed;
     few = h.few;
     merged =
         let put : a.sent tx ≡ b.sent tx = alike 0 (outlet tx) refl in
         subst (λ (xs : List Item). Merge (map (λ q. b.taken q) clients) (xs ++ h.owed)) put (subst (λ lists. Merge lists (a.sent tx ++ h.owed)) (map_alike (λ q. a.taken q) (λ q. b.taken q) clients (took a b alike)) h.merged);
   };
-  wants = λ a b alike.
+  wants = λ a b alike look.
       let put : a.sent tx ≡ b.sent tx = alike 0 (outlet tx) refl in
       let count = count_same clients a b (took a b alike) in
       let held : is_held tx clients a ≡ is_held tx clients b = rw (put, count) refl in
@@ -64,11 +75,11 @@ sender_own tx clients = record {
 
 driver_own : (device_rx device_tx rx tx : ℕ) → IsOwn (serial_sheet (SerialDriver device_rx device_tx rx tx))
 driver_own device_rx device_tx rx tx = record {
-  row = λ a b alike h. (
+  row = λ a b alike look h. (
     prefix_same (a.sent rx) (a.taken device_rx) (b.sent rx) (b.taken device_rx) (alike 1 (outlet rx) refl) (alike 0 (intake device_rx) refl) h.0,
     prefix_same (a.sent device_tx) (a.taken tx) (b.sent device_tx) (b.taken tx) (alike 3 (outlet device_tx) refl) (alike 2 (intake tx) refl) h.1,
   );
-  wants = λ a b alike.
+  wants = λ a b alike look.
       let e0 : a.taken device_rx ≡ b.taken device_rx = alike 0 (intake device_rx) refl in
       let e1 : a.sent rx ≡ b.sent rx = alike 1 (outlet rx) refl in
       let e2 : a.taken tx ≡ b.taken tx = alike 2 (intake tx) refl in
@@ -79,16 +90,16 @@ driver_own device_rx device_tx rx tx = record {
 
 pub serial_own : (p : SerialPart) → IsOwn (serial_sheet p)
 serial_own (SerialDevice rx tx input) = record {
-  row = λ a b alike h. subst (λ xs. IsPrefix xs (byte_items input)) (alike 1 (outlet rx) refl) h;
-  wants = λ a b alike. ap (λ (xs : List Item). intake_want tx true ∷ outlet_want rx (is_owed xs input) ∷ []) (alike 1 (outlet rx) refl);
+  row = λ a b alike look h. subst (λ xs. IsPrefix xs (byte_items input)) (alike 1 (outlet rx) refl) h;
+  wants = λ a b alike look. ap (λ (xs : List Item). intake_want tx true ∷ outlet_want rx (is_owed xs input) ∷ []) (alike 1 (outlet rx) refl);
   ends = λ m. refl;
 }
 serial_own (SerialDriver device_rx device_tx rx tx) = driver_own device_rx device_tx rx tx
-serial_own (SerialReceiver rx clients) = receiver_own rx clients
+serial_own (SerialReceiver rx clients drops) = receiver_own rx clients drops
 serial_own (SerialSender tx clients) = sender_own tx clients
 serial_own (SerialClient rx tx script) = record {
-  row = λ a b alike h. subst (λ xs. IsPrefix xs (byte_items script)) (alike 1 (outlet tx) refl) h;
-  wants = λ a b alike. ap (λ (xs : List Item). intake_want rx true ∷ outlet_want tx (is_owed xs script) ∷ []) (alike 1 (outlet tx) refl);
+  row = λ a b alike look h. subst (λ xs. IsPrefix xs (byte_items script)) (alike 1 (outlet tx) refl) h;
+  wants = λ a b alike look. ap (λ (xs : List Item). intake_want rx true ∷ outlet_want tx (is_owed xs script) ∷ []) (alike 1 (outlet tx) refl);
   ends = λ m. refl;
 }
 
@@ -175,26 +186,29 @@ pipe_due device_rx device_tx rx tx m zero d at = (1, ap (λ (x : Due). Some (due
 pipe_due device_rx device_tx rx tx m (suc zero) d at = (3, ap (λ (x : Due). Some (due_want m x)) (some_is at))
 pipe_due device_rx device_tx rx tx m (suc (suc i)) d at = cc
 
-module _ (rx : ℕ) (clients : List ℕ) (m : Moved) where
+module _ (rx : ℕ) (clients : List ℕ) (drops : List Bool) (m : Moved) where
   abbrev receives : List Want
-  receives = (serial_sheet (SerialReceiver rx clients)).wants m
+  receives = (serial_sheet (SerialReceiver rx clients drops)).wants m
 
-  receive_owed : AreApart (intake rx ∷ map outlet clients) → SharesOut rx clients m → (i : ℕ) (w : Want) → slice_get receives i ≡ Some w → w.role ≡ Producer → w.need ≡ true → (x : Item) × SharesOut rx clients (with_put m w.queue x)
+  abbrev owes : (c q : ℕ) → Bool
+  owes c q = is_owed_to (length clients) (bytes_in (m.taken rx)) drops c q m
+
+  receive_owed : AreApart (intake rx ∷ map outlet clients) → SharesSome drops rx clients m → (i : ℕ) (w : Want) → slice_get receives i ≡ Some w → w.role ≡ Producer → w.need ≡ true → (x : Item) × SharesSome drops rx clients (with_put m w.queue x)
   receive_owed apart row zero w at out need = let e : Consumer ≡ Producer = ap (λ (v : Want). v.role) (some_is at) ∙ out in cc
   receive_owed apart row (suc c) w at out need =
-      let f = share_from (length clients) (bytes_in (m.taken rx)) 0 clients m c w at in
+      let f = share_from (length clients) (bytes_in (m.taken rx)) drops 0 clients m c w at in
       let z : 0 + c ≡ c = omega arith in
-      let owed : is_owed (m.sent f.0) (input_of (length clients) c (bytes_in (m.taken rx))) ≡ true = ap (λ k. is_owed (m.sent f.0) (input_of (length clients) k (bytes_in (m.taken rx)))) (sym z) ∙ (ap (λ (v : Want). v.need) f.2 ∙ need) in
-      let more = share_owed rx clients m row c f.0 f.1 (intake rx) apart owed in
-      (more.0, subst (λ n. SharesOut rx clients (with_put m n more.0)) (ap (λ (v : Want). v.queue) f.2) more.1)
+      let owed : owes c f.0 ≡ true = ap (λ k. owes k f.0) (sym z) ∙ (ap (λ (v : Want). v.need) f.2 ∙ need) in
+      let more = share_owed row.marks rx clients drops m row.out c f.0 f.1 (intake rx) apart owed in
+      (more.0, subst (λ n. SharesSome drops rx clients (with_put m n more.0)) (ap (λ (v : Want). v.queue) f.2) more.1)
 
-  receive_only : (i : ℕ) (w : Want) → SharesOut rx clients m → slice_get receives i ≡ Some w → w.role ≡ Producer → (x : Item) × SharesOut rx clients (with_put m w.queue x) → w.need ≡ true
-  receive_only zero w row at out put = let e : Consumer ≡ Producer = ap (λ (v : Want). v.role) (some_is at) ∙ out in cc
-  receive_only (suc c) w row at out put =
-      let f = share_from (length clients) (bytes_in (m.taken rx)) 0 clients m c w at in
+  receive_only : (i : ℕ) (w : Want) → slice_get receives i ≡ Some w → w.role ≡ Producer → (x : Item) × SharesSome drops rx clients (with_put m w.queue x) → w.need ≡ true
+  receive_only zero w at out put = let e : Consumer ≡ Producer = ap (λ (v : Want). v.role) (some_is at) ∙ out in cc
+  receive_only (suc c) w at out put =
+      let f = share_from (length clients) (bytes_in (m.taken rx)) drops 0 clients m c w at in
       let z : 0 + c ≡ c = omega arith in
-      let shares : SharesOut rx clients (with_put m f.0 put.0) = subst (λ n. SharesOut rx clients (with_put m n put.0)) (sym (ap (λ (v : Want). v.queue) f.2)) put.1 in
-      sym (ap (λ (v : Want). v.need) f.2) ∙ (ap (λ k. is_owed (m.sent f.0) (input_of (length clients) k (bytes_in (m.taken rx)))) z ∙ share_only rx clients m row c f.0 f.1 put.0 shares)
+      let some : SharesSome drops rx clients (with_put m f.0 put.0) = subst (λ n. SharesSome drops rx clients (with_put m n put.0)) (sym (ap (λ (v : Want). v.queue) f.2)) put.1 in
+      sym (ap (λ (v : Want). v.need) f.2) ∙ (ap (λ k. owes k f.0) z ∙ share_only rx clients drops m c f.0 f.1 put.0 some)
 
 module _ (tx : ℕ) (clients : List ℕ) (m : Moved) where
   abbrev sends : List Want
@@ -228,10 +242,10 @@ serial_follows (SerialDriver device_rx device_tx rx tx) = record {
   only = λ m apart row i w at out put. pipe_only device_rx device_tx rx tx apart m i w at out put;
   due = λ m i d at. pipe_due device_rx device_tx rx tx m i d at;
 }
-serial_follows (SerialReceiver rx clients) = record {
-  owed = λ m apart row i w at out need. receive_owed rx clients m apart row i w at out need;
-  only = λ m apart row i w at out put. receive_only rx clients m i w row at out put;
-  due = λ m i d at. (suc i, share_due (length clients) (bytes_in (m.taken rx)) 0 clients m i d at);
+serial_follows (SerialReceiver rx clients drops) = record {
+  owed = λ m apart row i w at out need. receive_owed rx clients drops m apart row i w at out need;
+  only = λ m apart row i w at out put. receive_only rx clients drops m i w at out put;
+  due = λ m i d at. (suc i, share_due (length clients) (bytes_in (m.taken rx)) drops 0 clients m i d at);
 }
 serial_follows (SerialSender tx clients) = record {
   owed = λ m apart row i w at out need. send_owed tx clients m row i w at out need;

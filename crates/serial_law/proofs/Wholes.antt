@@ -5,6 +5,7 @@ use Rattle.cargo_core.specs.declared.item.Item.{Item}
 use Rattle.wire_core.specs.declared.names.QueueRow.{QueueRow}
 use Rattle.wire_core.specs.declared.names.Entry.{Entry}
 use Rattle.wire_core.specs.Journal.{History, Hostiles}
+use Rattle.wire_core.specs.Fates.{without}
 use Rattle.serial_switch.specs.Carried.{byte_of}
 use Rattle.serial_switch.specs.Switching.{input_of}
 use Rattle.play_core.specs.Moved.{Moved, moved, sent, taken}
@@ -17,12 +18,12 @@ use Rattle.play_core.proofs.Lists.{map_get, maps_are, there_is, there_below}
 use Rattle.play_core.proofs.Merges.{merge_whole, merge_flat}
 use Rattle.serial_law.specs.Parts.{SerialPart, SerialDevice, SerialDriver, SerialReceiver, SerialSender, SerialClient}
 use Rattle.serial_law.specs.Bytes.{bytes_in, byte_items, is_owed}
-use Rattle.serial_law.specs.Table.{SharesOut, MergesAll, some_owed, taken_count, is_held, serial_sheet}
+use Rattle.serial_law.specs.Table.{Marks, SharesOut, MergesAll, is_owed_to, some_owed, taken_count, is_held, serial_sheet}
 use Rattle.serial_law.specs.Serial.{SerialClass, IsSerial, ArrivesWhole}
 use Rattle.serial_law.proofs.Lists.{bytes_items, paid, all_said}
-use Rattle.serial_law.proofs.Shares.{share_at, none_owed, count_is}
+use Rattle.serial_law.proofs.Shares.{share_at, none_owed, count_is, owed_is}
 
-module _ (hostile : Hostiles) (history : History) (rows : List QueueRow) (actors : Needful) (j : List Entry) (c : SerialClass) (still : IsStill hostile history rows actors j) (w : IsSerial (λ p. Plays hostile actors (moved history j) (serial_sheet p)) hostile rows c) where
+module _ (hostile : Hostiles) (history : History) (rows : List QueueRow) (actors : Needful) (j : List Entry) (c : SerialClass) (marks : Marks) (still : IsStill hostile history rows actors j) (out : SharesOut marks c.drops c.rx c.client_rx (moved history j)) (w : IsSerial (λ p. Plays hostile actors (moved history j) (serial_sheet p)) hostile rows c) where
   abbrev m : Moved
   m = moved history j
 
@@ -59,21 +60,28 @@ module _ (hostile : Hostiles) (history : History) (rows : List QueueRow) (actors
       let script = there_is c.scripts k (omega (arith, w.rx_count, lt)) in
       want_at (SerialClient n p.0 script.0) (w.client k n p.0 script.0 at p.1 script.1) 0 _ refl
 
-  receiver_owes : (k n : ℕ) → slice_get c.client_rx k ≡ Some n → Owes hostile actors n (is_owed (put n) (part k))
-  receiver_owes k n at = want_at (SerialReceiver c.rx c.client_rx) w.receiver (suc k) _ (share_at (length c.client_rx) heard 0 c.client_rx m k k n (omega arith) at)
+  -- a byte is owed to a client
+  abbrev owes : (k n : ℕ) → Bool
+  owes k n = is_owed_to (length c.client_rx) heard c.drops k n m
 
-  shared : (k n : ℕ) → slice_get c.client_rx k ≡ Some n → (put n ≡ got n) × (is_owed (put n) (part k) ≡ false)
+  abbrev receiver_part : SerialPart
+  receiver_part = SerialReceiver c.rx c.client_rx c.drops
+
+  receiver_owes : (k n : ℕ) → slice_get c.client_rx k ≡ Some n → Owes hostile actors n (owes k n)
+  receiver_owes k n at = want_at receiver_part w.receiver (suc k) _ (share_at (length c.client_rx) heard c.drops 0 c.client_rx m k k n (omega arith) at)
+
+  shared : (k n : ℕ) → slice_get c.client_rx k ≡ Some n → (put n ≡ got n) × (owes k n ≡ false)
   shared k n at = passed n _ (w.holds_client_rx k n at) (client_needs k n at) (receiver_owes k n at)
 
   receiver_needs : Needs hostile actors c.rx true
   receiver_needs =
-      let none : some_owed (length c.client_rx) heard 0 c.client_rx m ≡ false = none_owed (length c.client_rx) heard 0 c.client_rx m (λ k i n e at. let same : k ≡ i = omega arith in subst (λ x. is_owed (put n) (part x) ≡ false) same (shared k n at).1) in
-      same_need c.rx _ true (ap not none) (want_at (SerialReceiver c.rx c.client_rx) w.receiver 0 _ refl)
+      let none : some_owed (length c.client_rx) heard c.drops 0 c.client_rx m ≡ false = none_owed (length c.client_rx) heard c.drops 0 c.client_rx m (λ k i n e at. let same : k ≡ i = omega arith in subst (λ x. owes x n ≡ false) same (shared k n at).1) in
+      same_need c.rx _ true (ap not none) (want_at receiver_part w.receiver 0 _ refl)
 
-  given : (k n : ℕ) → slice_get c.client_rx k ≡ Some n → put n ≡ byte_items (part k)
+  given : (k n : ℕ) → slice_get c.client_rx k ≡ Some n → put n ≡ byte_items (without (marks k) (part k))
   given k n at =
-      let shares : SharesOut c.rx c.client_rx m = w.receiver.row in
-      all_said (put n) (part k) (_, shares.given k n at) (shared k n at).1
+      let none : is_owed (put n) (without (marks k) (part k)) ≡ false = sym (owed_is marks c.rx c.client_rx c.drops m out k n at) ∙ (shared k n at).1 in
+      all_said (put n) (without (marks k) (part k)) (_, out.given k n at) none
 
   abbrev driver_part : SerialPart
   driver_part = SerialDriver c.device_rx c.device_tx c.rx c.tx
@@ -90,12 +98,12 @@ module _ (hostile : Hostiles) (history : History) (rows : List QueueRow) (actors
       let begun : put c.device_rx ≡ byte_items c.input = all_said (put c.device_rx) c.input w.device.row up_1.1 in
       sym up_2.0 ∙ (copied ∙ (sym up_1.0 ∙ begun))
 
-  records : (k q : ℕ) → slice_get c.client_rx k ≡ Some q → bytes_in (got q) ≡ input_of (length c.client_rx) k c.input
+  records : (k q : ℕ) → slice_get c.client_rx k ≡ Some q → bytes_in (got q) ≡ without (marks k) (input_of (length c.client_rx) k c.input)
   records k q at =
-      let items : got q ≡ byte_items (part k) = sym (shared k q at).0 ∙ given k q at in
-      let bytes : bytes_in (got q) ≡ part k = ap bytes_in items ∙ bytes_items (part k) in
+      let items : got q ≡ byte_items (without (marks k) (part k)) = sym (shared k q at).0 ∙ given k q at in
+      let bytes : bytes_in (got q) ≡ without (marks k) (part k) = ap bytes_in items ∙ bytes_items (without (marks k) (part k)) in
       let input_is : heard ≡ c.input = ap bytes_in read ∙ bytes_items c.input in
-      bytes ∙ ap (λ bs. input_of (length c.client_rx) k bs) input_is
+      bytes ∙ ap (λ bs. without (marks k) (input_of (length c.client_rx) k bs)) input_is
 
   -- from the device's line up to the scripts
 
@@ -128,5 +136,5 @@ module _ (hostile : Hostiles) (history : History) (rows : List QueueRow) (actors
       let line_is : got c.device_tx ≡ put c.tx = sym down_1.0 ∙ (copied ∙ sym down_2.0) in
       subst (λ xs. Merge c.scripts (bytes_in xs)) (sym line_is) (subst (λ ls. Merge ls (bytes_in (put c.tx))) scripts_are bytes)
 
-  pub arrives_whole : ArrivesWhole c m
+  pub arrives_whole : ArrivesWhole marks c m
   arrives_whole = record { records = records; line = line }

@@ -3,12 +3,14 @@
 use Rattle.std.specs.Prelude.{◌≡◌, ◌+◌, ℕ, Bool, false, Some, List, [], ◌∷◌, length, slice_get}
 use Rattle.cargo_core.specs.Lists.{IsPrefix, PrefixMerge}
 use Rattle.wire_core.specs.declared.names.QueueRow.{QueueRow}
+use Rattle.wire_core.specs.Fates.{without}
 use Rattle.serial_switch.specs.Switching.{input_of}
 use Rattle.play_core.specs.Moved.{Moved}
 use Rattle.play_core.specs.Names.{by_sort}
 use Rattle.serial_law.specs.Parts.{SerialPart, SerialDevice, SerialDriver, SerialReceiver}
 use Rattle.serial_law.specs.Parts.{SerialSender, SerialClient}
 use Rattle.serial_law.specs.Bytes.{bytes_in}
+use Rattle.serial_law.specs.Table.{Marks}
 use Rattle.serial_law.specs.Serial.{SerialClass}
 
 -- which clients of the class are hostile, by their numbers
@@ -25,7 +27,7 @@ pub record IsSerialBeside (There : SerialPart → Type 0) (rogues : Rogues) (row
     (c : SerialClass) : Type 0 where
   pub device : There (SerialDevice c.device_rx c.device_tx c.input)
   pub driver : There (SerialDriver c.device_rx c.device_tx c.rx c.tx)
-  pub receiver : There (SerialReceiver c.rx c.client_rx)
+  pub receiver : There (SerialReceiver c.rx c.client_rx c.drops)
   pub sender : There (SerialSender c.tx c.client_tx)
   pub client : (k q p : ℕ) (script : List ℕ) → rogues k ≡ false
       → slice_get c.client_rx k ≡ Some q → slice_get c.client_tx k ≡ Some p
@@ -51,10 +53,12 @@ said_from rogues m k (q ∷ qs) (script ∷ scripts) =
 abbrev pub said_beside : Rogues → SerialClass → Moved → List (List ℕ)
 said_beside rogues c m = said_from rogues m 0 c.client_tx c.scripts
 
--- each client's record, the bytes that it took, is a beginning of its part of the input, also of
--- what a hostile one took, and the line, the bytes that the device took, is a merge of beginnings
--- of what the clients say
-pub record ArrivesBeside (rogues : Rogues) (c : SerialClass) (m : Moved) : Type 0 where
+-- each client's record, the bytes that it took, is a beginning of its part of the input without
+-- what is marked as dropped, also of what a hostile one took, and the line, the bytes that the
+-- device took, is a merge of beginnings of what the clients say
+pub record ArrivesBeside (marks : Marks) (rogues : Rogues) (c : SerialClass)
+    (m : Moved) : Type 0 where
   pub records : (k q : ℕ) → slice_get c.client_rx k ≡ Some q
-      → IsPrefix (bytes_in (m.taken q)) (input_of (length c.client_rx) k c.input)
+      → IsPrefix (bytes_in (m.taken q))
+      (without (marks k) (input_of (length c.client_rx) k c.input))
   pub line : PrefixMerge (said_beside rogues c m) (bytes_in (m.taken c.device_tx))

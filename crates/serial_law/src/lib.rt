@@ -1,7 +1,7 @@
 //! The serial class as a law of its own, apart from any system: what is said of each kind of its
 //! actors, that their needs follow from it, and what the class brings at any moment and where
-//! nobody may make a call; how often its entries are moved; and that its actors hand on entries
-//! without pages.
+//! nobody may make a call; what its receiver drops; how often its entries are moved; and that its
+//! actors hand on entries without pages.
 #![tactic(auto)]
 
 ghost use Rattle.std.specs.Prelude.{◌≡◌, ℕ, false, List, length};
@@ -13,10 +13,11 @@ ghost use Rattle.play_core.specs.Wants.{Needful};
 ghost use Rattle.play_core.specs.Sheets.{IsOwn, NeedsFollow};
 ghost use Rattle.play_core.specs.Still.{IsStill, Plays};
 ghost use Rattle.serial_law.specs.Parts.{SerialPart};
-ghost use Rattle.serial_law.specs.Table.{serial_sheet};
+ghost use Rattle.serial_law.specs.Table.{Marks, SharesOut, serial_sheet};
 ghost use Rattle.serial_law.specs.Serial.{SerialClass, IsSerial, ArrivesInPart, ArrivesWhole};
 ghost use Rattle.serial_law.specs.Beside.{Rogues, IsSerialBeside, ArrivesBeside, said_beside};
 
+pub mod drops;
 pub mod hops;
 pub mod pools;
 
@@ -28,27 +29,32 @@ pub fn table_law()
 {}
 
 /// Where the queues hand over in order and the rows of the class's actors hold, each client's
-/// record is a beginning of its part of the input, and the line is a merge of beginnings of the
-/// scripts. Where in addition nobody is runnable, each record is whole, and the line is a merge of
-/// the whole scripts. Beside hostile clients of the class, of whose rows nothing is asked, each
-/// client's record is a beginning of its part all the same, and the line is a merge of beginnings
-/// of the others' scripts and of what was taken of the hostile ones; where none is, of the scripts.
+/// record is a beginning of its part of the input, but for what is marked as dropped of it, by any
+/// marks with which the receiver shares out; and the line is a merge of beginnings of the scripts.
+/// Where in addition nobody is runnable, each record is whole but for these, and the line is a
+/// merge of the whole scripts. Beside hostile clients of the class, of whose rows nothing is asked,
+/// each client's record is such a beginning all the same, and the line is a merge of beginnings of
+/// the others' scripts and of what was taken of the hostile ones; where none is, of the scripts.
 pub fn serial_law()
     ensures part { (hostile : Hostiles) (history : History) (rows : List QueueRow)
-        (journal : List Entry) (class : SerialClass)
+        (journal : List Entry) (class : SerialClass) (marks : Marks)
         → QueuesFlow history rows journal
+        → SharesOut marks class.drops class.rx class.client_rx (moved history journal)
         → IsSerial (λ p. (serial_sheet p).row (moved history journal)) hostile rows class
-        → ArrivesInPart class (moved history journal) }
+        → ArrivesInPart marks class (moved history journal) }
     ensures whole { (hostile : Hostiles) (history : History) (rows : List QueueRow)
-        (actors : Needful) (journal : List Entry) (class : SerialClass)
+        (actors : Needful) (journal : List Entry) (class : SerialClass) (marks : Marks)
         → IsStill hostile history rows actors journal
+        → SharesOut marks class.drops class.rx class.client_rx (moved history journal)
         → IsSerial (λ p. Plays hostile actors (moved history journal)
         (serial_sheet p)) hostile rows class
-        → ArrivesWhole class (moved history journal) }
+        → ArrivesWhole marks class (moved history journal) }
     ensures beside { (history : History) (rows : List QueueRow) (journal : List Entry)
-        (rogues : Rogues) (class : SerialClass) → QueuesFlow history rows journal
+        (rogues : Rogues) (class : SerialClass) (marks : Marks)
+        → QueuesFlow history rows journal
+        → SharesOut marks class.drops class.rx class.client_rx (moved history journal)
         → IsSerialBeside (λ p. (serial_sheet p).row (moved history journal)) rogues rows class
-        → ArrivesBeside rogues class (moved history journal) }
+        → ArrivesBeside marks rogues class (moved history journal) }
     ensures all_say { (rogues : Rogues) (class : SerialClass) (m : Moved)
         → ((k : ℕ) → rogues k ≡ false) → length class.client_tx ≡ length class.scripts
         → said_beside rogues class m ≡ class.scripts }

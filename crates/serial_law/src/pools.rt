@@ -8,7 +8,7 @@ ghost use Rattle.turn_kit.specs.declared.pipe.Pipe.{Pipe};
 ghost use Rattle.pipe_driver.specs.Drivers.{PipesRow};
 ghost use Rattle.device_model.specs.SerialTerminal.Terminals.{TerminalRow};
 ghost use Rattle.device_model.specs.declared.serial_terminal.Terminal.{Terminal};
-ghost use Rattle.serial_virt.specs.Receiving.{HoldingRxRow};
+ghost use Rattle.serial_virt.specs.Receiving.{RxRow};
 ghost use Rattle.serial_virt.specs.Sending.{TxRow};
 ghost use Rattle.serial_virt.specs.declared.rx.SerialVirtRx.{SerialVirtRx};
 ghost use Rattle.serial_virt.specs.declared.tx.SerialVirtTx.{SerialVirtTx};
@@ -27,7 +27,7 @@ pub fn serial_on_law()
         → NameNothing naming (piped_ends ps) → PipesRow ps passed
         → HandsOn naming m passed (piped_ends ps) }
     ensures receiver { (naming : Naming) (v : SerialVirtRx) (passed : Passed) (m : Moved)
-        → NameNothing naming (rx_ends v) → HoldingRxRow v passed
+        → NameNothing naming (rx_ends v) → RxRow v passed
         → HandsOn naming m passed (rx_ends v) }
     ensures sender { (naming : Naming) (v : SerialVirtTx) (passed : Passed) (m : Moved)
         → NameNothing naming (tx_ends v) → TxRow v passed

@@ -39,6 +39,8 @@ module _ (v : SerialVirtRx) (passed : Passed) (all : AllHold v.drops.items) wher
     owed = row.owed;
     few = row.few;
     given = λ k q at. row.given k q at ∙ sym (ap (map byte_cargo) (all_stay rx (taker_of v k q) (all k) passed.calls (part k)));
+    settled = λ k q at on. let no : true ≡ false = sym on ∙ all k in absurd cc;
+    each = λ k q at on. let no : true ≡ false = sym on ∙ all k in absurd cc;
   }
 
   pub stands_held : RxStandsFor v passed → HoldingRxStands v passed

@@ -398,4 +398,11 @@ byte_out old new passed took put e k q queues input switch to policies at on rol
         byte_stays old new passed took put e k q (put_of e old.load) queues input switch to policies at on role apart takes puts h p.0 (no_put e.op e.item iff none) vain p.1
 
 pub rx_row : (v : SerialVirtRx) (passed : Passed) → RxStandsFor v passed → RxRow v passed
-rx_row v passed h = record { owner = v.to; owed = option_to_list v.load; few = few_load v.load; given = λ k q at. (h.clients k q at).given }
+rx_row v passed h = record {
+  owner = v.to;
+  owed = option_to_list v.load;
+  few = few_load v.load;
+  given = λ k q at. (h.clients k q at).given;
+  settled = λ k q at on. let came = ((h.clients k q at).tells on).came in omega (arith, came);
+  each = λ k q at on. ((h.clients k q at).tells on).each;
+}

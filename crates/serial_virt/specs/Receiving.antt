@@ -12,7 +12,7 @@ use Rattle.wire_core.specs.declared.names.Side.TheVariants.{Forward, Backward}
 use Rattle.wire_core.specs.Deeds.{Cargo}
 use Rattle.wire_core.specs.Lists.{Passed}
 use Rattle.wire_core.specs.Ends.{Role, Consumer, Producer, End}
-use Rattle.wire_core.specs.Fates.{noes_at, without}
+use Rattle.wire_core.specs.Fates.{noes_at, without, marked}
 use Rattle.turn_kit.specs.Table.{Agrees, start_state}
 use Rattle.turn_kit.specs.Turns.{Post, Round}
 use Rattle.turn_kit.specs.Posts.{intake_post}
@@ -69,7 +69,8 @@ pub record RxStandsFor (v : SerialVirtRx) (passed : Passed) : Type 0 where
       (passed.sent q.0) (owed_to v.load v.to k)
 
 -- each client was given its part of what was taken, without what was dropped of it, but that over
--- all clients at most one byte is owed
+-- all clients at most one byte is owed; and of a client whose bytes may be dropped what is dropped
+-- was taken, a byte for each look in vain for room
 pub record RxRow (v : SerialVirtRx) (passed : Passed) : Type 0 where
   pub owner : ℕ
   pub owed : List Cargo
@@ -78,6 +79,13 @@ pub record RxRow (v : SerialVirtRx) (passed : Passed) : Type 0 where
       → passed.sent q.0 ++ (if owner == k then owed else [])
       ≡ map byte_cargo (without (byte_fate v.input.queue.0 (taker_of v k q) passed.calls).dropped
       (input_of (clients_of v) k (bytes_carried (passed.taken v.input.queue.0))))
+  pub settled : (k : ℕ) (q : QueueId) → slice_get (outlet_queues v.outputs) k ≡ Some q
+      → policy_of v k ≡ true
+      → length (byte_fate v.input.queue.0 (taker_of v k q) passed.calls).dropped
+      ≤ length (input_of (clients_of v) k (bytes_carried (passed.taken v.input.queue.0)))
+  pub each : (k : ℕ) (q : QueueId) → slice_get (outlet_queues v.outputs) k ≡ Some q
+      → policy_of v k ≡ true → noes_at Producer q.0 passed.calls
+      ≡ marked (byte_fate v.input.queue.0 (taker_of v k q) passed.calls).dropped
 
 -- what a virtualiser stands for that never drops: the switch has read all that was taken; each
 -- client was given its part of it, but for what is owed to it, and who is owed a byte is there

@@ -1,5 +1,9 @@
 use Rattle.std.proofs.Common.{◌≡◌, ◌==◌, ◌≤◌, ◌+◌, ◌*◌, ◌++◌, ℕ, zero, suc, Bool, if◌then◌else◌, Some, List, [], ◌∷◌, length, length-append, map, slice_get, refl, sym, ap, ◌∙◌, subst, arith}
 use Rattle.std.proofs.lemmas.List.{length-map}
+use Rattle.wire_core.specs.Fates.{without}
+use Rattle.wire_core.proofs.Fating.{without_length}
+use Rattle.wire_core.specs.Ends.{Producer}
+use Rattle.serial_virt.specs.Shares.{policy_at}
 use Rattle.cargo_core.specs.Lists.{IsPrefix, Merge}
 use Rattle.cargo_core.specs.declared.item.Item.{Item}
 use Rattle.cargo_core.specs.declared.item.Item.TheVariants as ItemOf
@@ -9,16 +13,16 @@ use Rattle.wire_core.specs.declared.names.Entry.{Entry}
 use Rattle.wire_core.specs.Journal.{History, Hostiles, QueuesFlow}
 use Rattle.wire_core.specs.Marks.{sum_below}
 use Rattle.serial_switch.specs.Switching.{input_of}
-use Rattle.play_core.specs.Moved.{Moved, moved, sent, taken}
+use Rattle.play_core.specs.Moved.{Moved, moved, sent, taken, gone_at}
 use Rattle.play_core.specs.Totals.{total}
 use Rattle.play_core.specs.Still.{Holds}
 use Rattle.play_core.proofs.Lists.{there_is, there_below}
 use Rattle.play_core.proofs.Merges.{merge_total}
 use Rattle.serial_law.specs.Bytes.{bytes_in, byte_items}
-use Rattle.serial_law.specs.Table.{SharesOut, MergesAll}
+use Rattle.serial_law.specs.Table.{Marks, SharesOut, SharesSome, MergesAll}
 use Rattle.serial_law.specs.Serial.{SerialClass, IsSerial}
 use Rattle.serial_law.proofs.Arrivals.{RowAt}
-use Rattle.serial_law.specs.Hops.Hops.{put_to, serial_put, serial_bytes}
+use Rattle.serial_law.specs.Hops.Hops.{put_to, gone_from, serial_put, serial_gone, serial_bytes}
 use Rattle.serial_law.proofs.HopsLemmas.Parts.{parts_few}
 
 -- a beginning isn't longer
@@ -45,14 +49,17 @@ few_bytes_in (x ∷ xs) =
     let l = length-append (byte_of x) (bytes_in xs) in
     omega (arith, a, b, l)
 
--- no more was put to queues than a number for each
-put_below : (m : Moved) (f : ℕ → ℕ) (n : ℕ) (qs : List ℕ) → ((k q : ℕ) → slice_get qs k ≡ Some q → length (m.sent q) ≤ f (n + k)) → put_to qs m + sum_below f n ≤ sum_below f (n + length qs)
-put_below m f n [] h = let e : sum_below f n ≡ sum_below f (n + 0) = ap (sum_below f) (omega arith) in omega (arith, e)
-put_below m f n (q ∷ qs) h =
-    let one : length (m.sent q) ≤ f n = subst (λ k. length (m.sent q) ≤ f k) (omega arith) (h 0 q refl) in
-    let rest = put_below m f (suc n) qs (λ k p at. subst (λ i. length (m.sent p) ≤ f i) (omega arith) (h (suc k) p at)) in
+-- no more was put to queues, and dropped for them, than a number for each
+put_below : (m : Moved) (drops : List Bool) (f : ℕ → ℕ) (n : ℕ) (qs : List ℕ) → ((k i q : ℕ) → i ≡ n + k → slice_get qs k ≡ Some q → length (m.sent q) + gone_at (policy_at drops i) m Producer q ≤ f i)
+    → put_to qs m + gone_from drops n qs m + sum_below f n ≤ sum_below f (n + length qs)
+put_below m drops f n [] h = let e : sum_below f n ≡ sum_below f (n + 0) = ap (sum_below f) (omega arith) in omega (arith, e)
+put_below m drops f n (q ∷ qs) h =
+    let one = h 0 n q (omega arith) refl in
+    let plus : n + 1 ≡ suc n = omega arith in
+    let same : gone_from drops (n + 1) qs m ≡ gone_from drops (suc n) qs m = ap (λ i. gone_from drops i qs m) plus in
+    let rest = put_below m drops f (suc n) qs (λ k i p e at. h (suc k) i p (omega (arith, e)) at) in
     let size : sum_below f (suc n + length qs) ≡ sum_below f (n + suc (length qs)) = ap (sum_below f) (omega arith) in
-    omega (arith, one, rest, size)
+    omega (arith, one, rest, size, same)
 
 -- nor than the lists hold, one for each queue
 put_total : {T : Type 0} (m : Moved) (qs : List ℕ) (lists : List (List T)) → length qs ≡ length lists → ((k q : ℕ) (l : List T) → slice_get qs k ≡ Some q → slice_get lists k ≡ Some l → length (m.sent q) ≤ length l) → put_to qs m ≤ total lists
@@ -98,21 +105,30 @@ module _ (hostile : Hostiles) (history : History) (rows : List QueueRow) (j : Li
       let b = flow c.device_rx w.holds_device_rx in
       omega (arith, a, b)
 
+  abbrev part : ℕ → List ℕ
+  part k = input_of (length c.client_rx) k (bytes_in (m.taken c.rx))
+
   abbrev share : ℕ → ℕ
-  share k = length (input_of (length c.client_rx) k (bytes_in (m.taken c.rx)))
+  share k = length (part k)
 
-  -- each client is given no more than its part
-  client_given : (k q : ℕ) → slice_get c.client_rx k ≡ Some q → put q ≤ share k
+  -- each client is given, and of its bytes are dropped, no more than its part
+  client_given : (k q : ℕ) → slice_get c.client_rx k ≡ Some q → put q + gone_at (policy_at c.drops k) m Producer q ≤ share k
   client_given k q at =
-      let shares : SharesOut c.rx c.client_rx m = w.receiver in
-      let a = shorter (m.sent q) (byte_items (input_of (length c.client_rx) k (bytes_in (m.taken c.rx)))) (_, shares.given k q at) in
-      let b = few_items (input_of (length c.client_rx) k (bytes_in (m.taken c.rx))) in
-      omega (arith, a, b)
+      let shares : SharesSome c.drops c.rx c.client_rx m = w.receiver in
+      few_given shares.marks shares.out
+    where
+      few_given : (marks : Marks) → SharesOut marks c.drops c.rx c.client_rx m → put q + gone_at (policy_at c.drops k) m Producer q ≤ share k
+      few_given marks out =
+          let a = shorter (m.sent q) (byte_items (without (marks k) (part k))) (_, out.given k q at) in
+          let b = few_items (without (marks k) (part k)) in
+          let d = without_length (marks k) (part k) (out.settled k q at) in
+          let g = out.as_many k q at in
+          omega (arith, a, b, d, g)
 
-  receiver_puts : put_to c.client_rx m ≤ put c.rx
+  receiver_puts : put_to c.client_rx m + serial_gone c m ≤ put c.rx
   receiver_puts =
-      let each = λ (k q : ℕ) (at : slice_get c.client_rx k ≡ Some q). subst (λ i. put q ≤ share i) (omega arith) (client_given k q at) in
-      let a = put_below m share 0 c.client_rx each in
+      let each = λ (k i q : ℕ) (e : i ≡ 0 + k) (at : slice_get c.client_rx k ≡ Some q). subst (λ x. put q + gone_at (policy_at c.drops x) m Producer q ≤ share x) (let same : k ≡ i = omega (arith, e) in same) (client_given k q at) in
+      let a = put_below m c.drops share 0 c.client_rx each in
       let size : sum_below share (0 + length c.client_rx) ≡ sum_below share (length c.client_rx) = ap (sum_below share) (omega arith) in
       let b = parts_few (length c.client_rx) (bytes_in (m.taken c.rx)) in
       let d = few_bytes_in (m.taken c.rx) in
@@ -145,6 +161,6 @@ module _ (hostile : Hostiles) (history : History) (rows : List QueueRow) (j : Li
       let b = flow c.tx w.holds_tx in
       omega (arith, a, b)
 
-  pub serial_moves : serial_put c m ≤ 3 * serial_bytes c
+  pub serial_moves : serial_put c m + serial_gone c m ≤ 3 * serial_bytes c
   serial_moves =
       omega (arith, device_puts, driver_puts, receiver_puts, clients_put, sender_puts, line_put)

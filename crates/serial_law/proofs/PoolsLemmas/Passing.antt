@@ -15,7 +15,9 @@ use Rattle.turn_kit.specs.declared.pipe.Pipe.{Pipe}
 use Rattle.pipe_driver.specs.Drivers.{PipesRow}
 use Rattle.device_model.specs.SerialTerminal.Terminals.{TerminalRow}
 use Rattle.device_model.specs.declared.serial_terminal.Terminal.{Terminal}
-use Rattle.serial_virt.specs.Receiving.{HoldingRxRow, clients_of}
+use Rattle.wire_core.specs.Fates.{without}
+use Rattle.serial_virt.specs.Shares.{byte_fate}
+use Rattle.serial_virt.specs.Receiving.{RxRow, clients_of, taker_of}
 use Rattle.serial_virt.specs.Sending.{TxRow, taken_from}
 use Rattle.serial_virt.specs.declared.rx.SerialVirtRx.{SerialVirtRx}
 use Rattle.serial_virt.specs.declared.tx.SerialVirtTx.{SerialVirtTx}
@@ -69,7 +71,7 @@ module _ (naming : Naming) (passed : Passed) (m : Moved) where
   ins_on [] = puts_none
   ins_on (q ∷ qs) = puts_in q (map intake qs) (ins_on qs)
 
-  pub receiver_on : (v : SerialVirtRx) → NameNothing naming (rx_ends v) → HoldingRxRow v passed → HandsOn naming m passed (rx_ends v)
+  pub receiver_on : (v : SerialVirtRx) → NameNothing naming (rx_ends v) → RxRow v passed → HandsOn naming m passed (rx_ends v)
   receiver_on v names row takes = puts_in v.input.queue.0 (map outlet qs) (outs_on qs (λ j s at. names (suc j) s at) each)
     where
       qs : List ℕ
@@ -79,7 +81,7 @@ module _ (naming : Naming) (passed : Passed) (m : Moved) where
       each k q at =
           let x = map_from (λ (r : QueueId). r.0) (outlet_queues v.outputs) k q at in
           let whole = row.given k x.0 x.1 in
-          let bytes = input_of (clients_of v) k (bytes_carried (passed.taken v.input.queue.0)) in
+          let bytes = without (byte_fate v.input.queue.0 (taker_of v k x.0) passed.calls).dropped (input_of (clients_of v) k (bytes_carried (passed.taken v.input.queue.0))) in
           subst (λ n. HaveNone (passed.sent n)) x.2 (each_first HasNone (passed.sent x.0.0) (map byte_cargo bytes) (cond (row.owner == k) row.owed [], whole) (bytes_none bytes))
 
   pub sender_on : (v : SerialVirtTx) → NameNothing naming (tx_ends v) → TxRow v passed → HandsOn naming m passed (tx_ends v)
