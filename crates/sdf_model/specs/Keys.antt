@@ -95,7 +95,7 @@ net_keys =
     (codes "driver" ∷ codes "rx_virt" ∷ codes "tx_virt" ∷ codes "rx_region" ∷ codes "rx_queues"
     ∷ codes "tx_queues" ∷ [])
     (all_of A.Number (codes "rx_buffers" ∷ codes "rx_capacity" ∷ codes "tx_capacity" ∷ [])
-    (all_of A.List (codes "client" ∷ []) []))
+    (all_of A.List (codes "client" ∷ []) (row (codes "device") A.Policy If.Hold ∷ [])))
 
 -- the keys of a network client
 abbrev pub net_client_keys : List Row
@@ -106,7 +106,8 @@ net_client_keys =
     (codes "lease_queues" ∷ codes "rx_region" ∷ codes "rx_queues" ∷ codes "tx_region"
     ∷ codes "tx_queues" ∷ [])
     (all_of A.Number
-    (codes "rx_buffers" ∷ codes "rx_capacity" ∷ codes "tx_buffers" ∷ codes "tx_capacity" ∷ []) [])))
+    (codes "rx_buffers" ∷ codes "rx_capacity" ∷ codes "tx_buffers" ∷ codes "tx_capacity" ∷ [])
+    (row (codes "policy") A.Policy If.Hold ∷ []))))
 
 -- the keys of the serial class
 abbrev pub serial_keys : List Row
@@ -121,7 +122,8 @@ serial_keys =
 abbrev pub serial_client_keys : List Row
 serial_client_keys =
     all_of A.Name (codes "pd" ∷ codes "rx_queues" ∷ codes "tx_queues" ∷ [])
-    (all_of A.Number (codes "rx_capacity" ∷ codes "tx_capacity" ∷ []) [])
+    (all_of A.Number (codes "rx_capacity" ∷ codes "tx_capacity" ∷ [])
+    (row (codes "policy") A.Policy If.Hold ∷ []))
 
 -- the keys of the block class
 abbrev pub blk_keys : List Row
@@ -222,6 +224,7 @@ is_kind A.Name d = holds is_name (as_str d)
 is_kind A.Text d = is_some (as_str d)
 is_kind A.Program d = holds (is_among programs) (as_str d)
 is_kind A.Trigger d = holds (is_among (codes "edge" ∷ codes "level" ∷ [])) (as_str d)
+is_kind A.Policy d = holds (is_among (codes "hold" ∷ codes "drop" ∷ [])) (as_str d)
 is_kind A.Truth d = is_some (as_bool d)
 is_kind A.List d = holds are_tables (as_array d)
 is_kind A.Pair d = holds is_pair (as_array d)

@@ -1,8 +1,11 @@
 -- The plan that a document spells, part by part, with every default filled in.
 use Rattle.std.specs.Prelude.{ℕ, ℤ, pos, negsuc, Bool, true, List, [], map, codes, Option, Some}
-use Rattle.std.specs.Prelude.{None, option_map, option_and_then, unwrap_or}
+use Rattle.std.specs.Prelude.{None, if◌then◌else◌, option_map, option_and_then, unwrap_or}
+use Rattle.std.specs.Str.{bytes_eq}
 use Rattle.toml.specs.Data.{Members, get_member, as_str, as_integer, as_bool}
 use Rattle.sdf_plan.specs.declared.plan.Plan.{Plan}
+use Rattle.sdf_plan.specs.declared.plan.Policy.{Policy}
+use Rattle.sdf_plan.specs.declared.plan.Policy.TheVariants as To
 use Rattle.sdf_plan.specs.declared.plan.Region.{Region}
 use Rattle.sdf_plan.specs.declared.plan.Domain.{Domain}
 use Rattle.sdf_plan.specs.declared.plan.Map.{Map}
@@ -50,6 +53,15 @@ number_at key t = number_or 0 key t
 -- the text at a required key
 abbrev pub text_at : List ℕ → Members → List ℕ
 text_at key t = text_or [] key t
+
+-- the policy that a text is: to drop where it says `drop`, and else to hold
+abbrev pub policy_of : Option (List ℕ) → Policy
+policy_of None = To.Hold
+policy_of (Some text) = if bytes_eq text (codes "drop") then To.Drop else To.Hold
+
+-- the policy at a key
+abbrev pub policy_at : List ℕ → Members → Policy
+policy_at key t = policy_of (text_if key t)
 
 -- the region that a table spells
 abbrev pub region_of : Members → Region
@@ -113,6 +125,7 @@ net_client_of t = record {
   rx_capacity = number_at (codes "rx_capacity") t;
   tx_buffers = number_at (codes "tx_buffers") t;
   tx_capacity = number_at (codes "tx_capacity") t;
+  policy = policy_at (codes "policy") t;
   rx_buffer_size = number_or 2048 (codes "rx_buffer_size") t;
   tx_buffer_size = number_or 2048 (codes "tx_buffer_size") t;
 }
@@ -130,6 +143,7 @@ net_of t = record {
   rx_capacity = number_at (codes "rx_capacity") t;
   tx_capacity = number_at (codes "tx_capacity") t;
   client = map net_client_of (tables_at (codes "client") t);
+  device = policy_at (codes "device") t;
   max_frame = number_or 1514 (codes "max_frame") t;
   rx_buffer_size = number_or 2048 (codes "rx_buffer_size") t;
 }
@@ -142,6 +156,7 @@ serial_client_of t = record {
   tx_queues = text_at (codes "tx_queues") t;
   rx_capacity = number_at (codes "rx_capacity") t;
   tx_capacity = number_at (codes "tx_capacity") t;
+  policy = policy_at (codes "policy") t;
 }
 
 -- the serial class that a table spells

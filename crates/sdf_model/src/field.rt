@@ -2,13 +2,14 @@
 ghost use Rattle.std.specs.Prelude.{◌≡◌, IfOk, map, option_map};
 ghost use Rattle.toml.specs.View.{table_view};
 ghost use Rattle.sdf_model.specs.Keys.{Row, row_of};
-ghost use Rattle.sdf_model.specs.Spelled.{number_if, text_if};
+ghost use Rattle.sdf_model.specs.Spelled.{number_if, text_if, policy_at};
 ghost use Rattle.sdf_model.specs.Fields.{number_in, text_in, truth_in};
 ghost use Rattle.sdf_model.specs.Tree.{tables_at, table_at};
 
 use crate::key::{Absent, BUDGET, Key};
 use crate::tree::{number_if, table_at, tables_at, text_if, truth_if};
 use cargo_core::{Memory, Series, Text};
+use sdf_plan::Policy;
 use std::alloc::Global;
 use toml::Table;
 
@@ -87,6 +88,17 @@ impl Field for bool {
         match truth_if(table, key.name) {
             Some(truth) => Ok(truth),
             None => Ok(key.absent == Absent::True),
+        }
+    }
+}
+
+impl Field for Policy {
+    ghost held = { λ key t. policy_at key.name t };
+
+    fn field(alloc: Global, table: &Table, key: &Key) -> Result<Policy, Memory> {
+        match text_if(table, key.name) {
+            Some(text) if text == "drop" => Ok(Policy::Drop),
+            _ => Ok(Policy::Hold),
         }
     }
 }

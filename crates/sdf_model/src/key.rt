@@ -13,6 +13,8 @@ pub enum Kind {
     Program,
     /// `edge` or `level`.
     Trigger,
+    /// `hold` or `drop`.
+    Policy,
     Truth,
     /// A list of tables.
     List,
@@ -32,6 +34,8 @@ pub enum Absent {
     True,
     /// The text `level`.
     Level,
+    /// The policy `hold`.
+    Hold,
     /// The number that the element's budget is.
     Budget,
 }
@@ -109,7 +113,7 @@ pub(crate) const END: [Key; 2] = keys! {
     id: Number, Absent::Refused;
 };
 
-pub(crate) const NET: [Key; 10] = keys! {
+pub(crate) const NET: [Key; 11] = keys! {
     driver: Name, Absent::Refused;
     rx_virt: Name, Absent::Refused;
     tx_virt: Name, Absent::Refused;
@@ -120,6 +124,7 @@ pub(crate) const NET: [Key; 10] = keys! {
     rx_capacity: Number, Absent::Refused;
     tx_capacity: Number, Absent::Refused;
     client: List, Absent::Refused;
+    device: Policy, Absent::Hold;
 };
 
 /// The keys that the network class has more in version 2.
@@ -128,7 +133,7 @@ pub(crate) const NET_MORE: [Key; 2] = keys! {
     rx_buffer_size: Number, Absent::Number(2048);
 };
 
-pub(crate) const NET_CLIENT: [Key; 12] = keys! {
+pub(crate) const NET_CLIENT: [Key; 13] = keys! {
     pd: Name, Absent::Refused;
     copier: Name, Absent::Refused;
     mac: Text, Absent::Refused;
@@ -141,6 +146,7 @@ pub(crate) const NET_CLIENT: [Key; 12] = keys! {
     rx_capacity: Number, Absent::Refused;
     tx_buffers: Number, Absent::Refused;
     tx_capacity: Number, Absent::Refused;
+    policy: Policy, Absent::Hold;
 };
 
 /// The keys that a network client has more in version 2.
@@ -160,12 +166,13 @@ pub(crate) const SERIAL: [Key; 8] = keys! {
     client: List, Absent::Refused;
 };
 
-pub(crate) const SERIAL_CLIENT: [Key; 5] = keys! {
+pub(crate) const SERIAL_CLIENT: [Key; 6] = keys! {
     pd: Name, Absent::Refused;
     rx_queues: Name, Absent::Refused;
     tx_queues: Name, Absent::Refused;
     rx_capacity: Number, Absent::Refused;
     tx_capacity: Number, Absent::Refused;
+    policy: Policy, Absent::Hold;
 };
 
 pub(crate) const BLK: [Key; 6] = keys! {

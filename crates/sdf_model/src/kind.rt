@@ -45,6 +45,9 @@ pub(crate) fn is_kind(value: &Value, kind: Kind) -> bool
         Kind::Trigger => value
             .as_str()
             .is_some_and(|s| is_among(&["edge", "level"], s)),
+        Kind::Policy => value
+            .as_str()
+            .is_some_and(|s| is_among(&["hold", "drop"], s)),
         Kind::Truth => value.is_bool(),
         Kind::List => value.as_array().is_some_and(|items| are_tables(items)),
         Kind::Pair => value.as_array().is_some_and(|items| is_pair(items)),

@@ -9,6 +9,6 @@ mod plan;
 pub use place::{Place, Refusal, SdfFault};
 pub use places::places_of;
 pub use plan::{
-    Blk, BlkClient, Channel, Domain, End, Irq, Map, Net, NetClient, Plan, Region, Serial,
+    Blk, BlkClient, Channel, Domain, End, Irq, Map, Net, NetClient, Plan, Policy, Region, Serial,
     SerialClient,
 };

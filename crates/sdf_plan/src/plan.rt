@@ -68,8 +68,17 @@ pub struct End {
     pub id: u64,
 }
 
-/// The network class. A text of version 1 has no key for `max_frame` and for the sizes of buffers,
-/// in bytes, here and at a client: they are 1,514 and 2,048 there.
+/// What is done with what comes where there is no buffer and no room for it: it waits, or it is
+/// dropped.
+#[derive(Clone, Copy, Debug, PartialEq, Eq)]
+pub enum Policy {
+    Hold,
+    Drop,
+}
+
+/// The network class. `device` is what the Ethernet device does with a frame. A text of version 1
+/// has no key for `max_frame` and for the sizes of buffers, in bytes, here and at a client: they are
+/// 1,514 and 2,048 there.
 #[derive(Debug, Drop)]
 pub struct Net {
     pub driver: Text,
@@ -82,11 +91,12 @@ pub struct Net {
     pub rx_capacity: u64,
     pub tx_capacity: u64,
     pub client: Series<NetClient>,
+    pub device: Policy,
     pub max_frame: u64,
     pub rx_buffer_size: u64,
 }
 
-/// A client of the network class.
+/// A client of the network class. `policy` is what its copier does with a frame.
 #[derive(Debug, Drop)]
 pub struct NetClient {
     pub pd: Text,
@@ -101,6 +111,7 @@ pub struct NetClient {
     pub rx_capacity: u64,
     pub tx_buffers: u64,
     pub tx_capacity: u64,
+    pub policy: Policy,
     pub rx_buffer_size: u64,
     pub tx_buffer_size: u64,
 }
@@ -118,7 +129,8 @@ pub struct Serial {
     pub client: Series<SerialClient>,
 }
 
-/// A client of the serial class.
+/// A client of the serial class. `policy` is what the receiving virtualiser does with a byte for
+/// it.
 #[derive(Debug, Drop)]
 pub struct SerialClient {
     pub pd: Text,
@@ -126,6 +138,7 @@ pub struct SerialClient {
     pub tx_queues: Text,
     pub rx_capacity: u64,
     pub tx_capacity: u64,
+    pub policy: Policy,
 }
 
 /// The block class.

@@ -4,7 +4,7 @@ ghost use Rattle.sdf_plan.specs.Elements.{IsNumbered};
 
 use cargo_core::{Memory, Series, Text};
 use class_table::{Classes, classes_of};
-use sdf_plan::{Plan, Serial, SerialClient};
+use sdf_plan::{Plan, Policy, Serial, SerialClient};
 use std::alloc::Global;
 use std::process::Abort;
 
@@ -23,6 +23,7 @@ fn plan(rt: &impl Abort, alloc: Global) -> Plan
         tx_queues: text(rt, alloc, "txq0"),
         rx_capacity: 8,
         tx_capacity: 32,
+        policy: Policy::Hold,
     };
     clients.push(client).expect(rt, "memory");
     Plan {
