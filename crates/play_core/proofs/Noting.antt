@@ -1,8 +1,8 @@
 -- Names that are kept in the order of the puts.
-use Rattle.std.proofs.Common.{◌≡◌, ◌≢◌, ◌⊎◌, ◌==◌, ◌≤◌, ℕ, Bool, true, false, cond, Option, Some, None, List, [], ◌∷◌, ◌++◌, length, map, refl, sym, ap, ap₂, ◌∙◌, subst, arith, inl, inr}
+use Rattle.std.proofs.Common.{◌≡◌, ◌≢◌, ◌⊎◌, ◌==◌, ◌≤◌, ℕ, Bool, true, false, cond, Option, Some, None, List, [], ◌∷◌, ◌++◌, length, map, refl, sym, ap, ap₂, ◌∙◌, arith, inl, inr}
 use Rattle.std.proofs.Math.Dec.{eqb}
 use Rattle.std.proofs.lemmas.Bool.Decides.{eqb_tells}
-use Rattle.std.proofs.lemmas.List.{append-nil, map-append}
+use Rattle.std.proofs.lemmas.List.{map-append}
 use Rattle.cargo_core.specs.Lists.{IsPrefix}
 use Rattle.cargo_core.specs.declared.item.Item.{Item}
 use Rattle.cargo_core.specs.declared.item.Body.{Body}
@@ -10,7 +10,7 @@ use Rattle.wire_core.specs.declared.names.Op.{Op}
 use Rattle.wire_core.specs.declared.names.Op.TheVariants as Do
 use Rattle.wire_core.specs.Deeds.{Cargo, Deed, cargo_of, joined}
 use Rattle.wire_core.specs.Lists.{Passed, if_put, if_there, nothing_passed, put_by, with_deed}
-use Rattle.play_core.specs.Names.{AreNoted, GrowsTo, Name, Names, Noted, Wild, name_of, names_at, names_of, notes_of, told_by}
+use Rattle.play_core.specs.Names.{AreNoted, GrowsTo, Name, Noted, Wild, name_of, names_of, notes_of, told_by}
 
 told_append : (xs ys : List Noted) (n : ℕ) → told_by (xs ++ ys) n ≡ told_by xs n ++ told_by ys n
 told_append [] ys n = refl

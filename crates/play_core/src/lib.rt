@@ -21,6 +21,7 @@ ghost use Rattle.play_core.specs.Totals.{total};
 ghost use Rattle.play_core.specs.Still.{IsQuiet, IsStill, Needs, Owes};
 
 pub mod growing;
+pub mod looks;
 pub mod picks;
 pub mod rests;
 
