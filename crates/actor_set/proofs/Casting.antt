@@ -10,7 +10,7 @@ use Rattle.turn_kit.specs.Turns.{Round, Turned}
 use Rattle.turn_kit.specs.declared.pipe.Pipe.{Pipe}
 use Rattle.pipe_driver.specs.Drivers.{PipesStandFor, PipesRow, PipesBalance}
 use Rattle.pipe_driver.specs.Lengths.{two_pipes}
-use Rattle.serial_virt.specs.Receiving.{HoldingRxStands, HoldingRxRow, RxBalances}
+use Rattle.serial_virt.specs.Receiving.{RxStandsFor, RxRow, RxBalances, rx_queues}
 use Rattle.serial_virt.specs.declared.rx.SerialVirtRx.{SerialVirtRx}
 use Rattle.serial_virt.specs.Sending.{TxStandsFor, TxRow, TxBalances}
 use Rattle.serial_virt.specs.declared.tx.SerialVirtTx.{SerialVirtTx}
@@ -49,7 +49,7 @@ ok_actor S did w v old new a a' (Ok e) was is st = as_actor S did w v old new a 
 ok_actor S did w v old new a a' (Err m) was is st = st
 
 -- the row of each kind is that of an actor
-pub rows : ((x : Terminal) (p : Passed) → TerminalStandsFor x p → TerminalRow x p) → ((ps : List Pipe) (p : Passed) → PipesStandFor ps p → PipesRow ps p) → ((x : SerialVirtRx) (p : Passed) → HoldingRxStands x p → HoldingRxRow x p) → ((x : SerialVirtTx) (p : Passed) → TxStandsFor x p → TxRow x p)
+pub rows : ((x : Terminal) (p : Passed) → TerminalStandsFor x p → TerminalRow x p) → ((ps : List Pipe) (p : Passed) → PipesStandFor ps p → PipesRow ps p) → ((x : SerialVirtRx) (p : Passed) → RxStandsFor x p → RxRow x p) → ((x : SerialVirtTx) (p : Passed) → TxStandsFor x p → TxRow x p)
     → ((x : EthDevice) (p : Passed) → HoldingDeviceStands x p → HoldingDeviceRow x p) → ((x : NetVirtRx) (p : Passed) → NetRxStandsFor x p → NetRxRow x p) → ((x : NetCopier) (p : Passed) → HoldingCopierStands x p → HoldingCopierRow x p) → ((x : NetClient) (p : Passed) → ClientStandsFor x p → ClientRow x p) → ((x : NetVirtTx) (p : Passed) → NetTxStandsFor x p → NetTxRow x p)
     → ((start : List ℕ) (x : DiskDevice) (p : Passed) → DiskStandsFor start x p → DiskRow start x p) → ((x : BlkVirt) (p : Passed) → BlkVirtStandsFor x p → BlkVirtRow x p) → ((x : BlkClient) (p : Passed) → BlkClientStandsFor x p → BlkClientRow x p)
     → (a : Actor) (p : Passed) → ActorStandsFor a p → ActorRow a p
@@ -71,7 +71,7 @@ rows terminal driver rx tx device lender copier client sender disk server asker 
 rows terminal driver rx tx device lender copier client sender disk server asker (Kinds.Rogue x) p h = tt
 
 -- and so is its balance
-pub balances : ((x : Terminal) (p : Passed) → TerminalStandsFor x p → TerminalBalances x p) → ((ps : List Pipe) (p : Passed) → PipesStandFor ps p → PipesBalance ps p) → ((x : SerialVirtRx) (p : Passed) → HoldingRxStands x p → RxBalances x p) → ((x : SerialVirtTx) (p : Passed) → TxStandsFor x p → TxBalances x p)
+pub balances : ((x : Terminal) (p : Passed) → TerminalStandsFor x p → TerminalBalances x p) → ((ps : List Pipe) (p : Passed) → PipesStandFor ps p → PipesBalance ps p) → ((x : SerialVirtRx) (p : Passed) → RxStandsFor x p → RxBalances x p) → ((x : SerialVirtTx) (p : Passed) → TxStandsFor x p → TxBalances x p)
     → ((x : EthDevice) (p : Passed) → HoldingDeviceStands x p → DeviceBalances x p) → ((x : NetVirtRx) (p : Passed) → NetRxStandsFor x p → NetRxBalances x p) → ((x : NetCopier) (p : Passed) → HoldingCopierStands x p → CopierBalances x p) → ((x : NetClient) (p : Passed) → ClientStandsFor x p → ClientBalances x p) → ((x : NetVirtTx) (p : Passed) → NetTxStandsFor x p → NetTxBalances x p)
     → ((start : List ℕ) (x : DiskDevice) (p : Passed) → DiskStandsFor start x p → DiskBalances x p) → ((x : BlkVirt) (p : Passed) → BlkVirtStandsFor x p → BlkVirtBalances x p) → ((x : BlkClient) (p : Passed) → BlkClientStandsFor x p → BlkClientBalances x p) → ((x : Rogue) (p : Passed) → RogueStandsFor x p → RogueBalances x p)
     → (a : Actor) (p : Passed) → ActorStandsFor a p → ActorBalances a p
@@ -111,6 +111,14 @@ few_still old new same few =
 -- and the same own buffer
 pub first_still : (old new : BlkVirt) → SameBlkVirt old new → HasFirst old → HasFirst new
 first_still old new same first = ap (λ o. o.no) same.work.own ∙ first
+
+-- a receiving virtualiser of the serial class with the same queues and policies has the same part
+pub rx_part : (old new : SerialVirtRx) → rx_queues new ≡ rx_queues old → new.drops.items ≡ old.drops.items → part_of (Kinds.SerialVirtRx new) ≡ part_of (Kinds.SerialVirtRx old)
+rx_part old new queues drops = ap (λ qs. as_part qs new.drops.items) queues ∙ ap (as_part (rx_queues old)) drops
+  where
+    as_part : List QueueId → List Bool → Part
+    as_part [] ds = RxPart 0 [] ds
+    as_part (q ∷ qs) ds = RxPart q.0 (numbers qs) ds
 
 -- a turn of an actor that waits everywhere is one of its rounds where nothing is dropped
 pub turned_held : (r r' n n' : Round) (e : Event) → r ≡ r' → n ≡ n' → Turned r e n → Turned r' e n'

@@ -11,7 +11,10 @@ pub mod PartEnds
 pub mod Rounds
 pub mod Rows
 pub mod Rests
+pub mod Alike
+pub mod RxBeside
 pub mod Beside
+pub mod Dropping
 pub mod Paces
 pub mod Starts
 pub mod BlkRows

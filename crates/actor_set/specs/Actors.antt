@@ -1,19 +1,20 @@
 -- What is said of an actor of any kind: one case for each kind.
-use Rattle.std.specs.Prelude.{◌≡◌, ◌+◌, ◌-◌, ◌<◌, ◌^◌, ◌==◌, if◌then◌else◌, ℕ, Bool, false}
+use Rattle.std.specs.Prelude.{◌≡◌, ◌+◌, ◌-◌, ◌<◌, ◌^◌, ◌==◌, if◌then◌else◌, ℕ, Bool, true, false}
 use Rattle.std.specs.Prelude.{List, [], length, map, All}
+use Rattle.std.specs.List.{filter}
 use Rattle.cargo_core.specs.declared.item.Body.{Body}
 use Rattle.wire_core.specs.Lists.{Passed}
 use Rattle.wire_core.specs.Ends.{Role, End, role_of}
 use Rattle.wire_core.specs.declared.names.Event.{Event}
+use Rattle.wire_core.specs.Queues.{is_store}
 use Rattle.turn_kit.specs.Turns.{Round, Turned, is_at_rest}
 use Rattle.turn_kit.specs.Hands.{bodies_of}
 use Rattle.device_model.specs.SerialTerminal.Terminals.{FitsTerminal, TerminalStandsFor}
 use Rattle.device_model.specs.SerialTerminal.Terminals.{TerminalRow, TerminalBalances, TerminalEnd}
 use Rattle.device_model.specs.SerialTerminal.Terminals.{terminal_round, terminal_hand}
 use Rattle.device_model.specs.SerialTerminal.Terminals.{terminal_forgotten}
-use Rattle.serial_virt.specs.Shares.{AllHold}
-use Rattle.serial_virt.specs.Receiving.{FitsRx, HoldingRxStands, HoldingRxRow, RxBalances, RxEnd}
-use Rattle.serial_virt.specs.Receiving.{RxForgot, holding_rx_round, rx_hand}
+use Rattle.serial_virt.specs.Receiving.{FitsRx, RxStandsFor, RxRow, RxBalances, RxEnd}
+use Rattle.serial_virt.specs.Receiving.{RxForgot, rx_round, rx_hand}
 use Rattle.serial_virt.specs.Sending.{FitsTx, TxStandsFor, TxRow, TxBalances, TxEnd, TxForgot}
 use Rattle.serial_virt.specs.Sending.{tx_round, tx_hand}
 use Rattle.turn_kit.specs.ManyEnds.{intake_queues, outlet_queues}
@@ -81,13 +82,13 @@ HasFewClients v = length v.work.desk.clients.items < 2 ^ 31 - 2
 abbrev pub HasFirst : BlkVirt → Type 0
 HasFirst v = v.work.opening.own.no ≡ 0
 
--- the actor's ends are its own, and as it keeps them; none of those that may drop does; a network
--- client's own buffers begin at offset 0, and a block virtualiser has few clients and the first
--- buffer of its pool
+-- the actor's ends are its own, and as it keeps them; no Ethernet device and no copier drops; a
+-- network client's own buffers begin at offset 0, and a block virtualiser has few clients and the
+-- first buffer of its pool
 abbrev pub FitsActor : (Role → ℕ → End) → Actor → Type 0
 FitsActor ends (Kinds.UartDevice x) = FitsTerminal ends x.terminal
 FitsActor ends (Kinds.UartDriver x) = FitsPipes ends (two_pipes x.driver.pipes)
-FitsActor ends (Kinds.SerialVirtRx x) = FitsRx ends x × AllHold x.drops.items
+FitsActor ends (Kinds.SerialVirtRx x) = FitsRx ends x
 FitsActor ends (Kinds.SerialVirtTx x) = FitsTx ends x
 FitsActor ends (Kinds.SerialClient x) = FitsTerminal ends x.terminal
 FitsActor ends (Kinds.EthDevice x) = FitsDevice ends x × (x.drops ≡ false)
@@ -106,7 +107,7 @@ FitsActor ends (Kinds.Rogue x) = FitsRogue ends x
 abbrev pub ActorStandsFor : Actor → Passed → Type 0
 ActorStandsFor (Kinds.UartDevice x) passed = TerminalStandsFor x.terminal passed
 ActorStandsFor (Kinds.UartDriver x) passed = PipesStandFor (two_pipes x.driver.pipes) passed
-ActorStandsFor (Kinds.SerialVirtRx x) passed = HoldingRxStands x passed
+ActorStandsFor (Kinds.SerialVirtRx x) passed = RxStandsFor x passed
 ActorStandsFor (Kinds.SerialVirtTx x) passed = TxStandsFor x passed
 ActorStandsFor (Kinds.SerialClient x) passed = TerminalStandsFor x.terminal passed
 ActorStandsFor (Kinds.EthDevice x) passed = HoldingDeviceStands x passed
@@ -125,7 +126,7 @@ ActorStandsFor (Kinds.Rogue x) passed = RogueStandsFor x passed
 abbrev pub ActorRow : Actor → Passed → Type 0
 ActorRow (Kinds.UartDevice x) passed = TerminalRow x.terminal passed
 ActorRow (Kinds.UartDriver x) passed = PipesRow (two_pipes x.driver.pipes) passed
-ActorRow (Kinds.SerialVirtRx x) passed = HoldingRxRow x passed
+ActorRow (Kinds.SerialVirtRx x) passed = RxRow x passed
 ActorRow (Kinds.SerialVirtTx x) passed = TxRow x passed
 ActorRow (Kinds.SerialClient x) passed = TerminalRow x.terminal passed
 ActorRow (Kinds.EthDevice x) passed = HoldingDeviceRow x passed
@@ -179,6 +180,14 @@ ActorEnd (Kinds.BlkVirt x) r n = BlkVirtEnd x r n
 ActorEnd (Kinds.BlkClient x) r n = BlkClientEnd x r n
 ActorEnd (Kinds.Rogue x) r n = RogueEnd x r n
 
+-- an actor did the same by these calls as by those: without calls that are at none of its ends, and
+-- without stores, they are the same
+pub record ActsAlike (a : Actor) (old new : List Event) : Type 0 where
+  pub own : Event → Bool
+  pub others : (e : Event) → own e ≡ false → ActorEnd a (role_of e.op) e.queue.0
+      → is_store e.op ≡ true
+  pub same : filter own new ≡ filter own old
+
 -- what a receiving virtualiser keeps fits together: it has one queue each way for each client
 pub record IsWholeReceiver (v : NetVirtRx) : Type 0 where
   pub work : IsSharer v.work
@@ -224,7 +233,7 @@ IsWhole (Kinds.Rogue x) = IsRogue x
 abbrev pub actor_round : Actor → Round
 actor_round (Kinds.UartDevice x) = terminal_round x.terminal
 actor_round (Kinds.UartDriver x) = pipes_round (two_pipes x.driver.pipes) x.driver.turn.last
-actor_round (Kinds.SerialVirtRx x) = holding_rx_round x
+actor_round (Kinds.SerialVirtRx x) = rx_round x
 actor_round (Kinds.SerialVirtTx x) = tx_round x
 actor_round (Kinds.SerialClient x) = terminal_round x.terminal
 actor_round (Kinds.EthDevice x) = holding_device_round x
@@ -245,7 +254,7 @@ abbrev pub actor_rests : Actor → Bool
 actor_rests (Kinds.UartDevice x) = is_at_rest (terminal_round x.terminal)
 actor_rests (Kinds.UartDriver x) = is_at_rest (pipes_round
     (two_pipes x.driver.pipes) x.driver.turn.last)
-actor_rests (Kinds.SerialVirtRx x) = is_at_rest (holding_rx_round x)
+actor_rests (Kinds.SerialVirtRx x) = is_at_rest (rx_round x)
 actor_rests (Kinds.SerialVirtTx x) = is_at_rest (tx_round x)
 actor_rests (Kinds.SerialClient x) = is_at_rest (terminal_round x.terminal)
 actor_rests (Kinds.EthDevice x) = is_at_rest (holding_device_round x)
@@ -272,7 +281,7 @@ abbrev pub ActorTurned : Actor → Event → Actor → Type 0
 ActorTurned (Kinds.UartDevice x) e y = Turned (terminal_round x.terminal) e (actor_round y)
 ActorTurned (Kinds.UartDriver x) e y =
     Turned (pipes_round (two_pipes x.driver.pipes) x.driver.turn.last) e (actor_round y)
-ActorTurned (Kinds.SerialVirtRx x) e y = Turned (holding_rx_round x) e (actor_round y)
+ActorTurned (Kinds.SerialVirtRx x) e y = Turned (rx_round x) e (actor_round y)
 ActorTurned (Kinds.SerialVirtTx x) e y = Turned (tx_round x) e (actor_round y)
 ActorTurned (Kinds.SerialClient x) e y = Turned (terminal_round x.terminal) e (actor_round y)
 ActorTurned (Kinds.EthDevice x) e y = Turned (holding_device_round x) e (actor_round y)
@@ -334,7 +343,8 @@ part_of (Kinds.UartDevice x) =
 part_of (Kinds.UartDriver x) =
     DriverPart x.driver.pipes.first.input.queue.0 x.driver.pipes.rest.output.queue.0
     x.driver.pipes.first.output.queue.0 x.driver.pipes.rest.input.queue.0
-part_of (Kinds.SerialVirtRx x) = RxPart x.input.queue.0 (numbers (outlet_queues x.outputs))
+part_of (Kinds.SerialVirtRx x) =
+    RxPart x.input.queue.0 (numbers (outlet_queues x.outputs)) x.drops.items
 part_of (Kinds.SerialVirtTx x) = TxPart x.output.queue.0 (numbers (intake_queues x.inputs))
 part_of (Kinds.SerialClient x) =
     ClientPart x.terminal.input.queue.0 x.terminal.output.queue.0 x.terminal.script

@@ -1,6 +1,6 @@
 -- Actors in their start state, and the ends that rows give them.
 use Rattle.std.specs.Prelude.{◌≡◌, ◌+◌, ◌-◌, ◌<◌, ◌^◌, ◌==◌, if◌then◌else◌, ℕ, Some, List, All}
-use Rattle.std.specs.Prelude.{length, map, slice_get, false}
+use Rattle.std.specs.Prelude.{length, slice_get, false}
 use Rattle.cargo_core.specs.declared.item.QueueKind.{QueueKind}
 use Rattle.cargo_core.specs.declared.item.QueueKind.TheVariants as Kind
 use Rattle.cargo_core.specs.Pages.{Paged}
@@ -13,6 +13,7 @@ use Rattle.turn_kit.specs.ManyEnds.{AreApart, intake_queues, outlet_queues}
 use Rattle.turn_kit.specs.Pipes.{IsNewPipe}
 use Rattle.device_model.specs.SerialTerminal.Terminals.{IsNewTerminal}
 use Rattle.serial_virt.specs.Receiving.{IsNewRx}
+use Rattle.serial_virt.specs.declared.rx.SerialVirtRx.{SerialVirtRx}
 use Rattle.serial_virt.specs.Sending.{IsNewTx}
 use Rattle.pipe_driver.specs.Drivers.{EachPipe, AreDistinct, inputs_of, outputs_of}
 use Rattle.eth_driver.specs.Four.{four_pipes}
@@ -44,6 +45,11 @@ use Rattle.blk_virt.specs.declared.virtualiser.BlkVirt.{BlkVirt}
 use Rattle.actor_set.specs.Actors.{ActorEnd, HasFewClients, HasFirst}
 use Rattle.actor_set.specs.declared.actor.Actor.{Actor}
 use Rattle.actor_set.specs.declared.actor.Actor.TheVariants as Kinds
+
+-- a receiving virtualiser of the serial class in its start state; each of its clients has its policy
+pub record IsNewSharer (v : SerialVirtRx) : Type 0 where
+  pub new : IsNewRx v.input.queue (outlet_queues v.outputs) v.drops.items v
+  pub policies : length v.drops.items ≡ length (outlet_queues v.outputs)
 
 -- an Ethernet device in its start state, each of whose frames has at most 65,535 bytes
 pub record IsNewReceiving (d : EthDevice) : Type 0 where
@@ -106,9 +112,7 @@ IsNew (Kinds.UartDriver x) =
     x.driver.pipes.first
     × IsNewPipe x.driver.pipes.rest.input.queue x.driver.pipes.rest.output.queue
     x.driver.pipes.rest
-IsNew (Kinds.SerialVirtRx x) =
-    IsNewRx x.input.queue (outlet_queues x.outputs)
-    (map (λ q. false) (outlet_queues x.outputs)) x
+IsNew (Kinds.SerialVirtRx x) = IsNewSharer x
 IsNew (Kinds.SerialVirtTx x) = IsNewTx x.output.queue (intake_queues x.inputs) x
 IsNew (Kinds.EthDevice x) = IsNewReceiving x
 IsNew (Kinds.EthDriver x) =

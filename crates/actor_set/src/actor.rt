@@ -216,7 +216,7 @@ pub fn row_law()
 {
     device_model::serial_terminal::row_law();
     pipe_driver::row_law();
-    serial_virt::rx_drop_law();
+    serial_virt::rx_row_law();
     serial_virt::tx_row_law();
     device_model::ethernet::drop_law();
     net_virt_rx::row_law();
@@ -235,7 +235,7 @@ pub fn hand_law()
 {
     device_model::serial_terminal::hand_law();
     pipe_driver::hand_law();
-    serial_virt::rx_drop_law();
+    serial_virt::rx_hand_law();
     serial_virt::tx_hand_law();
     device_model::ethernet::drop_law();
     net_virt_rx::hand_law();

@@ -1,7 +1,7 @@
 //! The actors of all kinds and what is said of their parts, tied to one another apart from any
 //! system: what an actor keeps and does is what its sheet says of it.
 
-ghost use Rattle.std.specs.Prelude.{◌≡◌, ◌⊎◌, ℕ, true, false, Some, List, length, slice_get};
+ghost use Rattle.std.specs.Prelude.{◌≡◌, ◌⊎◌, ℕ, true, Some, List, length, slice_get};
 ghost use Rattle.cargo_core.specs.declared.item.PoolId.{PoolId};
 ghost use Rattle.cargo_core.specs.Bodies.{buffers_of};
 ghost use Rattle.wire_core.specs.declared.names.QueueRow.{QueueRow};
@@ -21,12 +21,12 @@ ghost use Rattle.play_core.specs.Sheets.{Scene, IsOwn, AreApart};
 ghost use Rattle.actor_set.specs.Parts.{Part};
 ghost use Rattle.actor_set.specs.Actors.{FitsActor, ActorStandsFor, ActorEnd, ActorTurned, IsWhole};
 ghost use Rattle.actor_set.specs.Actors.{actor_round, actor_rests, actor_hand, part_of};
-ghost use Rattle.actor_set.specs.Actors.{part_anew, IsActorCall};
+ghost use Rattle.actor_set.specs.Actors.{part_anew, ActsAlike, IsActorCall};
 ghost use Rattle.actor_set.specs.declared.actor.Actor.{Actor};
 ghost use Rattle.actor_set.specs.declared.actor.Actor.TheVariants as Kinds;
 ghost use Rattle.client_programs.specs.declared.rogue.Rogue.{Rogue};
 ghost use Rattle.client_programs.specs.Rogue.Clients.{Acted, SameRogue};
-ghost use Rattle.actor_set.specs.Laws.Kinds.{part_kind, sheet, manner_of};
+ghost use Rattle.actor_set.specs.Laws.Kinds.{part_kind, sheet, manner_of, drop_seats, has_seat};
 ghost use Rattle.actor_set.specs.Laws.Records.{record_of, record_by, frames_got, frames_by};
 ghost use Rattle.actor_set.specs.Laws.Records.{replies_got, replies_by};
 ghost use Rattle.actor_set.specs.Laws.Turning.{InTurn};
@@ -37,7 +37,7 @@ ghost use Rattle.play_core.specs.Rests.Showing.{HaveItems, HaveBells};
 /// turn, its sheet's row holds of their items, and, where it isn't hostile, it is at rest exactly
 /// where all that its sheet wants is settled; whatever came, it recorded what its lists say. Its
 /// ends are its sheet's, which speaks of no others; where nothing changes at them, it fits them as
-/// before and stands for the same lists.
+/// before, and where it did the same by its calls, it stands for the same lists.
 pub fn actor_law()
     ensures row { (scene : Scene) (a : Actor) (passed : Passed) (m : Moved)
         → InTurn scene a passed → ActorStandsFor a passed → HaveItems passed m
@@ -65,15 +65,16 @@ pub fn actor_law()
         → ((r : Role) (n : ℕ) → ActorEnd a r n → new r n ≡ old r n)
         → FitsActor old a → FitsActor new a }
     ensures stands_on { (old new : Passed) (a : Actor) → IsWhole a
+        → ActsAlike a old.calls new.calls
         → ((n : ℕ) → ActorEnd a Consumer n → new.taken n ≡ old.taken n)
         → ((n : ℕ) → ActorEnd a Producer n → new.sent n ≡ old.sent n)
         → ActorStandsFor a old → ActorStandsFor a new }
 {}
 
-/// An actor of any kind that isn't hostile takes its ends in turn, each with no drop, and each of
-/// its calls is at one of them; and where one of the notifications that the rows give it is
-/// pending, it is so at one of these ends. All others are hostile clients, which take their acts in
-/// turn.
+/// An actor of any kind that isn't hostile takes its ends in turn, and drops at those alone at which
+/// its part does; each of its calls is at one of them; and where one of the notifications that the
+/// rows give it is pending, it is so at one of these ends. All others are hostile clients, which
+/// take their acts in turn.
 pub fn turn_law()
     ensures turned { (old : Actor) (e : Event) (new : Actor) → manner_of (part_of old) ≡ Calm
         → ActorTurned old e new → Turned (actor_round old) e (actor_round new) }
@@ -87,7 +88,13 @@ pub fn turn_law()
         ⊎ ((r : Rogue) × (a ≡ Kinds.Rogue r)) }
     ensures anew { (a : Actor) → manner_of (part_of a) ≡ Calm → part_anew a ≡ part_of a }
     ensures ends { (a : Actor) (k : ℕ) (p : Post) → slice_get (actor_round a).posts k ≡ Some p
-        → ActorEnd a (waiting_role p.side) p.queue × (p.drops ≡ false) }
+        → ActorEnd a (waiting_role p.side) p.queue }
+    ensures drops { (a : Actor) (k : ℕ) (p : Post) → HasApartEnds a
+        → slice_get (actor_round a).posts k ≡ Some p
+        → p.drops ≡ has_seat (drop_seats (part_of a)) (waiting_role p.side) p.queue }
+    ensures drop_ends { (p : Part) (r : Role) (n : ℕ) → has_seat (drop_seats p) r n ≡ true
+        → (scene : Scene) → (i : ℕ) × (slice_get (sheet scene p).ends i
+        ≡ Some (record { queue = n; role = r })) }
     ensures called { (k : ℕ) (a : Actor) (history : History) (rows : List QueueRow)
         (journal : List Entry) → manner_of (part_of a) ≡ Calm
         → ((n : ℕ) (row : QueueRow) → slice_get rows n ≡ Some row

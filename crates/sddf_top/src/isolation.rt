@@ -8,12 +8,14 @@ ghost use Rattle.system_core.specs.Reports.{report_of};
 ghost use Rattle.system_core.specs.Isolation.{net_expected, serial_expected, blk_expected};
 ghost use Rattle.system_core.specs.Isolation.{AgreeOnNet, AgreeOnSerial, AgreeOnBlk, AreOfOneList};
 ghost use Rattle.system_core.specs.Isolation.{NetRests, SerialRests, BlkRests};
+ghost use Rattle.system_core.specs.Isolation.{AreOfOneBut, may_drop};
 ghost use Rattle.sddf_top.specs.Isolation.{AnswersOn};
 
 /// Of two answers of `serve` or `serve_alone`, to `play`, `gen` or `run`: where their plans and
 /// traces agree in what determines a client, the records of it that their reports show are of the
 /// one list that it must get by the first, whoever else is hostile. Both are beginnings of it, and
-/// each is all of it where its report says `quiet` and no client of its class is hostile there.
+/// each is all of it where its report says `quiet` and no client of its class is hostile there; but
+/// of a serial client whose bytes may be dropped a record is what is left of that list in its order.
 /// What determines a client is what `system_core::isolation_law` says.
 pub fn isolation_law()
     ensures net { (plan other : Plan) (trace told : Trace) (s t : System) (c d : ℕ)
@@ -26,8 +28,8 @@ pub fn isolation_law()
         → AgreeOnSerial plan trace other told c
         → slice_get (report_of s).serial c ≡ Some got
         → slice_get (report_of t).serial c ≡ Some seen
-        → AreOfOneList (serial_expected plan trace c) (SerialRests plan s) got
-        (SerialRests other t) seen }
+        → AreOfOneBut (serial_expected plan trace c) (may_drop plan c) (SerialRests plan s) got
+        (may_drop other c) (SerialRests other t) seen }
     ensures blk { (plan other : Plan) (trace told : Trace) (s t : System) (c d : ℕ)
         (got seen : List Reply) → AnswersOn plan trace s → AnswersOn other told t
         → AgreeOnBlk plan trace c other told d

@@ -14,7 +14,7 @@ use Rattle.actor_set.specs.Actors.{part_anew, part_of, actor_rests}
 use Rattle.actor_set.specs.Laws.Kinds.{AllCalm, manner_of}
 use Rattle.actor_set.specs.Parts.{Part}
 use Rattle.order_law.specs.ActorParts.Parting.{Apart, AreApart}
-use Rattle.order_law.specs.ActorParts.Opened.{HaveNothing}
+use Rattle.order_law.specs.ActorParts.Opened.{HaveNothing, AreAsOpened}
 use Rattle.order_law.specs.ActorParts.Going.{HasGone}
 use Rattle.order_law.specs.ActorParts.Finished.{OwnEnd}
 use Rattle.order_law.specs.Ended.Tracks.{TellsEnds}
@@ -22,13 +22,15 @@ use Rattle.system_core.specs.Shows.{Setting, Shown, hostile_in, sheet_in, moved_
 use Rattle.system_core.specs.Lawful.{IsFitted}
 use Rattle.system_core.specs.Builds.{BeginsAnew}
 
--- actors apart came, call by call, from those of a system in its start state that was taken apart
+-- actors apart came, call by call, from those of a system in its start state that was taken apart,
+-- where each end was as its ring was opened
 pub record HaveComeFrom (s : Setting) (rings : List RingIs) (parts : List Apart) : Type 0 where
   pub begins : BeginsAnew s
   pub fitted : IsFitted s
   pub olds : List Apart
   pub before : AreApart s.rows rings olds
   pub nothing : HaveNothing olds
+  pub opened : AreAsOpened s.rows olds
   pub cast : map (λ (p : Apart). part_of p.actor) olds ≡ s.cast
   pub many : length parts ≡ length olds
   pub after : AreApart s.rows rings parts

@@ -36,7 +36,7 @@ bad_of_block passed (BlkClient req resp asks pool) = 0
 abbrev pub bad_by : Passed → Part → ℕ
 bad_by passed (UartPart rx tx input) = 0
 bad_by passed (DriverPart device_rx device_tx rx tx) = 0
-bad_by passed (RxPart rx clients) = 0
+bad_by passed (RxPart rx clients drops) = 0
 bad_by passed (TxPart tx clients) = 0
 bad_by passed (ClientPart rx tx script) = 0
 bad_by passed (NetworkPart p) = 0

@@ -1,16 +1,18 @@
 -- What a client of each class must get, what the plans and the traces of two systems have to agree
 -- in for it, all that its records follow from, and what is then said of its two records.
-use Rattle.std.specs.Prelude.{◌≡◌, ◌<◌, ℕ, true, List, length}
+use Rattle.std.specs.Prelude.{◌≡◌, ◌<◌, ℕ, Bool, true, false, List, length}
 use Rattle.cargo_core.specs.Lists.{IsPrefix}
 use Rattle.cargo_core.specs.declared.item.Reply.{Reply}
+use Rattle.wire_core.specs.Fates.{without}
 use Rattle.sdf_plan.specs.declared.plan.Plan.{Plan}
 use Rattle.trace_text.specs.declared.trace.Trace.{Trace}
 use Rattle.trace_text.specs.Events.{net_clients, serial_clients, blk_clients}
 use Rattle.net_expect.specs.Expecting.{frames_for}
 use Rattle.serial_switch.specs.Switching.{input_of}
+use Rattle.serial_virt.specs.Shares.{policy_at}
 use Rattle.expect_core.specs.Expected.{client_asks, client_entry, replies_in}
 use Rattle.expect_core.specs.Isolation.{AgreeOnFrames, AgreeOnInput, AgreeOnPartition}
-use Rattle.cast_core.specs.Sources.{client_mac}
+use Rattle.cast_core.specs.Sources.{client_mac, serial_drops}
 use Rattle.system_core.specs.GivesBack.{BlkGivesBack, NetGivesBack, SerialGivesBack}
 use Rattle.system_core.specs.Shows.{Shown}
 use Rattle.system_core.specs.Reports.{report_of}
@@ -75,3 +77,24 @@ pub record AreOfOneList {T : Type 0} (whole : List T) (Rests : Type 0) (got : Li
     (Ends : Type 0) (seen : List T) : Type 0 where
   pub one : IsRecordIn whole Rests got
   pub other : IsRecordIn whole Ends seen
+
+-- whether bytes for serial client c may be dropped
+abbrev pub may_drop : Plan → (c : ℕ) → Bool
+may_drop plan c = policy_at (serial_drops plan) c
+
+-- a list is what is left of another one, in its order, without some of its elements
+abbrev pub IsLeftOf : {T : Type 0} → (some whole : List T) → Type 0
+IsLeftOf some whole = (marks : List Bool) × (some ≡ without marks whole)
+
+-- a record is of a list of which some may have been dropped: it is left of it; and where nothing
+-- may be dropped it is a beginning of it, and all of it where this holds
+pub record IsRecordBut {T : Type 0} (whole : List T) (drops : Bool) (Rests : Type 0)
+    (got : List T) : Type 0 where
+  pub left : IsLeftOf got whole
+  pub kept : drops ≡ false → IsRecordIn whole Rests got
+
+-- two records are so of one list, each by what may be dropped in its own system
+pub record AreOfOneBut {T : Type 0} (whole : List T) (drops : Bool) (Rests : Type 0)
+    (got : List T) (may : Bool) (Ends : Type 0) (seen : List T) : Type 0 where
+  pub one : IsRecordBut whole drops Rests got
+  pub other : IsRecordBut whole may Ends seen

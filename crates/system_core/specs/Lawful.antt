@@ -39,6 +39,7 @@ use Rattle.cast_law.specs.Pools.Beside.{is_rogues}
 use Rattle.cast_law.specs.Pools.Owning.{BeginsBeside, HasOwnersBeside, owner_keepers, owner_naming}
 use Rattle.cast_law.specs.Pools.Pooling.{AreKindly}
 use Rattle.system_core.specs.BadOnes.{bad_among}
+use Rattle.system_core.specs.Dropped.{HaveTold}
 use Rattle.system_core.specs.PoolLines.{AllAdd, AreLinesOf, AreUnlent, CountStanding}
 use Rattle.system_core.specs.Shows.{Crew, Setting, Shown, hostile_in, wild_by, moved_in}
 use Rattle.system_core.specs.Shows.{NamesTell, RowsStand}
@@ -159,7 +160,8 @@ IsSilent {T} s crew records = (c k : ℕ) (p : RoguePart) (got : List T)
 -- line and records are what the journal says that device and clients took; those of the network and
 -- of the block class, whose frames and blocks no journal has, are what their places say of them
 pub record IsTold (s : Shown) : Type 0 where
-  -- what passed, with the bodies of its entries: their items are those that the journal tells
+  -- what passed, with the bodies of its entries, and all calls: their items are those that the
+  -- journal tells, and by the calls each end looked in vain as often as it tells
   pub passed : Passed
   pub items : HaveItems passed (moved_in s.setting s.journal)
   pub line : s.state.line ≡ option_map (record_at s) s.setting.serial.device
@@ -211,3 +213,5 @@ pub record StandsLawful (s : Shown) : Type 0 where
   pub fitted : IsFitted s.setting
   pub lawful : IsLawful s.setting s.journal
   pub told : IsTold s
+  -- and of the bytes for serial clients those were dropped that its calls tell
+  pub calls : HaveTold s.setting s.journal told.passed.calls

@@ -2,8 +2,10 @@
 -- all that a caller learns of it.
 use Rattle.std.specs.Prelude.{◌≡◌, ◌+◌, ◌<◌, ◌≤◌, ℕ, Bool, true, Some, List, [], length, slice_get}
 use Rattle.cargo_core.specs.Lists.{IsPrefix, Merge, PrefixMerge}
+use Rattle.wire_core.specs.Ends.{Role}
+use Rattle.wire_core.specs.Fates.{marked, noes_at, without}
 use Rattle.wire_core.specs.Picks.{PickedFrom}
-use Rattle.wire_core.specs.Journal.{EachMoment}
+use Rattle.wire_core.specs.Journal.{EachMoment, history_at}
 use Rattle.wire_core.specs.Lists.{Passed}
 use Rattle.serial_switch.specs.Switching.{input_of}
 use Rattle.frame_core.specs.declared.mac.Mac.{Mac}
@@ -13,10 +15,10 @@ use Rattle.net_law.specs.TxParts.Numbers.{NetPlace}
 use Rattle.net_quiet.specs.TxCast.Casting.{sends_at, sends_beside, wire_beside}
 use Rattle.cast_core.specs.Casts.{net_place, blk_place}
 use Rattle.cast_core.specs.Hostile.{HasNoRogue}
-use Rattle.cast_core.specs.Sources.{first_serial}
-use Rattle.play_core.specs.Moved.{Moved}
+use Rattle.play_core.specs.Moved.{Moved, noes_of}
 use Rattle.play_core.specs.Names.{Wild}
 use Rattle.serial_law.specs.Beside.{ArrivesBeside, said_beside}
+use Rattle.serial_law.specs.Table.{Marks}
 use Rattle.sdf_plan.specs.declared.plan.Plan.{Plan}
 use Rattle.sdf_plan.specs.declared.plan.Net.{Net}
 use Rattle.sdf_plan.specs.declared.plan.Blk.{Blk}
@@ -35,7 +37,8 @@ use Rattle.expect_core.specs.Budgets.{budget_of}
 use Rattle.system_core.specs.Shows.{State, Shown, runs, moved_in, wild_by}
 use Rattle.system_core.specs.Plays.{runnable_now}
 use Rattle.system_core.specs.Lawful.{StandsLawful}
-use Rattle.system_core.specs.Builds.{IsCastOf, BeginsAnew, serial_class}
+use Rattle.system_core.specs.Builds.{IsCastOf, BeginsAnew, class_of}
+use Rattle.system_core.specs.Dropped.{DropsAsMany, calls_by, dropped_by}
 use Rattle.system_core.specs.GivesBack.{SerialGivesBack, BlkGivesBack, NetGivesBack}
 use Rattle.system_core.specs.Pools.{TellsOwners}
 use Rattle.system_core.specs.declared.system.Ending.{Ending}
@@ -44,26 +47,30 @@ use Rattle.system_core.specs.declared.system.Ending.TheVariants as Ends
 -- what the serial clients of a plan say: each its script, but a hostile one all the bytes that the
 -- sending virtualiser took of it
 abbrev pub serial_says : Plan → Trace → Serial → Moved → List (List ℕ)
-serial_says plan trace serial m = said_beside (is_serial_rogue plan)
-    (serial_class (first_serial plan) (length serial.client) trace) m
+serial_says plan trace serial m =
+    said_beside (is_serial_rogue plan) (class_of plan trace serial) m
 
--- each serial client of a plan recorded a beginning of its part of the input, and a hostile one
--- nothing; and what was sent on the line is a merge of beginnings of what the clients say
-pub record ShowsInPart (plan : Plan) (trace : Trace) (serial : Serial) (m : Moved) (s : State) :
-    Type 0 where
+-- each serial client of a plan recorded a beginning of its part of the input without what is marked
+-- of it as dropped, and a hostile one nothing; and what was sent on the line is a merge of
+-- beginnings of what the clients say
+pub record ShowsInPart (plan : Plan) (trace : Trace) (serial : Serial) (marks : Marks)
+    (m : Moved) (s : State) : Type 0 where
   pub count_is : length s.serial ≡ length serial.client
   pub records : (c : ℕ) (got : List ℕ) → slice_get s.serial c ≡ Some got
-      → IsPrefix got (input_of (length serial.client) c trace.input)
+      → IsPrefix got (without (marks c) (input_of (length serial.client) c trace.input))
   pub hostile : (c : ℕ) (got : List ℕ) → is_serial_rogue plan c ≡ true
       → slice_get s.serial c ≡ Some got → got ≡ []
   pub line : (said : List ℕ) × (s.line ≡ Some said)
       × PrefixMerge (serial_says plan trace serial m) said
 
--- each serial client recorded its whole part of the input, and what was sent on the line is a merge
--- of the whole scripts
-pub record ShowsWhole (count : ℕ) (trace : Trace) (s : State) : Type 0 where
+-- each serial client recorded its whole part of the input without what is marked of it as dropped,
+-- and what was sent on the line is a merge of the whole scripts
+pub record ShowsWhole (count : ℕ) (trace : Trace) (marks : Marks) (s : State) : Type 0 where
   pub records : (c : ℕ) (got : List ℕ) → slice_get s.serial c ≡ Some got
-      → got ≡ input_of count c trace.input
+      → got ≡ without (marks c) (input_of count c trace.input)
+  -- so it lacks as many bytes of its part as are marked
+  pub lacks : (c : ℕ) (got : List ℕ) → slice_get s.serial c ≡ Some got
+      → length got + marked (marks c) ≡ length (input_of count c trace.input)
   pub line : (said : List ℕ) × (s.line ≡ Some said) × Merge trace.says said
 
 -- each network client recorded a beginning of the frames for its address, and a hostile one
@@ -115,12 +122,22 @@ pub record IsSystemOf (plan : Plan) (trace : Trace) (s : Shown) : Type 0 where
   pub stands : StandsLawful s
   -- each buffer but those of hostile clients has one owner at each moment, or its counted receivers
   pub owners : TellsOwners plan (pool_place plan trace) s
+  -- at each moment by the bytes that were dropped as the calls so far tell
   pub arrives : (serial : Serial) → plan.serial ≡ Some serial → EachMoment (λ j.
-      ArrivesBeside (is_serial_rogue plan)
-      (serial_class (first_serial plan) (length serial.client) trace) (moved_in s.setting j))
-      s.journal
-  pub shows : (serial : Serial) → plan.serial ≡ Some serial
-      → ShowsInPart plan trace serial (moved_in s.setting s.journal) s.state
+      ArrivesBeside (dropped_by (class_of plan trace serial) (calls_by stands.calls.past j))
+      (is_serial_rogue plan) (class_of plan trace serial) (moved_in s.setting j)) s.journal
+  -- which are as many of each client's as looks for room in its queue were in vain, if bytes for it
+  -- may be dropped, and none else
+  pub drops : (serial : Serial) → plan.serial ≡ Some serial → EachMoment (λ j.
+      DropsAsMany (class_of plan trace serial)
+      (dropped_by (class_of plan trace serial) (calls_by stands.calls.past j))
+      (moved_in s.setting j)) s.journal
+  -- the calls before the journal begins looked in vain as often as its history tells
+  pub past : (r : Role) (n : ℕ)
+      → noes_at r n stands.calls.past ≡ noes_of r (history_at s.setting.history n)
+  pub shows : (serial : Serial) → plan.serial ≡ Some serial → ShowsInPart plan trace serial
+      (dropped_by (class_of plan trace serial) (calls_by stands.calls.past s.journal))
+      (moved_in s.setting s.journal) s.state
   -- where no serial client is hostile, all say their scripts
   pub scripts : SerialGivesBack plan → (serial : Serial) → plan.serial ≡ Some serial
       → serial_says plan trace serial (moved_in s.setting s.journal) ≡ trace.says
@@ -136,10 +153,11 @@ pub record IsSystemOf (plan : Plan) (trace : Trace) (s : Shown) : Type 0 where
       ≡ sends_at (net_place plan trace).programs (net_place plan trace).macs trace.frames
   pub shows_blk : (blk : Blk) → plan.blk ≡ Some blk
       → ShowsReplies (is_blk_rogue plan) (blk_place plan trace) s.state
-  -- where nobody is runnable, all bytes of the serial class arrived, if none of its clients is
-  -- hostile
+  -- where nobody is runnable, all bytes of the serial class arrived but those that were dropped, if
+  -- none of its clients is hostile
   pub whole : runnable_now s ≡ [] → SerialGivesBack plan → (serial : Serial)
-      → plan.serial ≡ Some serial → ShowsWhole (length serial.client) trace s.state
+      → plan.serial ≡ Some serial → ShowsWhole (length serial.client) trace
+      (dropped_by (class_of plan trace serial) (calls_by stands.calls.past s.journal)) s.state
   -- and all frames of the network, where none of its clients is hostile, whoever else is
   pub whole_net : runnable_now s ≡ [] → NetGivesBack plan → (net : Net) → plan.net ≡ Some net
       → ShowsAllFrames (net_place plan trace) trace.frames s.state

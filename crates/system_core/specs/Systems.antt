@@ -4,12 +4,13 @@ use Rattle.std.specs.Prelude.{slice_get}
 use Rattle.wire_core.specs.declared.names.QueueRow.{QueueRow}
 use Rattle.wire_core.specs.declared.names.Entry.{Entry}
 use Rattle.wire_core.specs.Ends.{Role}
+use Rattle.wire_core.specs.Fates.{noes_at}
 use Rattle.wire_core.specs.Lists.{Passed}
 use Rattle.wire_core.specs.Queues.{Queue, queue_at, end_at, items_of}
 use Rattle.wire_core.specs.Journal.{History, track, IsShown, LegalJournal, BellsHold, QueuesFlow}
 use Rattle.wire_core.specs.Journal.{EachMoment, owner_of, is_calm}
 use Rattle.wire_core.specs.Marks.{HasCalmQueues, no_drops, since}
-use Rattle.play_core.specs.Moved.{moved}
+use Rattle.play_core.specs.Moved.{moved, noes_of}
 use Rattle.play_core.specs.Names.{AreNoted, Noted, told_by, wild_in}
 use Rattle.turn_kit.specs.Pace.{Paced, pendings}
 use Rattle.actor_set.specs.Actors.{FitsActor, ActorStandsFor, ActorEnd, part_of, actor_round}
@@ -29,12 +30,15 @@ use Rattle.actor_set.specs.declared.actor.Actor.TheVariants as Kinds
 -- the history, the names that are kept, the queues, the actors and the journal belong together
 pub record Holds (history : History) (rows : List QueueRow) (names : List Noted)
     (world : List Queue) (actors : List Actor) (journal : List Entry) : Type 0 where
-  -- the entries that the actors stand for, with their bodies; history and journal show their items
+  -- the entries that the actors stand for, with their bodies, and all calls; history and journal
+  -- show their items
   pub passed : Passed
   -- in each queue stands what was put there and wasn't taken
   pub stands_there : (n : ℕ) → passed.sent n ≡ passed.taken n ++ (queue_at world n).entries
   pub shows_taken : (n : ℕ) → items_of (passed.taken n) ≡ (track history n journal).taken
   pub shows_sent : (n : ℕ) → items_of (passed.sent n) ≡ (track history n journal).sent
+  -- and by its calls each end looked in vain as often
+  pub shows_noes : (r : Role) (n : ℕ) → noes_at r n passed.calls ≡ noes_of r (track history n journal)
   -- what was put to a queue is of its kind
   pub kinds : AreOfKind rows passed
   pub size : length world ≡ length rows

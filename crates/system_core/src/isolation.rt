@@ -10,11 +10,14 @@ ghost use Rattle.system_core.specs.PlanPlays.{IsSystemOf};
 ghost use Rattle.system_core.specs.Isolation.{net_expected, serial_expected, blk_expected};
 ghost use Rattle.system_core.specs.Isolation.{AgreeOnNet, AgreeOnSerial, AgreeOnBlk, AreOfOneList};
 ghost use Rattle.system_core.specs.Isolation.{NetRests, SerialRests, BlkRests};
+ghost use Rattle.system_core.specs.Isolation.{AreOfOneBut, may_drop};
 
 /// Of two systems, of whatever plans and traces, with hostile clients or without, however they were
 /// played: where these agree in what determines a client, its records are of the one list that it
 /// must get in the first. Both are beginnings of it, and each is all of it where its system is
-/// quiet and no client of its class is hostile there. A hostile client's own record is empty.
+/// quiet and no client of its class is hostile there. A hostile client's own record is empty. Of a
+/// serial client whose bytes may be dropped in a system, the record there is what is left of that
+/// list, in its order.
 ///
 /// A network client is determined by its address and the frames for it; a serial client by its
 /// number, the number of serial clients and its part of the input; a block client by what it asks
@@ -33,8 +36,8 @@ pub fn isolation_law()
         → AgreeOnSerial plan trace other told c
         → slice_get (report_of s).serial c ≡ Some got
         → slice_get (report_of t).serial c ≡ Some seen
-        → AreOfOneList (serial_expected plan trace c) (SerialRests plan s) got
-        (SerialRests other t) seen }
+        → AreOfOneBut (serial_expected plan trace c) (may_drop plan c) (SerialRests plan s) got
+        (may_drop other c) (SerialRests other t) seen }
     ensures blk { (plan other : Plan) (trace told : Trace) (s t : Shown) (c d : ℕ)
         (got seen : List Reply) → IsSystemOf plan trace s → IsSystemOf other told t
         → AgreeOnBlk plan trace c other told d

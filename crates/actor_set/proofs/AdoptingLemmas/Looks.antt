@@ -234,7 +234,7 @@ module _ (ends ends' : Role → ℕ → End) where
   pub fits_anew : (x y : Actor) → Forgot x y → ((r : Role) (n : ℕ) → ActorEnd y r n → Same r n) → FitsActor ends y → FitsActor ends' y
   fits_anew (Kinds.UartDevice x) (Kinds.UartDevice y) is same f = terminal_anew x.terminal y.terminal is same f
   fits_anew (Kinds.UartDriver x) (Kinds.UartDriver y) is same f = pipes_anew (two_pipes x.driver.pipes) (two_pipes y.driver.pipes) is.0 same f
-  fits_anew (Kinds.SerialVirtRx x) (Kinds.SerialVirtRx y) is same f = (rx_anew x y is same f.0, f.1)
+  fits_anew (Kinds.SerialVirtRx x) (Kinds.SerialVirtRx y) is same f = rx_anew x y is same f
   fits_anew (Kinds.SerialVirtTx x) (Kinds.SerialVirtTx y) is same f = tx_anew x y is same f
   fits_anew (Kinds.SerialClient x) (Kinds.SerialClient y) is same f = terminal_anew x.terminal y.terminal is same f
   fits_anew (Kinds.EthDevice x) (Kinds.EthDevice y) is same f = (device_anew x y is same f.0, f.1)

@@ -10,15 +10,16 @@ use Rattle.wire_core.specs.declared.names.QueueId.{QueueId}
 use Rattle.turn_kit.specs.ManyEnds.{intake_queues}
 use Rattle.turn_kit.specs.declared.ends.Intake.{Intake}
 use Rattle.turn_kit.specs.declared.ends.Outlet.{Outlet}
-use Rattle.serial_virt.specs.Receiving.{FitsRx, HoldingRxStands, RxEnd}
+use Rattle.serial_virt.specs.Receiving.{FitsRx, RxEnd}
 use Rattle.serial_virt.specs.declared.rx.SerialVirtRx.{SerialVirtRx}
 use Rattle.serial_virt.specs.Sending.{FitsTx, TxStandsFor, TxEnd}
 use Rattle.serial_virt.specs.declared.tx.SerialVirtTx.{SerialVirtTx}
 use Rattle.play_core.proofs.Lists.{map_get, map_alike}
-use Rattle.actor_set.specs.Actors.{FitsActor, ActorStandsFor, ActorEnd, IsWhole}
+use Rattle.actor_set.specs.Actors.{FitsActor, ActorStandsFor, ActorEnd, ActsAlike, IsWhole}
 use Rattle.actor_set.specs.declared.actor.Actor.{Actor}
 use Rattle.actor_set.specs.declared.actor.Actor.TheVariants as Kinds
 use Rattle.actor_set.proofs.LawsLemmas.NetBeside.{fits_pipes, fits_device, fits_receiver, fits_copier, fits_client, stands_pipes, stands_device, stands_receiver, stands_copier, stands_client}
+use Rattle.actor_set.proofs.LawsLemmas.RxBeside.{stands_rx}
 use Rattle.actor_set.proofs.LawsLemmas.TxBeside.{fits_sender, stands_sender}
 use Rattle.actor_set.proofs.RogueLemmas.Ends.{fits_rogue, stands_rogue}
 use Rattle.actor_set.proofs.LawsLemmas.BlkBeside.{fits_disk, fits_server, fits_asker, stands_disk, stands_server, stands_asker}
@@ -62,7 +63,7 @@ module _ (ends ends' : Role → ℕ → End) where
   pub fits_beside : (x : Actor) → ((r : Role) (n : ℕ) → ActorEnd x r n → ends' r n ≡ ends r n) → FitsActor ends x → FitsActor ends' x
   fits_beside (Kinds.UartDevice x) same f = fits_terminal x.terminal (same Consumer x.terminal.input.queue.0 refl) (same Producer x.terminal.output.queue.0 refl) f
   fits_beside (Kinds.SerialClient x) same f = fits_terminal x.terminal (same Consumer x.terminal.input.queue.0 refl) (same Producer x.terminal.output.queue.0 refl) f
-  fits_beside (Kinds.SerialVirtRx x) same f = (fits_rx x same f.0, f.1)
+  fits_beside (Kinds.SerialVirtRx x) same f = fits_rx x same f
   fits_beside (Kinds.SerialVirtTx x) same f = fits_tx x same f
   fits_beside (Kinds.UartDriver x) same f = fits_pipes ends ends' (two_pipes x.driver.pipes) same f
   fits_beside (Kinds.EthDevice x) same f = (fits_device ends ends' x same f.0, f.1)
@@ -82,30 +83,23 @@ module _ (passed passed' : Passed) where
   stands_terminal : (t : Terminal) → passed'.taken t.input.queue.0 ≡ passed.taken t.input.queue.0 → passed'.sent t.output.queue.0 ≡ passed.sent t.output.queue.0 → TerminalStandsFor t passed → TerminalStandsFor t passed'
   stands_terminal t i o f = record { sent_is = o ∙ f.sent_is; record_is = rw i f.record_is }
 
-  stands_rx : (v : SerialVirtRx) → ((n : ℕ) → RxEnd v Consumer n → passed'.taken n ≡ passed.taken n) → ((n : ℕ) → RxEnd v Producer n → passed'.sent n ≡ passed.sent n) → HoldingRxStands v passed → HoldingRxStands v passed'
-  stands_rx v ins outs f = record {
-    switched = rw (ins v.input.queue.0 refl) f.switched;
-    to = f.to;
-    given = λ k q at. rw (ins v.input.queue.0 refl, outs q.0 (k, q, at, refl)) (f.given k q at);
-  }
-
   stands_tx : (v : SerialVirtTx) → ((n : ℕ) → TxEnd v Consumer n → passed'.taken n ≡ passed.taken n) → ((n : ℕ) → TxEnd v Producer n → passed'.sent n ≡ passed.sent n) → TxStandsFor v passed → TxStandsFor v passed'
   stands_tx v ins outs f = rw (outs v.output.queue.0 refl, map_alike (λ (q : QueueId). passed'.taken q.0) (λ (q : QueueId). passed.taken q.0) (intake_queues v.inputs) (λ k q at. ins q.0 (k, q, at, refl))) f
 
-  pub stands_beside : (x : Actor) → IsWhole x → ((n : ℕ) → ActorEnd x Consumer n → passed'.taken n ≡ passed.taken n) → ((n : ℕ) → ActorEnd x Producer n → passed'.sent n ≡ passed.sent n) → ActorStandsFor x passed → ActorStandsFor x passed'
-  stands_beside (Kinds.UartDevice x) whole ins outs f = stands_terminal x.terminal (ins x.terminal.input.queue.0 refl) (outs x.terminal.output.queue.0 refl) f
-  stands_beside (Kinds.SerialClient x) whole ins outs f = stands_terminal x.terminal (ins x.terminal.input.queue.0 refl) (outs x.terminal.output.queue.0 refl) f
-  stands_beside (Kinds.SerialVirtRx x) whole ins outs f = stands_rx x ins outs f
-  stands_beside (Kinds.SerialVirtTx x) whole ins outs f = stands_tx x ins outs f
-  stands_beside (Kinds.UartDriver x) whole ins outs f = stands_pipes passed passed' (two_pipes x.driver.pipes) ins outs f
-  stands_beside (Kinds.EthDevice x) whole ins outs f = stands_device passed passed' x ins outs f
-  stands_beside (Kinds.EthDriver x) whole ins outs f = stands_pipes passed passed' (four_pipes x.driver.pipes) ins outs f
-  stands_beside (Kinds.NetVirtRx x) whole ins outs f = stands_receiver passed passed' x whole.from_each whole.to_each ins outs f
-  stands_beside (Kinds.NetCopier x) whole ins outs f = stands_copier passed passed' x ins outs f
-  stands_beside (Kinds.NetClient x) whole ins outs f = stands_client passed passed' x ins outs f
-  stands_beside (Kinds.NetVirtTx x) whole ins outs f = stands_sender passed passed' x whole.from_each whole.to_each ins outs f
-  stands_beside (Kinds.DiskDevice x) whole ins outs f = stands_disk passed passed' x.start.value x.device ins outs f
-  stands_beside (Kinds.BlkDriver x) whole ins outs f = stands_pipes passed passed' (two_pipes x.driver.pipes) ins outs f
-  stands_beside (Kinds.BlkVirt x) whole ins outs f = stands_server passed passed' x whole.from_each whole.to_each ins outs f
-  stands_beside (Kinds.BlkClient x) whole ins outs f = stands_asker passed passed' x ins outs f
-  stands_beside (Kinds.Rogue x) whole ins outs f = stands_rogue passed passed' x ins outs f
+  pub stands_beside : (x : Actor) → IsWhole x → ActsAlike x passed.calls passed'.calls → ((n : ℕ) → ActorEnd x Consumer n → passed'.taken n ≡ passed.taken n) → ((n : ℕ) → ActorEnd x Producer n → passed'.sent n ≡ passed.sent n) → ActorStandsFor x passed → ActorStandsFor x passed'
+  stands_beside (Kinds.UartDevice x) whole same ins outs f = stands_terminal x.terminal (ins x.terminal.input.queue.0 refl) (outs x.terminal.output.queue.0 refl) f
+  stands_beside (Kinds.SerialClient x) whole same ins outs f = stands_terminal x.terminal (ins x.terminal.input.queue.0 refl) (outs x.terminal.output.queue.0 refl) f
+  stands_beside (Kinds.SerialVirtRx x) whole same ins outs f = stands_rx passed passed' x same ins outs f
+  stands_beside (Kinds.SerialVirtTx x) whole same ins outs f = stands_tx x ins outs f
+  stands_beside (Kinds.UartDriver x) whole same ins outs f = stands_pipes passed passed' (two_pipes x.driver.pipes) ins outs f
+  stands_beside (Kinds.EthDevice x) whole same ins outs f = stands_device passed passed' x ins outs f
+  stands_beside (Kinds.EthDriver x) whole same ins outs f = stands_pipes passed passed' (four_pipes x.driver.pipes) ins outs f
+  stands_beside (Kinds.NetVirtRx x) whole same ins outs f = stands_receiver passed passed' x whole.from_each whole.to_each ins outs f
+  stands_beside (Kinds.NetCopier x) whole same ins outs f = stands_copier passed passed' x ins outs f
+  stands_beside (Kinds.NetClient x) whole same ins outs f = stands_client passed passed' x ins outs f
+  stands_beside (Kinds.NetVirtTx x) whole same ins outs f = stands_sender passed passed' x whole.from_each whole.to_each ins outs f
+  stands_beside (Kinds.DiskDevice x) whole same ins outs f = stands_disk passed passed' x.start.value x.device ins outs f
+  stands_beside (Kinds.BlkDriver x) whole same ins outs f = stands_pipes passed passed' (two_pipes x.driver.pipes) ins outs f
+  stands_beside (Kinds.BlkVirt x) whole same ins outs f = stands_server passed passed' x whole.from_each whole.to_each ins outs f
+  stands_beside (Kinds.BlkClient x) whole same ins outs f = stands_asker passed passed' x ins outs f
+  stands_beside (Kinds.Rogue x) whole same ins outs f = stands_rogue passed passed' x ins outs f

@@ -41,7 +41,7 @@ calm_row cast calm row = rw (calm_actor cast calm row.producer.0, calm_actor cas
 pub sheet_own : (scene : Scene) (p : Part) → IsOwn (sheet scene p)
 sheet_own scene (UartPart rx tx input) = serial_own (SerialDevice rx tx input)
 sheet_own scene (DriverPart device_rx device_tx rx tx) = serial_own (SerialDriver device_rx device_tx rx tx)
-sheet_own scene (RxPart rx clients) = serial_own (SerialReceiver rx clients)
+sheet_own scene (RxPart rx clients drops) = serial_own (SerialReceiver rx clients drops)
 sheet_own scene (TxPart tx clients) = serial_own (SerialSender tx clients)
 sheet_own scene (ClientPart rx tx script) = serial_own (SerialClient rx tx script)
 sheet_own scene (NetworkPart p) = net_own scene p
@@ -52,6 +52,6 @@ sheet_own scene (HostilePart p) = own_sheet p.inputs p.outputs (pages_in p.pages
 pub sheet_is : (scene : Scene) (p : SerialPart) → sheet scene (serial_part p) ≡ serial_sheet p
 sheet_is scene (SerialDevice rx tx input) = refl
 sheet_is scene (SerialDriver device_rx device_tx rx tx) = refl
-sheet_is scene (SerialReceiver rx clients) = refl
+sheet_is scene (SerialReceiver rx clients drops) = refl
 sheet_is scene (SerialSender tx clients) = refl
 sheet_is scene (SerialClient rx tx script) = refl

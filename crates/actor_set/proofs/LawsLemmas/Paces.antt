@@ -12,16 +12,21 @@ use Rattle.wire_core.specs.Journal.{History, track, owner_of}
 use Rattle.turn_kit.specs.declared.ends.Intake.{Intake}
 use Rattle.turn_kit.specs.declared.ends.Outlet.{Outlet}
 use Rattle.turn_kit.specs.Posts.{intake_post, outlet_post}
-use Rattle.wire_core.specs.Marks.{is_vain_look}
-use Rattle.turn_kit.specs.Turns.{Post, is_drop, IsRound}
+use Rattle.turn_kit.specs.Turns.{Post, IsRound}
 use Rattle.play_core.specs.Manners.{Calm}
-use Rattle.actor_set.specs.Actors.{ActorEnd, actor_round, part_of}
-use Rattle.actor_set.specs.Laws.Kinds.{manner_of}
+use Rattle.actor_set.specs.Actors.{ActorEnd, actor_round, numbers, part_of}
+use Rattle.actor_set.specs.Parts.{Part, UartPart, DriverPart, RxPart, TxPart, ClientPart, NetworkPart, SendingPart, BlockPart, HostilePart}
+use Rattle.actor_set.specs.Laws.Kinds.{manner_of, dropping_ends, drop_seats, has_seat}
+use Rattle.actor_set.proofs.LawsLemmas.PartEnds.{number_there, queue_there}
+use Rattle.actor_set.proofs.LawsLemmas.Dropping.{RxPost, rx_post, rx_has, no_consumer, client_there}
 use Rattle.actor_set.specs.declared.actor.Actor.{Actor}
 use Rattle.actor_set.specs.declared.actor.Actor.TheVariants as Kinds
 use Rattle.device_model.specs.declared.serial_terminal.Terminal.{Terminal}
 use Rattle.device_model.specs.SerialTerminal.Terminals.{terminal_round}
-use Rattle.serial_virt.proofs.Sizes.{held_size, tx_size}
+use Rattle.serial_virt.proofs.Sizes.{rx_size, tx_size}
+use Rattle.serial_virt.specs.Receiving.{RxEnd, rx_round}
+use Rattle.serial_virt.specs.declared.rx.SerialVirtRx.{SerialVirtRx}
+use Rattle.turn_kit.specs.ManyEnds.{AreApart, outlet_queues}
 use Rattle.eth_driver.specs.Four.{four_pipes}
 use Rattle.device_model.specs.Ethernet.Devices as device
 use Rattle.client_programs.specs.Net.Clients as client
@@ -30,16 +35,32 @@ use Rattle.net_virt_tx.specs.Traffics.{is_free, owes, needs_at, loaded_at}
 use Rattle.pipe_driver.specs.Lengths.{two_pipes}
 use Rattle.blk_virt.specs.Works.{is_owing, wants_at, gives_at}
 use Rattle.actor_set.specs.StartStates.{HasApartEnds, HasNoLoop}
-use Rattle.actor_set.proofs.LawsLemmas.NetPaces.{IsPostAt, four_posts, pipes_post, pipes_has, pipes_size, pipes_apart, virt_post, virt_has, virt_size, virt_apart}
+use Rattle.actor_set.proofs.LawsLemmas.NetPaces.{four_posts, pipes_post, pipes_has, pipes_size, pipes_apart, virt_post, virt_has, virt_size, virt_apart}
 use Rattle.play_core.specs.Runs.{called_from}
 use Rattle.turn_kit.specs.Pace.{pendings, IsCalled}
 use Rattle.play_core.proofs.Lists.{some_is, map_get, map_from}
 
 -- Each actor's round is its ends, and an actor that is called has a notification pending at one of them.
 
--- an end of the actor, at which it doesn't drop
+-- a part that isn't a receiving virtualiser of the serial class drops nowhere
+abbrev pub Waits : Part → Post → Type 0
+Waits (UartPart rx tx input) p = p.drops ≡ false
+Waits (DriverPart device_rx device_tx rx tx) p = p.drops ≡ false
+Waits (RxPart rx clients drops) p = Unit {0}
+Waits (TxPart tx clients) p = p.drops ≡ false
+Waits (ClientPart rx tx script) p = p.drops ≡ false
+Waits (NetworkPart q) p = p.drops ≡ false
+Waits (SendingPart q) p = p.drops ≡ false
+Waits (BlockPart q) p = p.drops ≡ false
+Waits (HostilePart q) p = p.drops ≡ false
+
+-- an end of the actor
 abbrev pub IsPostOf : Actor → Post → Type 0
-IsPostOf x p = IsPostAt (ActorEnd x) p
+IsPostOf x p = ActorEnd x (waiting_role p.side) p.queue × Waits (part_of x) p
+
+-- the post of a client of a receiving virtualiser
+outlet_end : (x : SerialVirtRx) (k : ℕ) (p : Post) → RxPost x.drops.items x.outputs.ends.items k p → RxEnd x (waiting_role p.side) p.queue
+outlet_end x k p o = subst (λ s. RxEnd x (waiting_role s) p.queue) (sym o.side) (k, o.end.queue, map_get (λ (o : Outlet). o.queue) x.outputs.ends.items k o.end o.there, o.queue)
 
 pub post_stands : (x : Actor) (k : ℕ) (p : Post) → slice_get (actor_round x).posts k ≡ Some p → IsPostOf x p
 post_stands (Kinds.UartDevice x) zero p at = subst (IsPostOf (Kinds.UartDevice x)) (some_is at) (refl, refl)
@@ -53,8 +74,8 @@ post_stands (Kinds.UartDriver x) (suc zero) p at = subst (IsPostOf (Kinds.UartDr
 post_stands (Kinds.UartDriver x) (suc (suc zero)) p at = subst (IsPostOf (Kinds.UartDriver x)) (some_is at) (inr (inl refl), refl)
 post_stands (Kinds.UartDriver x) (suc (suc (suc zero))) p at = subst (IsPostOf (Kinds.UartDriver x)) (some_is at) (inr (inl refl), refl)
 post_stands (Kinds.UartDriver x) (suc (suc (suc (suc k)))) p at = cc
-post_stands (Kinds.SerialVirtRx x) zero p at = subst (IsPostOf (Kinds.SerialVirtRx x)) (some_is at) (refl, refl)
-post_stands (Kinds.SerialVirtRx x) (suc k) p at = let m = map_from outlet_post x.outputs.ends.items k p at in subst (IsPostOf (Kinds.SerialVirtRx x)) m.2 ((k, m.0.queue, map_get (λ (o : Outlet). o.queue) x.outputs.ends.items k m.0 m.1, refl), refl)
+post_stands (Kinds.SerialVirtRx x) zero p at = subst (IsPostOf (Kinds.SerialVirtRx x)) (some_is at) (refl, tt)
+post_stands (Kinds.SerialVirtRx x) (suc k) p at = (outlet_end x k p (rx_post x.drops.items x.outputs.ends.items k p at), tt)
 post_stands (Kinds.SerialVirtTx x) zero p at = subst (IsPostOf (Kinds.SerialVirtTx x)) (some_is at) (refl, refl)
 post_stands (Kinds.SerialVirtTx x) (suc k) p at = let m = map_from intake_post x.inputs.ends.items k p at in subst (IsPostOf (Kinds.SerialVirtTx x)) m.2 ((k, m.0.queue, map_get (λ (i : Intake). i.queue) x.inputs.ends.items k m.0 m.1, refl), refl)
 post_stands (Kinds.EthDevice x) k p at = four_posts (ActorEnd (Kinds.EthDevice x)) (intake_post x.free) (outlet_post x.active) (intake_post x.wire.pipe.input) (outlet_post x.wire.pipe.output) (inl refl, refl) (inl refl, refl) (inr refl, refl) (inr refl, refl) k p at
@@ -76,9 +97,35 @@ post_stands (Kinds.Rogue x) k p at = cc
 pub post_end : (x : Actor) (k : ℕ) (p : Post) → slice_get (actor_round x).posts k ≡ Some p → ActorEnd x (waiting_role p.side) p.queue
 post_end x k p at = (post_stands x k p at).0
 
--- no call of a turn is a drop
-pub post_waits : (x : Actor) (e : Event) (k : ℕ) (p : Post) → slice_get (actor_round x).posts k ≡ Some p → false ≡ is_drop p e
-post_waits x e k p at = sym (ap (λ d. d && is_vain_look e.op e.answer) (post_stands x k p at).1)
+-- a receiving virtualiser drops at the ends of those clients for whom it may
+rx_drops : (x : SerialVirtRx) (k : ℕ) (p : Post) → AreApart (outlet_queues x.outputs) → slice_get (rx_round x).posts k ≡ Some p → p.drops ≡ has_seat (dropping_ends (numbers (outlet_queues x.outputs)) x.drops.items) (waiting_role p.side) p.queue
+rx_drops x zero p apart at = subst (λ (z : Post). z.drops ≡ has_seat (dropping_ends (numbers (outlet_queues x.outputs)) x.drops.items) (waiting_role z.side) z.queue) (some_is at) (sym (no_consumer (numbers (outlet_queues x.outputs)) x.drops.items x.input.queue.0))
+rx_drops x (suc k) p apart at =
+    let o = rx_post x.drops.items x.outputs.ends.items k p at in
+    let qs : List ℕ = numbers (outlet_queues x.outputs) in
+    let here : slice_get (outlet_queues x.outputs) k ≡ Some o.end.queue = map_get (λ (o : Outlet). o.queue) x.outputs.ends.items k o.end o.there in
+    let there : slice_get qs k ≡ Some p.queue = number_there (outlet_queues x.outputs) k o.end.queue p.queue here o.queue in
+    o.drops ∙ (sym (client_there qs x.drops.items k p.queue there (λ j at. let q = queue_there (outlet_queues x.outputs) j p.queue at in apart j k q.0 o.end.queue q.1 here (sym q.2 ∙ o.queue)))
+    ∙ ap (λ s. has_seat (dropping_ends qs x.drops.items) (waiting_role s) p.queue) (sym o.side))
+
+-- an actor drops at the ends at which its part does
+pub post_drops : (x : Actor) (k : ℕ) (p : Post) → HasApartEnds x → slice_get (actor_round x).posts k ≡ Some p → p.drops ≡ has_seat (drop_seats (part_of x)) (waiting_role p.side) p.queue
+post_drops (Kinds.SerialVirtRx x) k p apart at = rx_drops x k p apart at
+post_drops (Kinds.UartDevice x) k p apart at = (post_stands (Kinds.UartDevice x) k p at).1
+post_drops (Kinds.SerialClient x) k p apart at = (post_stands (Kinds.SerialClient x) k p at).1
+post_drops (Kinds.UartDriver x) k p apart at = (post_stands (Kinds.UartDriver x) k p at).1
+post_drops (Kinds.SerialVirtTx x) k p apart at = (post_stands (Kinds.SerialVirtTx x) k p at).1
+post_drops (Kinds.EthDevice x) k p apart at = (post_stands (Kinds.EthDevice x) k p at).1
+post_drops (Kinds.EthDriver x) k p apart at = (post_stands (Kinds.EthDriver x) k p at).1
+post_drops (Kinds.NetVirtRx x) k p apart at = (post_stands (Kinds.NetVirtRx x) k p at).1
+post_drops (Kinds.NetCopier x) k p apart at = (post_stands (Kinds.NetCopier x) k p at).1
+post_drops (Kinds.NetClient x) k p apart at = (post_stands (Kinds.NetClient x) k p at).1
+post_drops (Kinds.NetVirtTx x) k p apart at = (post_stands (Kinds.NetVirtTx x) k p at).1
+post_drops (Kinds.DiskDevice x) k p apart at = (post_stands (Kinds.DiskDevice x) k p at).1
+post_drops (Kinds.BlkDriver x) k p apart at = (post_stands (Kinds.BlkDriver x) k p at).1
+post_drops (Kinds.BlkVirt x) k p apart at = (post_stands (Kinds.BlkVirt x) k p at).1
+post_drops (Kinds.BlkClient x) k p apart at = (post_stands (Kinds.BlkClient x) k p at).1
+post_drops (Kinds.Rogue x) k p apart at = cc
 
 -- an end on this side is one of its posts
 abbrev pub EndPost : Actor → Side → ℕ → Type 0
@@ -96,7 +143,10 @@ end_post (Kinds.UartDriver x) Backward n calm (inl h) = (1, outlet_post x.driver
 end_post (Kinds.UartDriver x) Backward n calm (inr (inl h)) = (3, outlet_post x.driver.pipes.rest.output, refl, sym h, refl)
 end_post (Kinds.UartDriver x) Backward n calm (inr (inr h)) = absurd h
 end_post (Kinds.SerialVirtRx x) Forward n calm h = (0, intake_post x.input, refl, sym h, refl)
-end_post (Kinds.SerialVirtRx x) Backward n calm h = let m = map_from (λ (o : Outlet). o.queue) x.outputs.ends.items h.0 h.1 h.2 in (suc h.0, outlet_post m.0, map_get outlet_post x.outputs.ends.items h.0 m.0 m.1, ap (λ (q : QueueId). q.0) m.2 ∙ sym h.3, refl)
+end_post (Kinds.SerialVirtRx x) Backward n calm h =
+    let m = map_from (λ (o : Outlet). o.queue) x.outputs.ends.items h.0 h.1 h.2 in
+    let r = rx_has x.drops.items x.outputs.ends.items h.0 m.0 m.1 in
+    (suc h.0, r.0, r.1, r.2 ∙ (ap (λ (q : QueueId). q.0) m.2 ∙ sym h.3), r.3)
 end_post (Kinds.SerialVirtTx x) Forward n calm h = let m = map_from (λ (i : Intake). i.queue) x.inputs.ends.items h.0 h.1 h.2 in (suc h.0, intake_post m.0, map_get intake_post x.inputs.ends.items h.0 m.0 m.1, ap (λ (q : QueueId). q.0) m.2 ∙ sym h.3, refl)
 end_post (Kinds.SerialVirtTx x) Backward n calm h = (0, outlet_post x.output, refl, sym h, refl)
 end_post (Kinds.EthDevice x) Forward n calm (inl h) = (0, intake_post x.free, refl, sym h, refl)
@@ -127,7 +177,7 @@ sizes : (x : Actor) → length (actor_round x).needs ≡ length (actor_round x).
 sizes (Kinds.UartDevice x) = refl
 sizes (Kinds.SerialClient x) = refl
 sizes (Kinds.UartDriver x) = refl
-sizes (Kinds.SerialVirtRx x) = held_size x
+sizes (Kinds.SerialVirtRx x) = rx_size x
 sizes (Kinds.SerialVirtTx x) = tx_size x
 sizes (Kinds.EthDevice x) = refl
 sizes (Kinds.EthDriver x) = pipes_size (four_pipes x.driver.pipes)
@@ -220,16 +270,15 @@ apart_posts (Kinds.SerialClient x) h d k j p q a b e = terminal_apart x.terminal
 apart_posts (Kinds.UartDriver x) h d k j p q a b e = four_apart (intake_post x.driver.pipes.first.input) (outlet_post x.driver.pipes.first.output) (intake_post x.driver.pipes.rest.input) (outlet_post x.driver.pipes.rest.output) (λ e. d x.driver.pipes.first.input.queue.0 (inl refl) (inl e)) h.0 (λ e. d x.driver.pipes.first.input.queue.0 (inl refl) (inr (inl e))) (λ e. d x.driver.pipes.rest.input.queue.0 (inr (inl refl)) (inl (sym e))) h.1 (λ e. d x.driver.pipes.rest.input.queue.0 (inr (inl refl)) (inr (inl e))) k j p q a b e
 apart_posts (Kinds.SerialVirtRx x) h d zero zero p q a b e = refl
 apart_posts (Kinds.SerialVirtRx x) h d zero (suc j) p q a b e =
-    let m = post_end (Kinds.SerialVirtRx x) (suc j) q b in
-    let o = map_from outlet_post x.outputs.ends.items j q b in
-    absurd (d p.queue (subst (λ (z : Post). z.queue ≡ x.input.queue.0) (some_is a) refl) (j, o.0.queue, map_get (λ (y : Outlet). y.queue) x.outputs.ends.items j o.0 o.1, e ∙ sym (ap (λ (z : Post). z.queue) o.2)))
+    let o = rx_post x.drops.items x.outputs.ends.items j q b in
+    absurd (d p.queue (subst (λ (z : Post). z.queue ≡ x.input.queue.0) (some_is a) refl) (j, o.end.queue, map_get (λ (y : Outlet). y.queue) x.outputs.ends.items j o.end o.there, e ∙ o.queue))
 apart_posts (Kinds.SerialVirtRx x) h d (suc k) zero p q a b e =
-    let o = map_from outlet_post x.outputs.ends.items k p a in
-    absurd (d q.queue (subst (λ (z : Post). z.queue ≡ x.input.queue.0) (some_is b) refl) (k, o.0.queue, map_get (λ (y : Outlet). y.queue) x.outputs.ends.items k o.0 o.1, sym e ∙ sym (ap (λ (z : Post). z.queue) o.2)))
+    let o = rx_post x.drops.items x.outputs.ends.items k p a in
+    absurd (d q.queue (subst (λ (z : Post). z.queue ≡ x.input.queue.0) (some_is b) refl) (k, o.end.queue, map_get (λ (y : Outlet). y.queue) x.outputs.ends.items k o.end o.there, sym e ∙ o.queue))
 apart_posts (Kinds.SerialVirtRx x) h d (suc k) (suc j) p q a b e =
-    let o = map_from outlet_post x.outputs.ends.items k p a in
-    let r = map_from outlet_post x.outputs.ends.items j q b in
-    ap suc (h k j o.0.queue r.0.queue (map_get (λ (y : Outlet). y.queue) x.outputs.ends.items k o.0 o.1) (map_get (λ (y : Outlet). y.queue) x.outputs.ends.items j r.0 r.1) (ap (λ (z : Post). z.queue) o.2 ∙ (e ∙ sym (ap (λ (z : Post). z.queue) r.2))))
+    let o = rx_post x.drops.items x.outputs.ends.items k p a in
+    let r = rx_post x.drops.items x.outputs.ends.items j q b in
+    ap suc (h k j o.end.queue r.end.queue (map_get (λ (y : Outlet). y.queue) x.outputs.ends.items k o.end o.there) (map_get (λ (y : Outlet). y.queue) x.outputs.ends.items j r.end r.there) (sym o.queue ∙ (e ∙ r.queue)))
 apart_posts (Kinds.SerialVirtTx x) h d zero zero p q a b e = refl
 apart_posts (Kinds.SerialVirtTx x) h d zero (suc j) p q a b e =
     let o = map_from intake_post x.inputs.ends.items j q b in

@@ -29,8 +29,8 @@ PartEnd (UartPart rx tx input) Consumer n = n ≡ tx
 PartEnd (UartPart rx tx input) Producer n = n ≡ rx
 PartEnd (DriverPart device_rx device_tx rx tx) Consumer n = (n ≡ device_rx) ⊎ (n ≡ tx)
 PartEnd (DriverPart device_rx device_tx rx tx) Producer n = (n ≡ rx) ⊎ (n ≡ device_tx)
-PartEnd (RxPart rx clients) Consumer n = n ≡ rx
-PartEnd (RxPart rx clients) Producer n = (k : ℕ) × (slice_get clients k ≡ Some n)
+PartEnd (RxPart rx clients drops) Consumer n = n ≡ rx
+PartEnd (RxPart rx clients drops) Producer n = (k : ℕ) × (slice_get clients k ≡ Some n)
 PartEnd (TxPart tx clients) Consumer n = (k : ℕ) × (slice_get clients k ≡ Some n)
 PartEnd (TxPart tx clients) Producer n = n ≡ tx
 PartEnd (ClientPart rx tx script) Consumer n = n ≡ rx
@@ -146,8 +146,8 @@ end_seat scene (DriverPart device_rx device_tx rx tx) Consumer n (inl e) = (0, a
 end_seat scene (DriverPart device_rx device_tx rx tx) Consumer n (inr e) = (2, ap (λ m. Some (intake m)) (sym e))
 end_seat scene (DriverPart device_rx device_tx rx tx) Producer n (inl e) = (1, ap (λ m. Some (outlet m)) (sym e))
 end_seat scene (DriverPart device_rx device_tx rx tx) Producer n (inr e) = (3, ap (λ m. Some (outlet m)) (sym e))
-end_seat scene (RxPart rx clients) Consumer n e = (0, ap (λ m. Some (intake m)) (sym e))
-end_seat scene (RxPart rx clients) Producer n e = (suc e.0, map_get outlet clients e.0 n e.1)
+end_seat scene (RxPart rx clients drops) Consumer n e = (0, ap (λ m. Some (intake m)) (sym e))
+end_seat scene (RxPart rx clients drops) Producer n e = (suc e.0, map_get outlet clients e.0 n e.1)
 end_seat scene (TxPart tx clients) Consumer n e = (suc e.0, map_get intake clients e.0 n e.1)
 end_seat scene (TxPart tx clients) Producer n e = (0, ap (λ m. Some (outlet m)) (sym e))
 end_seat scene (ClientPart rx tx script) Consumer n e = (0, ap (λ m. Some (intake m)) (sym e))
@@ -169,8 +169,8 @@ seat_end scene (DriverPart device_rx device_tx rx tx) (suc zero) x at = as_end (
 seat_end scene (DriverPart device_rx device_tx rx tx) (suc (suc zero)) x at = as_end (DriverPart device_rx device_tx rx tx) (intake tx) x (some_is at) (inr refl)
 seat_end scene (DriverPart device_rx device_tx rx tx) (suc (suc (suc zero))) x at = as_end (DriverPart device_rx device_tx rx tx) (outlet device_tx) x (some_is at) (inr refl)
 seat_end scene (DriverPart device_rx device_tx rx tx) (suc (suc (suc (suc i)))) x at = cc
-seat_end scene (RxPart rx clients) zero x at = as_end (RxPart rx clients) (intake rx) x (some_is at) refl
-seat_end scene (RxPart rx clients) (suc i) x at = let m = map_from outlet clients i x at in as_end (RxPart rx clients) (outlet m.0) x m.2 (i, m.1)
+seat_end scene (RxPart rx clients drops) zero x at = as_end (RxPart rx clients drops) (intake rx) x (some_is at) refl
+seat_end scene (RxPart rx clients drops) (suc i) x at = let m = map_from outlet clients i x at in as_end (RxPart rx clients drops) (outlet m.0) x m.2 (i, m.1)
 seat_end scene (TxPart tx clients) zero x at = as_end (TxPart tx clients) (outlet tx) x (some_is at) refl
 seat_end scene (TxPart tx clients) (suc i) x at = let m = map_from intake clients i x at in as_end (TxPart tx clients) (intake m.0) x m.2 (i, m.1)
 seat_end scene (ClientPart rx tx script) zero x at = as_end (ClientPart rx tx script) (intake rx) x (some_is at) refl

@@ -1,4 +1,4 @@
-use Rattle.std.proofs.Common.{◌≡◌, ◌<◌, ◌≤◌, ◌+◌, ℕ, Bool, true, false, not, ◌||◌, nat_lt, Option, Some, None, is_some, is_none, List, [], ◌∷◌, ◌++◌, map, length, length-append, length-take, slice_get, subst, refl, sym, ap, ◌∙◌, arith, suc}
+use Rattle.std.proofs.Common.{◌≡◌, ◌<◌, ◌≤◌, ◌+◌, ◌-◌, ℕ, Bool, true, false, cond, not, ◌||◌, nat_lt, Option, Some, None, is_some, is_none, List, [], ◌∷◌, ◌++◌, map, length, length-append, length-take, slice_get, subst, refl, sym, ap, ◌∙◌, arith, suc}
 use Rattle.std.specs.Option.{option_to_list}
 use Rattle.std.proofs.lemmas.List.{length-map}
 use Rattle.std.proofs.lemmas.Bool.{lt-ltb, le-ltb}
@@ -18,7 +18,7 @@ use Rattle.std.specs.Option.{option_map}
 use Rattle.std.proofs.Math.Dec.{eqb}
 use Rattle.std.proofs.lemmas.Bool.Decides.{eqb_tells}
 use Rattle.wire_core.specs.declared.names.QueueId.{QueueId}
-use Rattle.turn_kit.specs.ManyEnds.{intake_queues, outlet_queues, is_here, needs_from}
+use Rattle.turn_kit.specs.ManyEnds.{intake_queues, outlet_queues, outlet_posts, is_here, needs_from}
 use Rattle.turn_kit.specs.Posts.{intake_post, outlet_post}
 use Rattle.turn_kit.specs.declared.ends.Intake.{Intake}
 use Rattle.turn_kit.specs.declared.ends.Outlet.{Outlet}
@@ -27,15 +27,21 @@ use Rattle.serial_switch.specs.Switching.{input_of}
 use Rattle.actor_set.proofs.LawsLemmas.Rows.{carried_in}
 use Rattle.play_core.proofs.Merges.{merge_total}
 use Rattle.play_core.specs.Totals.{total}
-use Rattle.serial_virt.specs.Receiving.{FitsRx, HoldingRxStands, holding_rx_round, owed_to, clients_of, place_loaded}
+use Rattle.serial_virt.specs.Receiving.{FitsRx, RxStandsFor, rx_round, owed_to, clients_of, place_loaded, policy_of, taker_of}
+use Rattle.serial_virt.specs.Shares.{ClientStands, byte_fate}
+use Rattle.serial_virt.proofs.Taking.{held_client}
+use Rattle.wire_core.specs.Fates.{without, noes_at}
+use Rattle.wire_core.proofs.Fating.{without_length}
+use Rattle.turn_kit.specs.Turns.{Post}
+use Rattle.turn_kit.specs.Dropping.{with_drops}
 use Rattle.serial_virt.specs.declared.rx.SerialVirtRx.{SerialVirtRx}
 use Rattle.serial_virt.specs.Sending.{FitsTx, TxStandsFor, tx_round}
 use Rattle.serial_virt.specs.declared.tx.SerialVirtTx.{SerialVirtTx}
 use Rattle.play_core.specs.Moved.{Moved, moved}
-use Rattle.play_core.specs.Wants.{intake_want, outlet_want, all_settled}
+use Rattle.play_core.specs.Wants.{Want, intake_want, outlet_want, all_settled}
 use Rattle.play_core.specs.Sheets.{Scene}
 use Rattle.serial_law.specs.Bytes.{bytes_in, is_owed}
-use Rattle.serial_law.specs.Table.{some_owed, shares, taken_count, is_held}
+use Rattle.serial_law.specs.Table.{some_owed, shares, taken_count, is_held, due_to, is_owed_to}
 use Rattle.actor_set.specs.Laws.Kinds.{manner_of, sheet}
 use Rattle.play_core.specs.Manners.{Calm}
 use Rattle.actor_set.proofs.LawsLemmas.Rounds.{rests_is}
@@ -67,37 +73,37 @@ owed_here (Some c) to k n m e (inr t) = let f : length (owed_to (Some c) to k) �
 index_moves : (c k : ℕ) → c + suc k ≡ (c + 1) + k
 index_moves c k = omega arith
 
-shares_meet : (ends : Role → ℕ → End) (place : Option ℕ) (all : ℕ) (bytes : List ℕ) (c : ℕ) (os : List Outlet) (items : Moved) → ((k : ℕ) (o : Outlet) → slice_get os k ≡ Some o → Agrees (ends Producer o.queue.0) o.state) → ((k : ℕ) (q : QueueId) → slice_get (map (λ (o : Outlet). o.queue) os) k ≡ Some q → is_here place (c + k) ≡ is_owed (items.sent q.0) (input_of all (c + k) bytes)) → Meet ends (map outlet_post os) (needs_from (is_here place) c (map (λ (o : Outlet). o.queue) os)) (shares all bytes c (numbers (map (λ (o : Outlet). o.queue) os)) items)
-shares_meet ends place all bytes c [] items agrees owed = tt
-shares_meet ends place all bytes c (o ∷ os) items agrees owed =
+shares_meet : (ends : Role → ℕ → End) (place : Option ℕ) (all : ℕ) (bytes : List ℕ) (drops : List Bool) (c : ℕ) (os : List Outlet) (items : Moved) → ((k : ℕ) (o : Outlet) → slice_get os k ≡ Some o → Agrees (ends Producer o.queue.0) o.state) → ((k : ℕ) (q : QueueId) → slice_get (map (λ (o : Outlet). o.queue) os) k ≡ Some q → is_here place (c + k) ≡ is_owed_to all bytes drops (c + k) q.0 items) → Meet ends (map outlet_post os) (needs_from (is_here place) c (map (λ (o : Outlet). o.queue) os)) (shares all bytes drops c (numbers (map (λ (o : Outlet). o.queue) os)) items)
+shares_meet ends place all bytes drops c [] items agrees owed = tt
+shares_meet ends place all bytes drops c (o ∷ os) items agrees owed =
     let z : c + 0 ≡ c = omega arith in (
-      record { needs = subst (λ i. is_here place i ≡ is_owed (items.sent o.queue.0) (input_of all i bytes)) z (owed 0 o.queue refl); agrees = agrees 0 o refl },
-      shares_meet ends place all bytes (c + 1) os items (λ k x at. agrees (suc k) x at) (λ k q at. subst (λ i. is_here place i ≡ is_owed (items.sent q.0) (input_of all i bytes)) (index_moves c k) (owed (suc k) q at)),
+      record { needs = subst (λ i. is_here place i ≡ is_owed_to all bytes drops i o.queue.0 items) z (owed 0 o.queue refl); agrees = agrees 0 o refl },
+      shares_meet ends place all bytes drops (c + 1) os items (λ k x at. agrees (suc k) x at) (λ k q at. subst (λ i. is_here place i ≡ is_owed_to all bytes drops i q.0 items) (index_moves c k) (owed (suc k) q at)),
     )
 
-nobody_owed : (all : ℕ) (bytes : List ℕ) (c : ℕ) (qs : List QueueId) (items : Moved) → ((k : ℕ) (q : QueueId) → slice_get qs k ≡ Some q → false ≡ is_owed (items.sent q.0) (input_of all (c + k) bytes)) → some_owed all bytes c (numbers qs) items ≡ false
-nobody_owed all bytes c [] items owed = refl
-nobody_owed all bytes c (q ∷ qs) items owed =
+nobody_owed : (all : ℕ) (bytes : List ℕ) (drops : List Bool) (c : ℕ) (qs : List QueueId) (items : Moved) → ((k : ℕ) (q : QueueId) → slice_get qs k ≡ Some q → false ≡ is_owed_to all bytes drops (c + k) q.0 items) → some_owed all bytes drops c (numbers qs) items ≡ false
+nobody_owed all bytes drops c [] items owed = refl
+nobody_owed all bytes drops c (q ∷ qs) items owed =
     let z : c + 0 ≡ c = omega arith in
-    let e : is_owed (items.sent q.0) (input_of all c bytes) ≡ false = subst (λ i. is_owed (items.sent q.0) (input_of all i bytes) ≡ false) z (sym (owed 0 q refl)) in
-    rw (e, nobody_owed all bytes (c + 1) qs items (λ k x at. subst (λ i. false ≡ is_owed (items.sent x.0) (input_of all i bytes)) (index_moves c k) (owed (suc k) x at))) refl
+    let e : is_owed_to all bytes drops c q.0 items ≡ false = subst (λ i. is_owed_to all bytes drops i q.0 items ≡ false) z (sym (owed 0 q refl)) in
+    rw (e, nobody_owed all bytes drops (c + 1) qs items (λ k x at. subst (λ i. false ≡ is_owed_to all bytes drops i x.0 items) (index_moves c k) (owed (suc k) x at))) refl
 
-one_owed : (to all : ℕ) (bytes : List ℕ) (c : ℕ) (qs : List QueueId) (items : Moved) → c ≤ to → to < c + length qs → ((k : ℕ) (q : QueueId) → slice_get qs k ≡ Some q → nat_eq to (c + k) ≡ is_owed (items.sent q.0) (input_of all (c + k) bytes)) → ((eqb to c ≡ true) × (to ≡ c)) ⊎ ((eqb to c ≡ false) × (to ≢ c)) → some_owed all bytes c (numbers qs) items ≡ true
-one_owed to all bytes c [] items le lt owed t = absurd (omega arith)
-one_owed to all bytes c (q ∷ qs) items le lt owed (inl t) =
+one_owed : (to all : ℕ) (bytes : List ℕ) (drops : List Bool) (c : ℕ) (qs : List QueueId) (items : Moved) → c ≤ to → to < c + length qs → ((k : ℕ) (q : QueueId) → slice_get qs k ≡ Some q → nat_eq to (c + k) ≡ is_owed_to all bytes drops (c + k) q.0 items) → ((eqb to c ≡ true) × (to ≡ c)) ⊎ ((eqb to c ≡ false) × (to ≢ c)) → some_owed all bytes drops c (numbers qs) items ≡ true
+one_owed to all bytes drops c [] items le lt owed t = absurd (omega arith)
+one_owed to all bytes drops c (q ∷ qs) items le lt owed (inl t) =
     let z : c + 0 ≡ c = omega arith in
-    let e : is_owed (items.sent q.0) (input_of all c bytes) ≡ true = sym (subst (λ i. nat_eq to i ≡ is_owed (items.sent q.0) (input_of all i bytes)) z (owed 0 q refl)) ∙ t.0 in
+    let e : is_owed_to all bytes drops c q.0 items ≡ true = sym (subst (λ i. nat_eq to i ≡ is_owed_to all bytes drops i q.0 items) z (owed 0 q refl)) ∙ t.0 in
     rw e refl
-one_owed to all bytes c (q ∷ qs) items le lt owed (inr t) =
-    rw (one_owed to all bytes (c + 1) qs items (omega (arith, t.1)) (omega arith) (λ k x at. subst (λ i. nat_eq to i ≡ is_owed (items.sent x.0) (input_of all i bytes)) (index_moves c k) (owed (suc k) x at)) (eqb_tells to (c + 1))) (or_true (is_owed (items.sent q.0) (input_of all c bytes)))
+one_owed to all bytes drops c (q ∷ qs) items le lt owed (inr t) =
+    rw (one_owed to all bytes drops (c + 1) qs items (omega (arith, t.1)) (omega arith) (λ k x at. subst (λ i. nat_eq to i ≡ is_owed_to all bytes drops i x.0 items) (index_moves c k) (owed (suc k) x at)) (eqb_tells to (c + 1))) (or_true (is_owed_to all bytes drops c q.0 items))
   where
     or_true : (b : Bool) → (b || true) ≡ true
     or_true true = refl
     or_true false = refl
 
-owed_some : (to : ℕ) (load : Option Cargo) (all : ℕ) (bytes : List ℕ) (c : ℕ) (qs : List QueueId) (items : Moved) → (is_some load ≡ true → (c ≤ to) × (to < c + length qs)) → ((k : ℕ) (q : QueueId) → slice_get qs k ≡ Some q → is_here (option_map (λ x. to) load) (c + k) ≡ is_owed (items.sent q.0) (input_of all (c + k) bytes)) → some_owed all bytes c (numbers qs) items ≡ is_some load
-owed_some to None all bytes c qs items there owed = nobody_owed all bytes c qs items owed
-owed_some to (Some x) all bytes c qs items there owed = let t = there refl in one_owed to all bytes c qs items t.0 t.1 owed (eqb_tells to c)
+owed_some : (to : ℕ) (load : Option Cargo) (all : ℕ) (bytes : List ℕ) (drops : List Bool) (c : ℕ) (qs : List QueueId) (items : Moved) → (is_some load ≡ true → (c ≤ to) × (to < c + length qs)) → ((k : ℕ) (q : QueueId) → slice_get qs k ≡ Some q → is_here (option_map (λ x. to) load) (c + k) ≡ is_owed_to all bytes drops (c + k) q.0 items) → some_owed all bytes drops c (numbers qs) items ≡ is_some load
+owed_some to None all bytes drops c qs items there owed = nobody_owed all bytes drops c qs items owed
+owed_some to (Some x) all bytes drops c qs items there owed = let t = there refl in one_owed to all bytes drops c qs items t.0 t.1 owed (eqb_tells to c)
 
 inputs_meet : (ends : Role → ℕ → End) (need need' : Bool) (c : ℕ) (is : List Intake) → need ≡ need' → ((k : ℕ) (i : Intake) → slice_get is k ≡ Some i → Agrees (ends Consumer i.queue.0) i.state) → Meet ends (map intake_post is) (needs_from (λ place. need) c (map (λ (i : Intake). i.queue) is)) (map (λ q. intake_want q need') (numbers (map (λ (i : Intake). i.queue) is)))
 inputs_meet ends need need' c [] same agrees = tt
@@ -116,20 +122,62 @@ module _ (scene : Scene) (w : List Queue) (passed : Passed) (items : Moved) (h :
   free : (p : Pipe) → PipeStandsFor p passed → is_none p.load ≡ not (is_owed (items.sent p.output.queue.0) (items.taken p.input.queue.0))
   free p st = none_is p.load ∙ ap not (loaded p st)
 
-  rx_owed : (v : SerialVirtRx) → HoldingRxStands v passed → (k : ℕ) (q : QueueId) → slice_get (outlet_queues v.outputs) k ≡ Some q → is_here (place_loaded v) (0 + k) ≡ is_owed (items.sent q.0) (input_of (clients_of v) (0 + k) (bytes_carried (passed.taken v.input.queue.0)))
+  -- what was put to a client, and what is owed to it, is what is due to it
+  rx_due : (v : SerialVirtRx) → RxStandsFor v passed → (k : ℕ) (q : QueueId) → slice_get (outlet_queues v.outputs) k ≡ Some q → length (items.sent q.0) + length (owed_to v.load v.to k) ≡ due_to (clients_of v) (bytes_carried (passed.taken v.input.queue.0)) v.drops.items k q.0 items
+  rx_due v st k q at = by (policy_of v k) refl
+    where
+      abbrev part : List ℕ
+      part = input_of (clients_of v) k (bytes_carried (passed.taken v.input.queue.0))
+
+      abbrev gone : List Bool
+      gone = (byte_fate v.input.queue.0 (taker_of v k q) passed.calls).dropped
+
+      abbrev here : ClientStands (policy_of v k) (byte_fate v.input.queue.0 (taker_of v k q) passed.calls) (noes_at Producer q.0 passed.calls) part (passed.sent q.0) (owed_to v.load v.to k)
+      here = st.clients k q at
+
+      put : length (passed.sent q.0) ≡ length (items.sent q.0)
+      put = sym (length-map (passed.sent q.0) (λ (c : Cargo). c.0)) ∙ ap length (h.sent q.0)
+
+      long : (bs : List ℕ) → passed.sent q.0 ++ owed_to v.load v.to k ≡ map byte_cargo bs → length (items.sent q.0) + length (owed_to v.load v.to k) ≡ length bs
+      long bs e =
+          let all = length-append (passed.sent q.0) (owed_to v.load v.to k) in
+          let same = ap length e ∙ length-map bs byte_cargo in
+          omega (arith, put, all, same)
+
+      by : (b : Bool) → policy_of v k ≡ b → length (items.sent q.0) + length (owed_to v.load v.to k) ≡ length part - cond b (items.noes Producer q.0) 0
+      by false e =
+          let n = long part (held_client v.input.queue.0 (taker_of v k q) e passed.calls (noes_at Producer q.0 passed.calls) part (passed.sent q.0) (owed_to v.load v.to k) here) in
+          omega (arith, n)
+      by true e =
+          let tells = here.tells e in
+          let came = tells.came in
+          let few : length gone ≤ length part = omega (arith, came) in
+          let left = without_length gone part few in
+          let n = long (without gone part) here.given in
+          let each = sym (h.noes Producer q.0) ∙ tells.each in
+          omega (arith, left, n, each)
+
+  rx_owed : (v : SerialVirtRx) → RxStandsFor v passed → (k : ℕ) (q : QueueId) → slice_get (outlet_queues v.outputs) k ≡ Some q → is_here (place_loaded v) (0 + k) ≡ is_owed_to (clients_of v) (bytes_carried (passed.taken v.input.queue.0)) v.drops.items (0 + k) q.0 items
   rx_owed v st k q at =
       let z : k ≡ 0 + k = omega arith in
-      let put : length (passed.sent q.0) ≡ length (items.sent q.0) = sym (length-map (passed.sent q.0) (λ (c : Cargo). c.0)) ∙ ap length (h.sent q.0) in
-      let all : length (passed.sent q.0) + length (owed_to v.load v.to k) ≡ length (input_of (clients_of v) k (bytes_carried (passed.taken v.input.queue.0))) = sym (length-append (passed.sent q.0) (owed_to v.load v.to k)) ∙ (ap length (st.given k q at) ∙ length-map (input_of (clients_of v) k (bytes_carried (passed.taken v.input.queue.0))) byte_cargo) in
-      subst (λ i. is_here (place_loaded v) i ≡ nat_lt (length (items.sent q.0)) (length (input_of (clients_of v) i (bytes_carried (passed.taken v.input.queue.0))))) z (owed_here v.load v.to k (length (items.sent q.0)) (length (input_of (clients_of v) k (bytes_carried (passed.taken v.input.queue.0)))) (omega arith) (eqb_tells v.to k))
+      subst (λ i. is_here (place_loaded v) i ≡ is_owed_to (clients_of v) (bytes_carried (passed.taken v.input.queue.0)) v.drops.items i q.0 items) z (owed_here v.load v.to k (length (items.sent q.0)) (due_to (clients_of v) (bytes_carried (passed.taken v.input.queue.0)) v.drops.items k q.0 items) (rx_due v st k q at) (eqb_tells v.to k))
 
-  rx_meets : (v : SerialVirtRx) → FitsRx (end_at w) v → HoldingRxStands v passed → Meet (end_at w) (holding_rx_round v).posts (holding_rx_round v).needs ((sheet scene (part_of (Kinds.SerialVirtRx v))).wants items)
+  -- whether a client drops is nothing to what is needed at its end
+  drops_meet : (ends : Role → ℕ → End) (ds : List Bool) (ps : List Post) (ns : List Bool) (ws : List Want) → Meet ends ps ns ws → Meet ends (with_drops ds ps) ns ws
+  drops_meet ends [] ps ns ws m = m
+  drops_meet ends (d ∷ ds) [] ns ws m = m
+  drops_meet ends (d ∷ ds) (p ∷ ps) [] ws m = m
+  drops_meet ends (d ∷ ds) (p ∷ ps) (n ∷ ns) [] m = m
+  drops_meet ends (d ∷ ds) (p ∷ ps) (n ∷ ns) (w ∷ ws) m = (record { needs = m.0.needs; agrees = m.0.agrees }, drops_meet ends ds ps ns ws m.1)
+
+  rx_meets : (v : SerialVirtRx) → FitsRx (end_at w) v → RxStandsFor v passed → Meet (end_at w) (rx_round v).posts (rx_round v).needs ((sheet scene (part_of (Kinds.SerialVirtRx v))).wants items)
   rx_meets v f st =
       let n : length (numbers (outlet_queues v.outputs)) ≡ clients_of v = simp length-map in
       let heard : bytes_in (items.taken v.input.queue.0) ≡ bytes_carried (passed.taken v.input.queue.0) = sym (carried_in (passed.taken v.input.queue.0) ∙ ap bytes_in (h.taken v.input.queue.0)) in
       rw (n, heard) (
-        record { needs = none_is v.load ∙ ap not (sym (owed_some v.to v.load (clients_of v) (bytes_carried (passed.taken v.input.queue.0)) 0 (outlet_queues v.outputs) items (λ some. (omega arith, let lt = st.to some in omega arith)) (rx_owed v st))); agrees = f.input },
-        shares_meet (end_at w) (place_loaded v) (clients_of v) (bytes_carried (passed.taken v.input.queue.0)) 0 v.outputs.ends.items items f.outputs.agrees (rx_owed v st),
+        record { needs = none_is v.load ∙ ap not (sym (owed_some v.to v.load (clients_of v) (bytes_carried (passed.taken v.input.queue.0)) v.drops.items 0 (outlet_queues v.outputs) items (λ some. (omega arith, let lt = st.to some in omega arith)) (rx_owed v st))); agrees = f.input },
+        drops_meet (end_at w) v.drops.items (outlet_posts v.outputs) (needs_from (is_here (place_loaded v)) 0 (outlet_queues v.outputs)) (shares (clients_of v) (bytes_carried (passed.taken v.input.queue.0)) v.drops.items 0 (numbers (outlet_queues v.outputs)) items)
+            (shares_meet (end_at w) (place_loaded v) (clients_of v) (bytes_carried (passed.taken v.input.queue.0)) v.drops.items 0 v.outputs.ends.items items f.outputs.agrees (rx_owed v st)),
       )
 
   tx_held : (v : SerialVirtTx) → TxStandsFor v passed → is_some v.load ≡ is_held v.output.queue.0 (numbers (intake_queues v.inputs)) items
@@ -172,7 +220,7 @@ module _ (history : History) (journal : List Entry) (w : List Queue) (bells : Ha
   rest_of : (x : Actor) → manner_of (part_of x) ≡ Calm → InTurn scene x passed → FitsActor (end_at w) x → ActorStandsFor x passed → actor_rests x ≡ all_settled history journal ((sheet scene (part_of x)).wants (moved history journal))
   rest_of (Kinds.UartDevice x) calm turn f st = settled_so (Kinds.UartDevice x) calm (terminal_meets scene w passed (moved history journal) has x.terminal f st)
   rest_of (Kinds.SerialClient x) calm turn f st = settled_so (Kinds.SerialClient x) calm (terminal_meets scene w passed (moved history journal) has x.terminal f st)
-  rest_of (Kinds.SerialVirtRx x) calm turn f st = settled_so (Kinds.SerialVirtRx x) calm (rx_meets scene w passed (moved history journal) has x f.0 st)
+  rest_of (Kinds.SerialVirtRx x) calm turn f st = settled_so (Kinds.SerialVirtRx x) calm (rx_meets scene w passed (moved history journal) has x f st)
   rest_of (Kinds.SerialVirtTx x) calm turn f st = settled_so (Kinds.SerialVirtTx x) calm (tx_meets scene w passed (moved history journal) has x f st)
   rest_of (Kinds.UartDriver x) calm turn f st = settled_so (Kinds.UartDriver x) calm (driver_meets scene w passed (moved history journal) has x f st)
   rest_of (Kinds.EthDevice x) calm turn f st = device_rest scene history journal w passed has bells x f.0 st

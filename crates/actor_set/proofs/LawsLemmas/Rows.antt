@@ -17,7 +17,11 @@ use Rattle.wire_core.specs.declared.names.QueueId.{QueueId}
 use Rattle.turn_kit.specs.ManyEnds.{intake_queues, outlet_queues}
 use Rattle.serial_switch.specs.Carried.{bytes_carried, byte_of}
 use Rattle.serial_switch.specs.Switching.{input_of}
-use Rattle.serial_virt.specs.Receiving.{HoldingRxStands, owed_to, clients_of}
+use Rattle.serial_virt.specs.Receiving.{RxStandsFor}
+use Rattle.serial_virt.proofs.Sharing.{rx_row as rx_row_of}
+use Rattle.serial_law.specs.Dropped.{told_marks, client_queues}
+use Rattle.serial_law.proofs.Telling.{told_shares}
+use Rattle.wire_core.specs.Ends.{Producer}
 use Rattle.serial_virt.specs.declared.rx.SerialVirtRx.{SerialVirtRx}
 use Rattle.serial_virt.specs.Sending.{TxStandsFor}
 use Rattle.serial_virt.specs.declared.tx.SerialVirtTx.{SerialVirtTx}
@@ -64,10 +68,6 @@ one_few : (load : Option Cargo) → length (items_of (option_to_list load)) ≤ 
 one_few None = omega arith
 one_few (Some c) = omega arith
 
-if_items : (b : Bool) (cs : List Cargo) → items_of (if b then cs else []) ≡ (if b then items_of cs else [])
-if_items true cs = refl
-if_items false cs = refl
-
 -- the bytes that entries carry are those of their items
 pub carried_in : (cs : List Cargo) → bytes_carried cs ≡ bytes_in (items_of cs)
 carried_in [] = refl
@@ -83,17 +83,11 @@ module _ (scene : Scene) (passed : Passed) (items : Moved) (h : HaveItems passed
   pipe_row : (p : Pipe) → PipeStandsFor p passed → IsPrefix (items.sent p.output.queue.0) (items.taken p.input.queue.0)
   pipe_row p f = (items_of (option_to_list p.load), rw (← h.sent p.output.queue.0, ← h.taken p.input.queue.0, f) (sym (map-append (λ (c : Cargo). c.0) (passed.sent p.output.queue.0) (option_to_list p.load))))
 
-  -- the bytes that entries carry are those of their items
-  rx_row : (v : SerialVirtRx) → HoldingRxStands v passed → (sheet scene (part_of (Kinds.SerialVirtRx v))).row (items)
+  -- the bytes that were dropped are those that its calls tell
+  rx_row : (v : SerialVirtRx) → RxStandsFor v passed → (sheet scene (part_of (Kinds.SerialVirtRx v))).row (items)
   rx_row v f = record {
-    owner = v.to;
-    owed = items_of (option_to_list v.load);
-    few = one_few v.load;
-    given = λ c q at.
-        let m = queue_there (outlet_queues v.outputs) c q at in
-        let heard : bytes_carried (passed.taken v.input.queue.0) ≡ bytes_in (items.taken v.input.queue.0) = carried_in (passed.taken v.input.queue.0) ∙ ap bytes_in (h.taken v.input.queue.0) in
-        let put : items_of (passed.sent m.0.0) ≡ (items.sent q) = h.sent m.0.0 ∙ ap (λ n. items.sent n) (sym m.2) in
-        rw (← put, ← heard, ← if_items (v.to == c) (option_to_list v.load), length-map) (sym (map-append (λ (x : Cargo). x.0) (passed.sent m.0.0) (owed_to v.load v.to c)) ∙ (ap items_of (f.given c m.0 m.1) ∙ items_of_bytes (input_of (clients_of v) c (bytes_carried (passed.taken v.input.queue.0)))));
+    marks = told_marks v.input.queue.0 (client_queues v) v.drops.items passed.calls;
+    out = told_shares v passed items (record { taken = h.taken v.input.queue.0; sent = λ k q at. h.sent q; noes = λ k q at. h.noes Producer q }) (rx_row_of v passed f);
   }
 
   tx_row : (v : SerialVirtTx) → TxStandsFor v passed → (sheet scene (part_of (Kinds.SerialVirtTx v))).row (items)

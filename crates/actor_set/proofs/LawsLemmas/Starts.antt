@@ -23,8 +23,7 @@ use Rattle.turn_kit.specs.Pipes.{FitsPipe, PipeStandsFor, IsNewPipe}
 use Rattle.turn_kit.specs.declared.pipe.Pipe.{Pipe}
 use Rattle.device_model.specs.SerialTerminal.Terminals.{FitsTerminal, TerminalStandsFor, IsNewTerminal}
 use Rattle.device_model.specs.declared.serial_terminal.Terminal.{Terminal}
-use Rattle.serial_virt.specs.Shares.{AllHold}
-use Rattle.serial_virt.specs.Receiving.{FitsRx, IsNewRx, new_outlet}
+use Rattle.serial_virt.specs.Receiving.{FitsRx, new_outlet, owed_to}
 use Rattle.serial_virt.specs.declared.rx.SerialVirtRx.{SerialVirtRx}
 use Rattle.serial_virt.specs.Sending.{FitsTx, IsNewTx, new_intake}
 use Rattle.serial_virt.specs.declared.tx.SerialVirtTx.{SerialVirtTx}
@@ -35,7 +34,7 @@ use Rattle.actor_set.specs.Actors.{FitsActor, ActorStandsFor, ActorEnd, IsWhole,
 use Rattle.actor_set.specs.Laws.Kinds.{sheet}
 use Rattle.actor_set.specs.declared.actor.Actor.{Actor}
 use Rattle.actor_set.specs.declared.actor.Actor.TheVariants as Kinds
-use Rattle.actor_set.specs.StartStates.{IsNew, HasApartEnds, HasSeat, kind_at}
+use Rattle.actor_set.specs.StartStates.{IsNew, IsNewSharer, HasApartEnds, HasSeat, kind_at}
 use Rattle.eth_driver.specs.Four.{four_pipes}
 use Rattle.actor_set.proofs.LawsLemmas.NetStarts.{Seated, new_pipes_fit, new_device_fits, new_copier_fits, new_client_fits, new_receiver_fits, new_receiver_whole, new_client_few, new_copier_work, new_pipes_stand, new_device_stands, new_copier_stands, new_client_stands, new_receiver_hand, new_client_hand}
 use Rattle.actor_set.proofs.LawsLemmas.TxStarts.{new_sender_fits, new_sender_whole, new_sender_hand}
@@ -57,12 +56,6 @@ queue_starts (a ∷ rows) (suc n) row h = queue_starts rows n row h
 end_is : (kind : QueueKind) (r : Role) → end_of true kind start_bells r ≡ start_end kind r
 end_is kind Consumer = refl
 end_is kind Producer = refl
-
--- where no client's bytes may be dropped
-all_hold : (qs : List QueueId) → AllHold (map (λ (q : QueueId). false) qs)
-all_hold [] k = refl
-all_hold (q ∷ qs) zero = refl
-all_hold (q ∷ qs) (suc k) = all_hold qs k
 
 module _ (rows : List QueueRow) (k : ℕ) where
   abbrev ends : Role → ℕ → End
@@ -133,17 +126,17 @@ module _ (rows : List QueueRow) (k : ℕ) where
     load = λ c h. let no : None ≡ Some c = sym new.load ∙ h in cc;
   }
 
-  rx_fits : (v : SerialVirtRx) → IsNewRx v.input.queue (outlet_queues v.outputs) (map (λ q. false) (outlet_queues v.outputs)) v → HasApartEnds (Kinds.SerialVirtRx v) → ((r : Role) (n : ℕ) → ActorEnd (Kinds.SerialVirtRx v) r n → HasSeat rows Kind.Byte k r n) → FitsRx ends v
+  rx_fits : (v : SerialVirtRx) → IsNewSharer v → HasApartEnds (Kinds.SerialVirtRx v) → ((r : Role) (n : ℕ) → ActorEnd (Kinds.SerialVirtRx v) r n → HasSeat rows Kind.Byte k r n) → FitsRx ends v
   rx_fits v new apart seats = record {
-    input = consumer_agrees v.input.queue.0 v.input.state (seats Consumer v.input.queue.0 refl) new.input_state;
+    input = consumer_agrees v.input.queue.0 v.input.state (seats Consumer v.input.queue.0 refl) new.new.input_state;
     outputs = record {
-      agrees = λ j i at. producer_agrees i.queue.0 i.state (seats Producer i.queue.0 (j, i.queue, map_get (λ (o : Outlet). o.queue) v.outputs.ends.items j i at, refl)) (let m = map_from new_outlet (outlet_queues v.outputs) j i (sym (ap (λ os. slice_get os j) new.outputs) ∙ at) in ap (λ (o : Outlet). o.state) (sym m.2));
+      agrees = λ j i at. producer_agrees i.queue.0 i.state (seats Producer i.queue.0 (j, i.queue, map_get (λ (o : Outlet). o.queue) v.outputs.ends.items j i at, refl)) (let m = map_from new_outlet (outlet_queues v.outputs) j i (sym (ap (λ os. slice_get os j) new.new.outputs) ∙ at) in ap (λ (o : Outlet). o.state) (sym m.2));
       apart = apart;
     };
     hears = consumer_kind v.input.queue.0 (seats Consumer v.input.queue.0 refl);
     says = λ j q at. producer_kind q.0 (seats Producer q.0 (j, q, at, refl));
-    load = λ c h. let no : None ≡ Some c = sym new.load ∙ h in cc;
-    policies = ap length new.policies ∙ length-map (outlet_queues v.outputs) (λ (q : QueueId). false);
+    load = λ c h. let no : None ≡ Some c = sym new.new.load ∙ h in cc;
+    policies = new.policies;
   }
 
   tx_fits : (v : SerialVirtTx) → IsNewTx v.output.queue (intake_queues v.inputs) v → HasApartEnds (Kinds.SerialVirtTx v) → ((r : Role) (n : ℕ) → ActorEnd (Kinds.SerialVirtTx v) r n → HasSeat rows Kind.Byte k r n) → FitsTx ends v
@@ -170,7 +163,7 @@ module _ (rows : List QueueRow) (k : ℕ) where
     inputs = ((apart.0, tt), (tt, tt));
     outputs = ((apart.1, tt), (tt, tt));
   }
-  new_fits (Kinds.SerialVirtRx x) new apart seats = (rx_fits x new apart seats, subst AllHold (sym new.policies) (all_hold (outlet_queues x.outputs)))
+  new_fits (Kinds.SerialVirtRx x) new apart seats = rx_fits x new apart seats
   new_fits (Kinds.SerialVirtTx x) new apart seats = tx_fits x new apart seats
   new_fits (Kinds.EthDevice x) new apart seats = (new_device_fits ends x new apart.0 apart.1 (net_seats (ActorEnd (Kinds.EthDevice x)) seats), new.new.drop)
   new_fits (Kinds.EthDriver x) new apart seats = new_pipes_fit ends (four_pipes x.driver.pipes) new apart.0 apart.1 (net_seats (ActorEnd (Kinds.EthDriver x)) seats)
@@ -205,9 +198,12 @@ new_stands (Kinds.UartDevice x) new = terminal_stands x.terminal new
 new_stands (Kinds.SerialClient x) new = terminal_stands x.terminal new
 new_stands (Kinds.UartDriver x) new = (pipe_stands x.driver.pipes.first new.0, (pipe_stands x.driver.pipes.rest new.1, tt))
 new_stands (Kinds.SerialVirtRx x) new = record {
-  switched = new.switched;
-  to = λ some. let no : true ≡ false = sym some ∙ ap is_some new.load in cc;
-  given = λ k q at. nothing_owed (x.to == k) (option_to_list x.load) (ap option_to_list new.load);
+  switched = new.new.switched;
+  to = λ some. let no : true ≡ false = sym some ∙ ap is_some new.new.load in cc;
+  told = λ k drops. refl;
+  clients = λ k q at.
+      let none : owed_to x.load x.to k ≡ [] = nothing_owed (x.to == k) (option_to_list x.load) (ap option_to_list new.new.load) in
+      record { given = none; tells = λ drops. record { came = refl; waits = sym (ap length none); each = refl } };
 }
 new_stands (Kinds.SerialVirtTx x) new = subst (λ o. Merge (map (λ (q : QueueId). []) (intake_queues x.inputs)) (option_to_list o)) (sym new.load) (merge_none (map (λ (q : QueueId). []) (intake_queues x.inputs)) (none_taken (intake_queues x.inputs)))
 new_stands (Kinds.EthDevice x) new = new_device_stands x new
@@ -265,7 +261,7 @@ pub new_hand : (scene : Scene) (x : Actor) → IsNew x → (pool : PoolId) → b
 new_hand scene (Kinds.UartDevice x) new pool = refl
 new_hand scene (Kinds.SerialClient x) new pool = refl
 new_hand scene (Kinds.UartDriver x) new pool = rw (new.0.load, new.1.load) refl
-new_hand scene (Kinds.SerialVirtRx x) new pool = rw new.load refl
+new_hand scene (Kinds.SerialVirtRx x) new pool = rw new.new.load refl
 new_hand scene (Kinds.SerialVirtTx x) new pool = rw new.load refl
 new_hand scene (Kinds.EthDevice x) new pool = rw (new.new.load, new.new.wire.load) refl
 new_hand scene (Kinds.EthDriver x) new pool = rw (new.0.load, new.1.0.load, new.1.1.0.load, new.1.1.1.0.load) refl

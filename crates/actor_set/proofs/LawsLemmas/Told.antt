@@ -33,7 +33,7 @@ module _ (scene : Scene) (wild : Wild) where
   pub told_own : (names : Names) (p : Part) → IsOwn (told_sheet scene wild names p)
   told_own names (UartPart rx tx input) = sheet_own scene (UartPart rx tx input)
   told_own names (DriverPart device_rx device_tx rx tx) = sheet_own scene (DriverPart device_rx device_tx rx tx)
-  told_own names (RxPart rx clients) = sheet_own scene (RxPart rx clients)
+  told_own names (RxPart rx clients drops) = sheet_own scene (RxPart rx clients drops)
   told_own names (TxPart tx clients) = sheet_own scene (TxPart tx clients)
   told_own names (ClientPart rx tx script) = sheet_own scene (ClientPart rx tx script)
   told_own names (NetworkPart p) = sheet_own scene (NetworkPart p)
@@ -44,7 +44,7 @@ module _ (scene : Scene) (wild : Wild) where
   row_stays : (names grown : Names) → GrowsTo names grown → (p : Part) (m : Moved) → LiesWithin wild names p m → (told_sheet scene wild names p).row m → (told_sheet scene wild grown p).row m
   row_stays names grown grows (UartPart rx tx input) m within h = h
   row_stays names grown grows (DriverPart device_rx device_tx rx tx) m within h = h
-  row_stays names grown grows (RxPart rx clients) m within h = h
+  row_stays names grown grows (RxPart rx clients drops) m within h = h
   row_stays names grown grows (TxPart tx clients) m within h = h
   row_stays names grown grows (ClientPart rx tx script) m within h = h
   row_stays names grown grows (NetworkPart p) m within h = h
@@ -55,7 +55,7 @@ module _ (scene : Scene) (wild : Wild) where
   row_stood : (names grown : Names) → GrowsTo names grown → (p : Part) (m : Moved) → LiesWithin wild names p m → (told_sheet scene wild grown p).row m → (told_sheet scene wild names p).row m
   row_stood names grown grows (UartPart rx tx input) m within h = h
   row_stood names grown grows (DriverPart device_rx device_tx rx tx) m within h = h
-  row_stood names grown grows (RxPart rx clients) m within h = h
+  row_stood names grown grows (RxPart rx clients drops) m within h = h
   row_stood names grown grows (TxPart tx clients) m within h = h
   row_stood names grown grows (ClientPart rx tx script) m within h = h
   row_stood names grown grows (NetworkPart p) m within h = h
@@ -66,7 +66,7 @@ module _ (scene : Scene) (wild : Wild) where
   wants_stay : (names grown : Names) → GrowsTo names grown → (p : Part) (m : Moved) → LiesWithin wild names p m → (told_sheet scene wild names p).wants m ≡ (told_sheet scene wild grown p).wants m
   wants_stay names grown grows (UartPart rx tx input) m within = refl
   wants_stay names grown grows (DriverPart device_rx device_tx rx tx) m within = refl
-  wants_stay names grown grows (RxPart rx clients) m within = refl
+  wants_stay names grown grows (RxPart rx clients drops) m within = refl
   wants_stay names grown grows (TxPart tx clients) m within = refl
   wants_stay names grown grows (ClientPart rx tx script) m within = refl
   wants_stay names grown grows (NetworkPart p) m within = refl
@@ -77,7 +77,7 @@ module _ (scene : Scene) (wild : Wild) where
   dues_stay : (names grown : Names) → GrowsTo names grown → (p : Part) (m : Moved) → LiesWithin wild names p m → (told_sheet scene wild names p).dues m ≡ (told_sheet scene wild grown p).dues m
   dues_stay names grown grows (UartPart rx tx input) m within = refl
   dues_stay names grown grows (DriverPart device_rx device_tx rx tx) m within = refl
-  dues_stay names grown grows (RxPart rx clients) m within = refl
+  dues_stay names grown grows (RxPart rx clients drops) m within = refl
   dues_stay names grown grows (TxPart tx clients) m within = refl
   dues_stay names grown grows (ClientPart rx tx script) m within = refl
   dues_stay names grown grows (NetworkPart p) m within = refl
@@ -91,7 +91,7 @@ module _ (scene : Scene) (wild : Wild) where
   pub calm_row : (names : Names) (p : Part) (m : Moved) → NoneWild wild p → (told_sheet scene wild names p).row m → (sheet scene p).row m
   calm_row names (UartPart rx tx input) m none h = h
   calm_row names (DriverPart device_rx device_tx rx tx) m none h = h
-  calm_row names (RxPart rx clients) m none h = h
+  calm_row names (RxPart rx clients drops) m none h = h
   calm_row names (TxPart tx clients) m none h = h
   calm_row names (ClientPart rx tx script) m none h = h
   calm_row names (NetworkPart p) m none h = h
@@ -102,7 +102,7 @@ module _ (scene : Scene) (wild : Wild) where
   pub row_calm : (names : Names) (p : Part) (m : Moved) → NoneWild wild p → (sheet scene p).row m → (told_sheet scene wild names p).row m
   row_calm names (UartPart rx tx input) m none h = h
   row_calm names (DriverPart device_rx device_tx rx tx) m none h = h
-  row_calm names (RxPart rx clients) m none h = h
+  row_calm names (RxPart rx clients drops) m none h = h
   row_calm names (TxPart tx clients) m none h = h
   row_calm names (ClientPart rx tx script) m none h = h
   row_calm names (NetworkPart p) m none h = h
@@ -113,7 +113,7 @@ module _ (scene : Scene) (wild : Wild) where
   pub calm_wants : (names : Names) (p : Part) (m : Moved) → NoneWild wild p → (told_sheet scene wild names p).wants m ≡ (sheet scene p).wants m
   calm_wants names (UartPart rx tx input) m none = refl
   calm_wants names (DriverPart device_rx device_tx rx tx) m none = refl
-  calm_wants names (RxPart rx clients) m none = refl
+  calm_wants names (RxPart rx clients drops) m none = refl
   calm_wants names (TxPart tx clients) m none = refl
   calm_wants names (ClientPart rx tx script) m none = refl
   calm_wants names (NetworkPart p) m none = refl
@@ -124,7 +124,7 @@ module _ (scene : Scene) (wild : Wild) where
   pub calm_dues : (names : Names) (p : Part) (m : Moved) → NoneWild wild p → (told_sheet scene wild names p).dues m ≡ (sheet scene p).dues m
   calm_dues names (UartPart rx tx input) m none = refl
   calm_dues names (DriverPart device_rx device_tx rx tx) m none = refl
-  calm_dues names (RxPart rx clients) m none = refl
+  calm_dues names (RxPart rx clients drops) m none = refl
   calm_dues names (TxPart tx clients) m none = refl
   calm_dues names (ClientPart rx tx script) m none = refl
   calm_dues names (NetworkPart p) m none = refl
@@ -135,7 +135,7 @@ module _ (scene : Scene) (wild : Wild) where
   told_within : (p : Part) (passed : Passed) (m : Moved) → HandsOver passed → HaveItems passed m → LiesWithin wild (names_at passed) p m
   told_within (UartPart rx tx input) passed m flows has = tt
   told_within (DriverPart device_rx device_tx rx tx) passed m flows has = tt
-  told_within (RxPart rx clients) passed m flows has = tt
+  told_within (RxPart rx clients drops) passed m flows has = tt
   told_within (TxPart tx clients) passed m flows has = tt
   told_within (ClientPart rx tx script) passed m flows has = tt
   told_within (NetworkPart p) passed m flows has = tt
@@ -164,7 +164,7 @@ none_block cast calm rows (BlkClient req resp asks pool) = tt
 pub none_hostile : (cast : List Part) → AllCalm cast → (rows : List QueueRow) (p : Part) → NoneWild (wild_in (hostiles cast) rows) p
 none_hostile cast calm rows (UartPart rx tx input) = tt
 none_hostile cast calm rows (DriverPart device_rx device_tx rx tx) = tt
-none_hostile cast calm rows (RxPart rx clients) = tt
+none_hostile cast calm rows (RxPart rx clients drops) = tt
 none_hostile cast calm rows (TxPart tx clients) = tt
 none_hostile cast calm rows (ClientPart rx tx script) = tt
 none_hostile cast calm rows (NetworkPart p) = tt

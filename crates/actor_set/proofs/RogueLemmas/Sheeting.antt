@@ -28,7 +28,7 @@ need_is (n ∷ ns) outputs zero w at r = let e : Consumer ≡ Producer = ap (λ 
 need_is (n ∷ ns) outputs (suc i) w at r = need_is ns outputs i w at r
 
 pub own_sheet : (inputs outputs : List ℕ) (hand : ℕ → List ℕ) → IsOwn (rogue_sheet inputs outputs hand)
-own_sheet inputs outputs hand = record { row = λ a b same h. tt; wants = λ a b same. refl; ends = λ m. ends_are inputs outputs }
+own_sheet inputs outputs hand = record { row = λ a b same look h. tt; wants = λ a b same look. refl; ends = λ m. ends_are inputs outputs }
 
 pub needs_sheet : (inputs outputs : List ℕ) (hand : ℕ → List ℕ) → NeedsFollow (rogue_sheet inputs outputs hand)
 needs_sheet inputs outputs hand = record {

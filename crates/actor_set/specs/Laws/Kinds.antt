@@ -1,13 +1,17 @@
 -- The table of the kinds of actor, of all classes: what is said of each of them, how it goes about,
 -- and what a trace gives them beside what they say.
-use Rattle.std.specs.Prelude.{◌≡◌, ℕ, Bool, not, ◌&&◌, Some, List, [], ◌∷◌, flat_map, slice_get}
+use Rattle.std.specs.Prelude.{◌≡◌, ◌==◌, ℕ, Bool, false, not, cond, ◌&&◌, ◌||◌, Some, List, [], ◌∷◌}
+use Rattle.std.specs.Prelude.{flat_map, slice_get}
 use Rattle.std.specs.Option.{option_map_or}
 use Rattle.cargo_core.specs.declared.item.QueueKind.{QueueKind}
 use Rattle.cargo_core.specs.declared.item.QueueKind.TheVariants as Kind
 use Rattle.wire_core.specs.Ends.{Role, Consumer, Producer}
 use Rattle.wire_core.specs.Journal.{Hostiles}
+use Rattle.wire_core.specs.Marks.{is_role}
 use Rattle.play_core.specs.Manners.{Manner, Calm, Hostile, Manners, hostile_by}
+use Rattle.play_core.specs.Moved.{Seat}
 use Rattle.play_core.specs.Sheets.{Scene, Sheet}
+use Rattle.play_core.specs.Wants.{outlet}
 use Rattle.serial_law.specs.Parts.{SerialPart, SerialDevice, SerialDriver, SerialReceiver}
 use Rattle.serial_law.specs.Parts.{SerialSender, SerialClient}
 use Rattle.serial_law.specs.Table.{serial_sheet}
@@ -26,7 +30,7 @@ use Rattle.actor_set.specs.StartStates.{kind_by, kind_of_two, taken_kind}
 abbrev pub serial_part : SerialPart → Part
 serial_part (SerialDevice rx tx input) = UartPart rx tx input
 serial_part (SerialDriver device_rx device_tx rx tx) = DriverPart device_rx device_tx rx tx
-serial_part (SerialReceiver rx clients) = RxPart rx clients
+serial_part (SerialReceiver rx clients drops) = RxPart rx clients drops
 serial_part (SerialSender tx clients) = TxPart tx clients
 serial_part (SerialClient rx tx script) = ClientPart rx tx script
 
@@ -42,7 +46,7 @@ net_frames_of (NetClient program mac rx_active rx_free tx_active tx_free rx tx) 
 abbrev pub frames_of : Part → List (List ℕ)
 frames_of (UartPart rx tx input) = []
 frames_of (DriverPart device_rx device_tx rx tx) = []
-frames_of (RxPart rx clients) = []
+frames_of (RxPart rx clients drops) = []
 frames_of (TxPart tx clients) = []
 frames_of (ClientPart rx tx script) = []
 frames_of (NetworkPart p) = net_frames_of p
@@ -61,7 +65,7 @@ blk_image_of (BlkClient req resp asks pool) = []
 abbrev pub image_of : Part → List ℕ
 image_of (UartPart rx tx input) = []
 image_of (DriverPart device_rx device_tx rx tx) = []
-image_of (RxPart rx clients) = []
+image_of (RxPart rx clients drops) = []
 image_of (TxPart tx clients) = []
 image_of (ClientPart rx tx script) = []
 image_of (NetworkPart p) = []
@@ -78,7 +82,7 @@ abbrev pub sheet : Scene → Part → Sheet
 sheet scene (UartPart rx tx input) = serial_sheet (SerialDevice rx tx input)
 sheet scene (DriverPart device_rx device_tx rx tx) =
     serial_sheet (SerialDriver device_rx device_tx rx tx)
-sheet scene (RxPart rx clients) = serial_sheet (SerialReceiver rx clients)
+sheet scene (RxPart rx clients drops) = serial_sheet (SerialReceiver rx clients drops)
 sheet scene (TxPart tx clients) = serial_sheet (SerialSender tx clients)
 sheet scene (ClientPart rx tx script) = serial_sheet (SerialClient rx tx script)
 sheet scene (NetworkPart p) = net_sheet scene p
@@ -90,7 +94,7 @@ sheet scene (HostilePart p) = rogue_sheet p.inputs p.outputs (pages_in p.pages)
 abbrev pub manner_of : Part → Manner
 manner_of (UartPart rx tx input) = Calm
 manner_of (DriverPart device_rx device_tx rx tx) = Calm
-manner_of (RxPart rx clients) = Calm
+manner_of (RxPart rx clients drops) = Calm
 manner_of (TxPart tx clients) = Calm
 manner_of (ClientPart rx tx script) = Calm
 manner_of (NetworkPart p) = Calm
@@ -121,13 +125,36 @@ blk_kind (BlkClient req resp asks pool) r n = kind_by Kind.Resp Kind.Req r
 abbrev pub part_kind : Part → Role → ℕ → QueueKind
 part_kind (UartPart rx tx input) r n = Kind.Byte
 part_kind (DriverPart device_rx device_tx rx tx) r n = Kind.Byte
-part_kind (RxPart rx clients) r n = Kind.Byte
+part_kind (RxPart rx clients drops) r n = Kind.Byte
 part_kind (TxPart tx clients) r n = Kind.Byte
 part_kind (ClientPart rx tx script) r n = Kind.Byte
 part_kind (NetworkPart p) r n = Kind.Net
 part_kind (SendingPart p) r n = Kind.Net
 part_kind (BlockPart p) r n = blk_kind p r n
 part_kind (HostilePart p) r n = kind_by (taken_kind p.kind) p.kind r
+
+-- of these clients' queues the ends at which bytes may be dropped
+abbrev pub dropping_ends : (clients : List ℕ) (drops : List Bool) → List Seat
+dropping_ends [] drops = []
+dropping_ends (q ∷ qs) [] = []
+dropping_ends (q ∷ qs) (d ∷ ds) = cond d (outlet q ∷ dropping_ends qs ds) (dropping_ends qs ds)
+
+-- the ends at which a part drops what it has for want of what it would wait for there
+abbrev pub drop_seats : Part → List Seat
+drop_seats (UartPart rx tx input) = []
+drop_seats (DriverPart device_rx device_tx rx tx) = []
+drop_seats (RxPart rx clients drops) = dropping_ends clients drops
+drop_seats (TxPart tx clients) = []
+drop_seats (ClientPart rx tx script) = []
+drop_seats (NetworkPart p) = []
+drop_seats (SendingPart p) = []
+drop_seats (BlockPart p) = []
+drop_seats (HostilePart p) = []
+
+-- the end of a role at a queue is one of these
+abbrev pub has_seat : List Seat → Role → ℕ → Bool
+has_seat [] r n = false
+has_seat (s ∷ seats) r n = (is_role s.role r && (s.queue == n)) || has_seat seats r n
 
 -- nobody of a cast is hostile
 abbrev pub AllCalm : List Part → Type 0

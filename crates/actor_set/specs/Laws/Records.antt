@@ -38,7 +38,7 @@ abbrev pub record_by : Moved → Part → List ℕ
 record_by m (UartPart rx tx input) = bytes_in (m.taken tx)
 record_by m (ClientPart rx tx script) = bytes_in (m.taken rx)
 record_by m (DriverPart device_rx device_tx rx tx) = []
-record_by m (RxPart rx clients) = []
+record_by m (RxPart rx clients drops) = []
 record_by m (TxPart tx clients) = []
 record_by m (NetworkPart p) = []
 record_by m (SendingPart p) = []
@@ -79,7 +79,7 @@ net_frames_by passed (NetCopier lease_active lease_free rx_active rx_free) = []
 abbrev pub frames_by : Passed → Part → List (List ℕ)
 frames_by passed (UartPart rx tx input) = []
 frames_by passed (DriverPart device_rx device_tx rx tx) = []
-frames_by passed (RxPart rx clients) = []
+frames_by passed (RxPart rx clients drops) = []
 frames_by passed (TxPart tx clients) = []
 frames_by passed (ClientPart rx tx script) = []
 frames_by passed (NetworkPart p) = net_frames_by passed p
@@ -118,7 +118,7 @@ blk_replies_by passed (BlkClient req resp asks pool) = replies_to asks (passed.t
 abbrev pub replies_by : Passed → Part → List Reply
 replies_by passed (UartPart rx tx input) = []
 replies_by passed (DriverPart device_rx device_tx rx tx) = []
-replies_by passed (RxPart rx clients) = []
+replies_by passed (RxPart rx clients drops) = []
 replies_by passed (TxPart tx clients) = []
 replies_by passed (ClientPart rx tx script) = []
 replies_by passed (NetworkPart p) = []

@@ -25,7 +25,7 @@ abbrev pub told_sheet : Scene → Wild → Names → Part → Sheet
 told_sheet scene wild names (UartPart rx tx input) = sheet scene (UartPart rx tx input)
 told_sheet scene wild names (DriverPart device_rx device_tx rx tx) =
     sheet scene (DriverPart device_rx device_tx rx tx)
-told_sheet scene wild names (RxPart rx clients) = sheet scene (RxPart rx clients)
+told_sheet scene wild names (RxPart rx clients drops) = sheet scene (RxPart rx clients drops)
 told_sheet scene wild names (TxPart tx clients) = sheet scene (TxPart tx clients)
 told_sheet scene wild names (ClientPart rx tx script) = sheet scene (ClientPart rx tx script)
 told_sheet scene wild names (NetworkPart p) = sheet scene (NetworkPart p)
@@ -37,7 +37,7 @@ told_sheet scene wild names (HostilePart p) = sheet scene (HostilePart p)
 abbrev pub LiesWithin : Wild → Names → Part → Moved → Type 0
 LiesWithin wild names (UartPart rx tx input) m = Unit {0}
 LiesWithin wild names (DriverPart device_rx device_tx rx tx) m = Unit {0}
-LiesWithin wild names (RxPart rx clients) m = Unit {0}
+LiesWithin wild names (RxPart rx clients drops) m = Unit {0}
 LiesWithin wild names (TxPart tx clients) m = Unit {0}
 LiesWithin wild names (ClientPart rx tx script) m = Unit {0}
 LiesWithin wild names (NetworkPart p) m = Unit {0}
@@ -49,7 +49,7 @@ LiesWithin wild names (HostilePart p) m = Unit {0}
 abbrev pub NoneWild : Wild → Part → Type 0
 NoneWild wild (UartPart rx tx input) = Unit {0}
 NoneWild wild (DriverPart device_rx device_tx rx tx) = Unit {0}
-NoneWild wild (RxPart rx clients) = Unit {0}
+NoneWild wild (RxPart rx clients drops) = Unit {0}
 NoneWild wild (TxPart tx clients) = Unit {0}
 NoneWild wild (ClientPart rx tx script) = Unit {0}
 NoneWild wild (NetworkPart p) = Unit {0}

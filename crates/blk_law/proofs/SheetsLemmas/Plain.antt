@@ -24,8 +24,8 @@ module _ (scene : Scene) (req resp : ℕ) (image : List ℕ) where
 
   pub disk_own : IsOwn Disk
   disk_own = record {
-    row = λ a b alike h. subst (λ xs. IsPrefix xs (map answer_item (b.taken req))) (alike 1 (outlet resp) refl) (subst (λ ys. IsPrefix (a.sent resp) (map answer_item ys)) (alike 0 (intake req) refl) h);
-    wants = λ a b alike.
+    row = λ a b alike look h. subst (λ xs. IsPrefix xs (map answer_item (b.taken req))) (alike 1 (outlet resp) refl) (subst (λ ys. IsPrefix (a.sent resp) (map answer_item ys)) (alike 0 (intake req) refl) h);
+    wants = λ a b alike look.
         ap₂ (λ (xs ys : List Item). intake_want req (not (is_short xs ys)) ∷ outlet_want resp (is_short xs ys) ∷ []) (alike 1 (outlet resp) refl) (alike 0 (intake req) refl);
     ends = λ m. refl;
   }
@@ -57,8 +57,8 @@ module _ (scene : Scene) (req resp : ℕ) (asks : List Ask) (pool : PoolAt) wher
 
   pub client_own : IsOwn Client
   client_own = record {
-    row = λ a b alike h. subst (λ xs. AsksInOrder asks pool (b.taken resp) xs) (alike 1 (outlet req) refl) (subst (λ ys. AsksInOrder asks pool ys (a.sent req)) (alike 0 (intake resp) refl) h);
-    wants = λ a b alike.
+    row = λ a b alike look h. subst (λ xs. AsksInOrder asks pool (b.taken resp) xs) (alike 1 (outlet req) refl) (subst (λ ys. AsksInOrder asks pool ys (a.sent req)) (alike 0 (intake resp) refl) h);
+    wants = λ a b alike look.
         ap₂ (λ (xs ys : List Item). intake_want resp true ∷ outlet_want req (is_short xs (client_requests asks pool (length ys))) ∷ []) (alike 1 (outlet req) refl) (alike 0 (intake resp) refl);
     ends = λ m. refl;
   }

@@ -94,8 +94,8 @@ module _ (image : List ℕ) (wild : Wild) (names : Names) (req resp : ℕ) (pool
 
   pub virt_own : IsOwn S
   virt_own = record {
-    row = λ a b alike h. row_same a b alike h;
-    wants = λ a b alike. wants_same a b alike;
+    row = λ a b alike look h. row_same a b alike h;
+    wants = λ a b alike look. wants_same a b alike;
     ends = λ m. ap (λ ss. intake resp ∷ outlet req ∷ ss) (pair_seats (want_in m) (want_back m) clients);
   }
 

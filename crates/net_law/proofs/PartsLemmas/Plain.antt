@@ -26,8 +26,8 @@ module _ (scene : Scene) (rx_free rx_active tx_active tx_free : ℕ) (frames : L
 
   pub device_own : IsOwn Device
   device_own = record {
-    row = λ a b alike h. carry (λ x y z w. FillsFrames frames x y z w) (a.taken rx_free) (a.sent rx_active) (a.taken tx_active) (a.sent tx_free) (b.taken rx_free) (b.sent rx_active) (b.taken tx_active) (b.sent tx_free) (alike 0 (intake rx_free) refl) (alike 1 (outlet rx_active) refl) (alike 2 (intake tx_active) refl) (alike 3 (outlet tx_free) refl) h;
-    wants = λ a b alike.
+    row = λ a b alike look h. carry (λ x y z w. FillsFrames frames x y z w) (a.taken rx_free) (a.sent rx_active) (a.taken tx_active) (a.sent tx_free) (b.taken rx_free) (b.sent rx_active) (b.taken tx_active) (b.sent tx_free) (alike 0 (intake rx_free) refl) (alike 1 (outlet rx_active) refl) (alike 2 (intake tx_active) refl) (alike 3 (outlet tx_free) refl) h;
+    wants = λ a b alike look.
         let e0 : a.taken rx_free ≡ b.taken rx_free = alike 0 (intake rx_free) refl in
         let e1 : a.sent rx_active ≡ b.sent rx_active = alike 1 (outlet rx_active) refl in
         let e2 : a.taken tx_active ≡ b.taken tx_active = alike 2 (intake tx_active) refl in
@@ -94,7 +94,7 @@ module _ (scene : Scene) (ways : List Way) where
   pub driver_own : IsOwn Driver
   driver_own = record {
     row = λ a b alike h k w at. way_row a b alike k w at (h k w at);
-    wants = λ a b alike. flat_alike (way_wants a) (way_wants b) ways (way_same a b alike);
+    wants = λ a b alike look. flat_alike (way_wants a) (way_wants b) ways (way_same a b alike);
     ends = λ m. pair_seats (λ (w : Way). intake_want w.input (Rattle.std.specs.Prelude.not (is_short (m.sent w.output) (m.taken w.input)))) (λ w. outlet_want w.output (is_short (m.sent w.output) (m.taken w.input))) ways;
   }
 
@@ -132,8 +132,8 @@ module _ (scene : Scene) (lease_active lease_free rx_active rx_free : ℕ) where
 
   pub copier_own : IsOwn Copier
   copier_own = record {
-    row = λ a b alike h. carry (λ x y z w. CopiesLeases x y z w) (a.taken lease_active) (a.taken rx_free) (a.sent rx_active) (a.sent lease_free) (b.taken lease_active) (b.taken rx_free) (b.sent rx_active) (b.sent lease_free) (alike 0 (intake lease_active) refl) (alike 1 (intake rx_free) refl) (alike 2 (outlet rx_active) refl) (alike 3 (outlet lease_free) refl) h;
-    wants = λ a b alike.
+    row = λ a b alike look h. carry (λ x y z w. CopiesLeases x y z w) (a.taken lease_active) (a.taken rx_free) (a.sent rx_active) (a.sent lease_free) (b.taken lease_active) (b.taken rx_free) (b.sent rx_active) (b.sent lease_free) (alike 0 (intake lease_active) refl) (alike 1 (intake rx_free) refl) (alike 2 (outlet rx_active) refl) (alike 3 (outlet lease_free) refl) h;
+    wants = λ a b alike look.
         let e0 : a.taken lease_active ≡ b.taken lease_active = alike 0 (intake lease_active) refl in
         let e1 : a.taken rx_free ≡ b.taken rx_free = alike 1 (intake rx_free) refl in
         let e2 : a.sent rx_active ≡ b.sent rx_active = alike 2 (outlet rx_active) refl in
@@ -210,8 +210,8 @@ module _ (scene : Scene) (program : Program) (mac : Mac) (rx_active rx_free tx_a
 
   pub client_own : IsOwn Client
   client_own = record {
-    row = λ a b alike h. carry (λ x y z w. ServesClient program mac scene.frames (by_offset rx) (by_offset tx) x y z w) (a.taken rx_active) (a.sent rx_free) (a.taken tx_free) (a.sent tx_active) (b.taken rx_active) (b.sent rx_free) (b.taken tx_free) (b.sent tx_active) (alike 0 (intake rx_active) refl) (alike 1 (outlet rx_free) refl) (alike 2 (intake tx_free) refl) (alike 3 (outlet tx_active) refl) h;
-    wants = λ a b alike.
+    row = λ a b alike look h. carry (λ x y z w. ServesClient program mac scene.frames (by_offset rx) (by_offset tx) x y z w) (a.taken rx_active) (a.sent rx_free) (a.taken tx_free) (a.sent tx_active) (b.taken rx_active) (b.sent rx_free) (b.taken tx_free) (b.sent tx_active) (alike 0 (intake rx_active) refl) (alike 1 (outlet rx_free) refl) (alike 2 (intake tx_free) refl) (alike 3 (outlet tx_active) refl) h;
+    wants = λ a b alike look.
         let e0 : a.taken rx_active ≡ b.taken rx_active = alike 0 (intake rx_active) refl in
         let e1 : a.sent rx_free ≡ b.sent rx_free = alike 1 (outlet rx_free) refl in
         let e2 : a.taken tx_free ≡ b.taken tx_free = alike 2 (intake tx_free) refl in

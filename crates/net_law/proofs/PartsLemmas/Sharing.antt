@@ -110,8 +110,8 @@ module _ (scene : Scene) (active free : ℕ) (pool : PoolAt) (clients : List Les
 
   pub receiver_own : IsOwn Receiver
   receiver_own = record {
-    row = λ a b alike h. row_same a b alike h;
-    wants = λ a b alike. wants_same a b alike;
+    row = λ a b alike look h. row_same a b alike h;
+    wants = λ a b alike look. wants_same a b alike;
     ends = λ m. ap (λ ss. intake active ∷ outlet free ∷ ss) (pair_seats (lessee_lent m) (lessee_back m) clients);
   }
 

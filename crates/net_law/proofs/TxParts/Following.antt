@@ -71,8 +71,8 @@ module _ (p : SendPart) where
 
   pub send_own : IsOwn S
   send_own = record {
-    row = λ a b alike h. row_same a b alike h;
-    wants = λ a b alike. wants_same a b alike;
+    row = λ a b alike look h. row_same a b alike h;
+    wants = λ a b alike look. wants_same a b alike;
     ends = λ m. ap (λ ss. intake p.free ∷ outlet p.active ∷ ss) (pair_seats (want_in m) (want_back m) p.clients);
   }
 

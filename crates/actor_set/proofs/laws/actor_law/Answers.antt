@@ -38,4 +38,4 @@ pub returns-clause-fits_on : goal.returns-clause-fits_on
 returns-clause-fits_on c = λ old new a same fits. fits_beside old new a same fits
 
 pub returns-clause-stands_on : goal.returns-clause-stands_on
-returns-clause-stands_on c = λ old new a whole ins outs stands. stands_beside old new a whole ins outs stands
+returns-clause-stands_on c = λ old new a whole same ins outs stands. stands_beside old new a whole same ins outs stands

@@ -5,15 +5,17 @@ use Rattle.net_virt_rx.specs.Sharing.{IsSharer}
 use Rattle.net_virt_tx.specs.Traffics.{IsTraffic}
 use Rattle.actor_set.specs.Actors.{FitsActor, ActorStandsFor, IsWhole, IsWholeReceiver, IsWholeSender, IsWholeServer, Forgot, part_of, part_anew}
 use Rattle.actor_set.proofs.RogueLemmas.Ends.{anew_rogue_part}
-use Rattle.serial_virt.specs.Shares.{AllHold}
-use Rattle.actor_set.proofs.Casting.{few_still, first_still}
+use Rattle.actor_set.proofs.Casting.{few_still, first_still, rx_part}
 use Rattle.actor_set.proofs.actor.Actor.forget.Goals as goal
 
 pub returns-in-SerialVirtRx-clause-fits : goal.returns-in-SerialVirtRx-clause-fits
-returns-in-SerialVirtRx-clause-fits c = λ ends h. let f = subst (FitsActor ends) c.in-SerialVirtRx.is h in (c.forget-in-SerialVirtRx.ensures.fits ends f.0, subst AllHold (sym c.forget-in-SerialVirtRx.ensures.policies) f.1)
+returns-in-SerialVirtRx-clause-fits c = λ ends h. c.forget-in-SerialVirtRx.ensures.fits ends (subst (FitsActor ends) c.in-SerialVirtRx.is h)
 
 pub returns-in-SerialVirtRx-clause-lists : goal.returns-in-SerialVirtRx-clause-lists
-returns-in-SerialVirtRx-clause-lists c = λ passed h. c.forget-in-SerialVirtRx.ensures.held passed (subst (λ a. ActorStandsFor a passed) c.in-SerialVirtRx.is h)
+returns-in-SerialVirtRx-clause-lists c = λ passed h. c.forget-in-SerialVirtRx.ensures.lists passed (subst (λ a. ActorStandsFor a passed) c.in-SerialVirtRx.is h)
+
+pub returns-in-SerialVirtRx-clause-part : goal.returns-in-SerialVirtRx-clause-part
+returns-in-SerialVirtRx-clause-part c = subst (λ a. part_of (Kinds.SerialVirtRx c.forget-in-SerialVirtRx.new.self) ≡ part_anew a) (sym c.in-SerialVirtRx.is) (rx_part c.in-SerialVirtRx.virt c.forget-in-SerialVirtRx.new.self c.forget-in-SerialVirtRx.ensures.queues c.forget-in-SerialVirtRx.ensures.policies)
 
 pub returns-in-EthDevice-clause-fits : goal.returns-in-EthDevice-clause-fits
 returns-in-EthDevice-clause-fits c = λ ends h. let f = subst (FitsActor ends) c.in-EthDevice.is h in (c.forget-in-EthDevice.ensures.fits ends f.0, c.forget-in-EthDevice.ensures.same.drops ∙ f.1)

@@ -1,0 +1,177 @@
+-- What the calls of others are to a receiving virtualiser of the serial class: nothing.
+use Rattle.std.proofs.Common.{◌≡◌, ◌==◌, ◌&&◌, ◌+◌, nat_lt, ℕ, Bool, true, false, cond, Some, List, [], ◌∷◌, ◌++◌, flat_map, length, slice_get, refl, sym, ap, ◌∙◌, subst}
+use Rattle.std.specs.List.{filter}
+use Rattle.std.proofs.lemmas.Bool.{and_parts, eqb-true}
+use Rattle.std.proofs.lemmas.List.Concat.{flat_map-append}
+use Rattle.wire_core.specs.declared.names.Answer.{Answer}
+use Rattle.wire_core.specs.declared.names.Answer.TheVariants.{Done, Yes, No}
+use Rattle.wire_core.specs.declared.names.Event.{Event}
+use Rattle.wire_core.specs.declared.names.Op.{Op}
+use Rattle.wire_core.specs.declared.names.Op.TheVariants as Do
+use Rattle.wire_core.specs.declared.names.QueueId.{QueueId}
+use Rattle.wire_core.specs.Bells.{bit}
+use Rattle.wire_core.specs.Deeds.{Cargo}
+use Rattle.wire_core.specs.Ends.{Role, Consumer, Producer, role_of}
+use Rattle.wire_core.specs.Fates.{Word, Came, Served, Refused, Other, Fate, is_take, is_take_at, is_vain_at, noes_at}
+use Rattle.wire_core.specs.Lists.{Passed}
+use Rattle.wire_core.specs.Marks.{is_role, is_vain_look}
+use Rattle.wire_core.specs.Queues.{is_store}
+use Rattle.wire_core.proofs.Reasons.{fate_own}
+use Rattle.turn_kit.specs.ManyEnds.{outlet_queues}
+use Rattle.serial_switch.specs.Carried.{bytes_carried}
+use Rattle.serial_switch.specs.Switching.{input_of}
+use Rattle.serial_virt.specs.Shares.{Taker, is_put, is_put_at, byte_told, heard, serial_word, byte_fate, ClientStands}
+use Rattle.serial_virt.specs.Receiving.{RxStandsFor, RxEnd, clients_of, policy_of, taker_of, owed_to}
+use Rattle.serial_virt.specs.declared.rx.SerialVirtRx.{SerialVirtRx}
+use Rattle.actor_set.specs.Actors.{ActsAlike}
+use Rattle.actor_set.specs.declared.actor.Actor.TheVariants as Kinds
+use Rattle.actor_set.proofs.LawsLemmas.Alike.{role_same}
+
+take_role : (o : Op) → is_take o ≡ true → (role_of o ≡ Consumer) × (is_store o ≡ false)
+take_role Do.Take h = (refl, refl)
+take_role Do.Put h = cc
+take_role Do.See h = cc
+take_role Do.Room h = cc
+take_role (Do.Ask s) h = cc
+take_role (Do.Waive s) h = cc
+take_role (Do.Wake s) h = cc
+take_role (Do.Wanted s) h = cc
+take_role (Do.Settle s) h = cc
+take_role (Do.Ring s) h = cc
+take_role (Do.Store w v) h = cc
+
+put_role : (o : Op) → is_put o ≡ true → (role_of o ≡ Producer) × (is_store o ≡ false)
+put_role Do.Put h = (refl, refl)
+put_role Do.Take h = cc
+put_role Do.See h = cc
+put_role Do.Room h = cc
+put_role (Do.Ask s) h = cc
+put_role (Do.Waive s) h = cc
+put_role (Do.Wake s) h = cc
+put_role (Do.Wanted s) h = cc
+put_role (Do.Settle s) h = cc
+put_role (Do.Ring s) h = cc
+put_role (Do.Store w v) h = cc
+
+vain_plain : (o : Op) (a : Answer) → is_vain_look o a ≡ true → is_store o ≡ false
+vain_plain Do.See a h = refl
+vain_plain Do.Room a h = refl
+vain_plain Do.Take a h = refl
+vain_plain Do.Put a h = refl
+vain_plain (Do.Ask s) a h = refl
+vain_plain (Do.Waive s) a h = refl
+vain_plain (Do.Wake s) a h = refl
+vain_plain (Do.Wanted s) a h = refl
+vain_plain (Do.Settle s) a h = refl
+vain_plain (Do.Ring s) a h = refl
+vain_plain (Do.Store w v) a h = cc
+
+false_unless : (b : Bool) → (b ≡ true → ⊥) → b ≡ false
+false_unless true no = absurd (no refl)
+false_unless false no = refl
+
+-- a client stands as before where what its calls tell, what came and what went stay
+same_client : (drops : Bool) (f g : Fate) (n m : ℕ) (xs ys : List ℕ) (s t owed : List Cargo) → g ≡ f → m ≡ n → ys ≡ xs → t ≡ s → ClientStands drops f n xs s owed → ClientStands drops g m ys t owed
+same_client drops f g n m xs ys s t owed fates noes came went c =
+    subst (λ (z : Fate). ClientStands drops z m ys t owed) (sym fates)
+    (subst (λ (z : ℕ). ClientStands drops f z ys t owed) (sym noes)
+    (subst (λ (z : List ℕ). ClientStands drops f n z t owed) (sym came)
+    (subst (λ (z : List Cargo). ClientStands drops f n xs z owed) (sym went) c)))
+
+module _ (v : SerialVirtRx) (own : Event → Bool) (others : (e : Event) → own e ≡ false → RxEnd v (role_of e.op) e.queue.0 → is_store e.op ≡ true) where
+  abbrev rx : ℕ
+  rx = v.input.queue.0
+
+  -- no call at one of its ends is another's, but for a store
+  not_other : (r : Role) (n : ℕ) → RxEnd v r n → (e : Event) → own e ≡ false → role_of e.op ≡ r → e.queue.0 ≡ n → is_store e.op ≡ false → ⊥
+  not_other r n end e no role queue plain =
+      let store : is_store e.op ≡ true = others e no (subst (λ z. RxEnd v z e.queue.0) (sym role) (subst (RxEnd v r) (sym queue) end)) in
+      let bad : true ≡ false = sym store ∙ plain in
+      cc
+
+  no_take : (e : Event) → own e ≡ false → is_take_at rx e ≡ false
+  no_take e no = false_unless (is_take_at rx e) (λ h.
+      let p = and_parts (is_take e.op) (e.queue.0 == rx) h in
+      let r = take_role e.op p.0 in
+      not_other Consumer rx refl e no r.0 (eqb-true e.queue.0 rx p.1) r.1)
+
+  heard_own : (es : List Event) → heard rx es ≡ heard rx (filter own es)
+  heard_own [] = refl
+  heard_own (e ∷ es) = by (own e) refl
+    where
+      by : (b : Bool) → own e ≡ b → heard rx (e ∷ es) ≡ heard rx (filter own (e ∷ es))
+      by true o = ap (λ bs. cond (is_take_at rx e) (byte_told e.item) [] ++ bs) (heard_own es) ∙ ap (λ b. heard rx (cond b (e ∷ filter own es) (filter own es))) (sym o)
+      by false o = ap (λ b. cond b (byte_told e.item) [] ++ heard rx es) (no_take e o) ∙ (heard_own es ∙ ap (λ b. heard rx (cond b (e ∷ filter own es) (filter own es))) (sym o))
+
+  module _ (k : ℕ) (q : QueueId) (at : slice_get (outlet_queues v.outputs) k ≡ Some q) where
+    no_put : (e : Event) → own e ≡ false → is_put_at q.0 e ≡ false
+    no_put e no = false_unless (is_put_at q.0 e) (λ h.
+        let p = and_parts (is_put e.op) (e.queue.0 == q.0) h in
+        let r = put_role e.op p.0 in
+        not_other Producer q.0 (k, q, at, refl) e no r.0 (eqb-true e.queue.0 q.0 p.1) r.1)
+
+    no_vain : (e : Event) → own e ≡ false → is_vain_at Producer q.0 e ≡ false
+    no_vain e no = false_unless (is_vain_at Producer q.0 e) (λ h.
+        let p = and_parts (is_vain_look e.op e.answer) (is_role (role_of e.op) Producer && (e.queue.0 == q.0)) h in
+        let r = and_parts (is_role (role_of e.op) Producer) (e.queue.0 == q.0) p.1 in
+        not_other Producer q.0 (k, q, at, refl) e no (role_same (role_of e.op) Producer r.0) (eqb-true e.queue.0 q.0 r.1) (vain_plain e.op e.answer p.0))
+
+    noes_own : (es : List Event) → noes_at Producer q.0 es ≡ noes_at Producer q.0 (filter own es)
+    noes_own [] = refl
+    noes_own (e ∷ es) = by (own e) refl
+      where
+        by : (b : Bool) → own e ≡ b → noes_at Producer q.0 (e ∷ es) ≡ noes_at Producer q.0 (filter own (e ∷ es))
+        by true o = ap (λ n. bit (is_vain_at Producer q.0 e) + n) (noes_own es) ∙ ap (λ b. noes_at Producer q.0 (cond b (e ∷ filter own es) (filter own es))) (sym o)
+        by false o = ap (λ b. bit b + noes_at Producer q.0 es) (no_vain e o) ∙ (noes_own es ∙ ap (λ b. noes_at Producer q.0 (cond b (e ∷ filter own es) (filter own es))) (sym o))
+
+    abbrev t : Taker
+    t = taker_of v k q
+
+    -- what a call is by the bytes that were heard before
+    abbrev word_by : List ℕ → Event → Word
+    word_by bs e =
+        cond (is_take_at rx e)
+        (cond (nat_lt (length (input_of t.clients t.client bs)) (length (input_of t.clients t.client (bs ++ heard rx (e ∷ []))))) Came Other)
+        (cond (is_put_at t.queue e) Served (cond (t.drops && is_vain_at Producer t.queue e) Refused Other))
+
+    word_is : (before : List Event) (e : Event) → serial_word rx t before e ≡ word_by (heard rx before) e
+    word_is before e = ap (λ bs.
+        cond (is_take_at rx e)
+        (cond (nat_lt (length (input_of t.clients t.client (heard rx before))) (length (input_of t.clients t.client bs))) Came Other)
+        (cond (is_put_at t.queue e) Served (cond (t.drops && is_vain_at Producer t.queue e) Refused Other)))
+        (flat_map-append (λ (f : Event). cond (is_take_at rx f) (byte_told f.item) []) before (e ∷ []))
+
+    word_own : (before : List Event) (e : Event) → serial_word rx t before e ≡ serial_word rx t (filter own before) e
+    word_own before e = word_is before e ∙ (ap (λ bs. word_by bs e) (heard_own before) ∙ sym (word_is (filter own before) e))
+
+    and_no : (b : Bool) → (b && false) ≡ false
+    and_no true = refl
+    and_no false = refl
+
+    silent : (before : List Event) (e : Event) → own e ≡ false → serial_word rx t before e ≡ Other
+    silent before e no = rw (no_take e no, no_put e no, no_vain e no, and_no t.drops) refl
+
+    fate_is : (es : List Event) → byte_fate rx t es ≡ byte_fate rx t (filter own es)
+    fate_is es = fate_own (serial_word rx t) own silent word_own es
+
+-- where its ends have the same lists, and it did the same by its calls, it stands for them
+module _ (passed passed' : Passed) where
+  pub stands_rx : (v : SerialVirtRx) → ActsAlike (Kinds.SerialVirtRx v) passed.calls passed'.calls → ((n : ℕ) → RxEnd v Consumer n → passed'.taken n ≡ passed.taken n) → ((n : ℕ) → RxEnd v Producer n → passed'.sent n ≡ passed.sent n) → RxStandsFor v passed → RxStandsFor v passed'
+  stands_rx v same ins outs f = record {
+    switched = rw (ins v.input.queue.0 refl) f.switched;
+    to = f.to;
+    told = λ k drops. rw (ins v.input.queue.0 refl) (sounds ∙ f.told k drops);
+    clients = λ k q at. same_client (policy_of v k)
+        (byte_fate v.input.queue.0 (taker_of v k q) passed.calls) (byte_fate v.input.queue.0 (taker_of v k q) passed'.calls)
+        (noes_at Producer q.0 passed.calls) (noes_at Producer q.0 passed'.calls)
+        (input_of (clients_of v) k (bytes_carried (passed.taken v.input.queue.0))) (input_of (clients_of v) k (bytes_carried (passed'.taken v.input.queue.0)))
+        (passed.sent q.0) (passed'.sent q.0) (owed_to v.load v.to k)
+        (fate_is v same.own same.others k q at passed'.calls ∙ (ap (byte_fate v.input.queue.0 (taker_of v k q)) same.same ∙ sym (fate_is v same.own same.others k q at passed.calls)))
+        (noes_own v same.own same.others k q at passed'.calls ∙ (ap (noes_at Producer q.0) same.same ∙ sym (noes_own v same.own same.others k q at passed.calls)))
+        (ap (λ cs. input_of (clients_of v) k (bytes_carried cs)) (ins v.input.queue.0 refl))
+        (outs q.0 (k, q, at, refl))
+        (f.clients k q at);
+  }
+    where
+      sounds : heard v.input.queue.0 passed'.calls ≡ heard v.input.queue.0 passed.calls
+      sounds = heard_own v same.own same.others passed'.calls ∙ (ap (heard v.input.queue.0) same.same ∙ sym (heard_own v same.own same.others passed.calls))
