@@ -2,6 +2,7 @@
 pub mod Telling
 pub mod Growing
 pub mod Hosts
+pub mod Marking
 pub mod SystemStep
 pub mod Playing
 pub mod RunsNow

@@ -214,4 +214,4 @@ pub record StandsLawful (s : Shown) : Type 0 where
   pub lawful : IsLawful s.setting s.journal
   pub told : IsTold s
   -- and of the bytes for serial clients those were dropped that its calls tell
-  pub calls : HaveTold s.setting s.journal told.passed.calls
+  pub calls : HaveTold s.setting.history s.setting.cast s.journal told.passed.calls

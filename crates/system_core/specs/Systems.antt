@@ -23,6 +23,7 @@ use Rattle.cast_law.specs.Pools.Beside.{CastCarries, RoguesAsk}
 use Rattle.cast_law.specs.Pools.Owning.{IsKeptBeside}
 use Rattle.cast_law.specs.Pools.Places.{PoolPlace, IsPlaced}
 use Rattle.system_core.specs.Shows.{Setting, hostile_in}
+use Rattle.system_core.specs.Dropped.{HaveTold}
 use Rattle.system_core.specs.Lawful.{IsFitted}
 use Rattle.actor_set.specs.declared.actor.Actor.{Actor}
 use Rattle.actor_set.specs.declared.actor.Actor.TheVariants as Kinds
@@ -38,7 +39,11 @@ pub record Holds (history : History) (rows : List QueueRow) (names : List Noted)
   pub shows_taken : (n : ℕ) → items_of (passed.taken n) ≡ (track history n journal).taken
   pub shows_sent : (n : ℕ) → items_of (passed.sent n) ≡ (track history n journal).sent
   -- and by its calls each end looked in vain as often
-  pub shows_noes : (r : Role) (n : ℕ) → noes_at r n passed.calls ≡ noes_of r (track history n journal)
+  pub shows_noes : (r : Role) (n : ℕ)
+      → noes_at r n passed.calls ≡ noes_of r (track history n journal)
+  -- which are those made before the journal begins, and the journal's; and those bytes for serial
+  -- clients were dropped that they tell
+  pub told : HaveTold history (map part_of actors) journal passed.calls
   -- what was put to a queue is of its kind
   pub kinds : AreOfKind rows passed
   pub size : length world ≡ length rows
