@@ -1,5 +1,5 @@
 -- A play of a plan and a trace is shorter than their budget.
-use Rattle.std.proofs.Common.{◌≡◌, ◌<◌, ◌+◌, ◌*◌, ℕ, None, Some, Option, List, length, [], refl, subst}
+use Rattle.std.proofs.Common.{◌≡◌, ◌<◌, ◌+◌, ◌*◌, ℕ, None, Some, Option, List, length, [], refl, subst, Bool}
 use Rattle.std.specs.Option.{option_map_or}
 use Rattle.wire_core.specs.declared.names.Entry.{Entry}
 use Rattle.wire_core.specs.Journal.{LegalJournal, BellsHold, QueuesFlow}
@@ -21,7 +21,7 @@ use Rattle.serial_law.proofs.Arrivals.{as_there, RowAt}
 use Rattle.actor_set.specs.Laws.Kinds.{AllCalm, serial_part, sheet}
 use Rattle.actor_set.proofs.LawsLemmas.Calm.{calm_actor, sheet_is}
 use Rattle.wired_law.specs.Wiring.{HasWholeIn, HasBlkIn}
-use Rattle.cast_core.specs.Sources.{first_serial}
+use Rattle.cast_core.specs.Sources.{first_serial, serial_drops}
 use Rattle.cast_core.specs.Casts.{net_place, blk_place}
 use Rattle.cast_core.specs.Hostile.{HasNoRogue}
 use Rattle.cast_core.proofs.Seconds.{second_get, second_length}
@@ -32,7 +32,7 @@ use Rattle.cast_bound.proofs.Bounds.{serial_within, short}
 use Rattle.system_core.specs.Shows.{Setting, Shown, hostile_in, moved_in, RowsStand}
 use Rattle.system_core.proofs.Telling.{PlainRows, rows_plain}
 use Rattle.system_core.specs.Lawful.{StandsLawful}
-use Rattle.system_core.specs.Builds.{IsCastOf, serial_class}
+use Rattle.system_core.specs.Builds.{IsCastOf, class_of, serial_class}
 use Rattle.system_core.proofs.Begun.{There}
 use Rattle.system_core.proofs.PoolsLemmas.Placing.{cast_calm}
 
@@ -44,8 +44,8 @@ first_is : (o : Option Net) → option_map_or (λ (net : Net). 8 + 6 * length ne
 first_is None = refl
 first_is (Some net) = refl
 
-class_stands : (first count : ℕ) (trace : Trace) → StandsFrom first count (serial_class first count trace)
-class_stands first count trace = record {
+class_stands : (first count : ℕ) (drops : List Bool) (trace : Trace) → StandsFrom first count (serial_class first count drops trace)
+class_stands first count drops trace = record {
   device_rx = refl;
   device_tx = refl;
   rx = refl;
@@ -57,7 +57,7 @@ class_stands first count trace = record {
 }
 
 module _ (plan : Plan) (trace : Trace) (valid : Valid plan) (none : HasNoRogue plan) (s : Shown) (cast : IsCastOf plan trace s.setting) (stands : StandsLawful s)
-    (there : (serial : Serial) → plan.serial ≡ Some serial → IsSerial (There s.setting) (hostile_in s.setting) s.setting.rows (serial_class (first_serial plan) (length serial.client) trace)) where
+    (there : (serial : Serial) → plan.serial ≡ Some serial → IsSerial (There s.setting) (hostile_in s.setting) s.setting.rows (class_of plan trace serial)) where
   calm : AllCalm s.setting.cast
   calm = cast_calm plan trace valid none s.setting cast
 
@@ -75,14 +75,14 @@ module _ (plan : Plan) (trace : Trace) (valid : Valid plan) (none : HasNoRogue p
 
   module _ (serial : Serial) (has : plan.serial ≡ Some serial) where
     abbrev class : SerialClass
-    class = serial_class (first_serial plan) (length serial.client) trace
+    class = class_of plan trace serial
 
     rows_of_class : IsSerial (RowAt went) (hostile_in s.setting) (queues_of plan) class
     rows_of_class = subst (λ rs. IsSerial (RowAt went) (hostile_in s.setting) rs class) cast.rows
         (as_there (There s.setting) (RowAt went) (λ p at. row_as s.setting went p (rows_now at.0 (serial_part p) (calm_actor s.setting.cast calm at.0) at.1)) (hostile_in s.setting) s.setting.rows class (there serial has))
 
     class_at : StandsFrom (serial_first plan.net) (length serial.client) class
-    class_at = subst (λ f. StandsFrom f (length serial.client) class) (first_is plan.net) (class_stands (first_serial plan) (length serial.client) trace)
+    class_at = subst (λ f. StandsFrom f (length serial.client) class) (first_is plan.net) (class_stands (first_serial plan) (length serial.client) (serial_drops plan) trace)
 
     carries : Carries trace class
     carries = record { input = refl; scripts = refl }
