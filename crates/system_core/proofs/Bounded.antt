@@ -3,7 +3,7 @@ use Rattle.std.proofs.Common.{◌≡◌, ◌<◌, ◌+◌, ◌*◌, ℕ, None, S
 use Rattle.std.specs.Option.{option_map_or}
 use Rattle.wire_core.specs.declared.names.Entry.{Entry}
 use Rattle.wire_core.specs.Journal.{LegalJournal, BellsHold, QueuesFlow}
-use Rattle.wire_core.specs.Marks.{no_drops, Brisk}
+use Rattle.wire_core.specs.Marks.{Brisk}
 use Rattle.sdf_plan.specs.declared.plan.Plan.{Plan}
 use Rattle.sdf_plan.specs.declared.plan.Net.{Net}
 use Rattle.sdf_plan.specs.declared.plan.Serial.{Serial}
@@ -29,6 +29,7 @@ use Rattle.cast_bound.specs.PlayBound.Standing.{StandsFrom, Carries, serial_firs
 use Rattle.cast_bound.proofs.Blocks.{blk_within}
 use Rattle.cast_bound.proofs.Networks.{net_within}
 use Rattle.cast_bound.proofs.Bounds.{serial_within, short}
+use Rattle.cast_bound.specs.Dropping.{drops_in}
 use Rattle.system_core.specs.Shows.{Setting, Shown, hostile_in, moved_in, RowsStand}
 use Rattle.system_core.proofs.Telling.{PlainRows, rows_plain}
 use Rattle.system_core.specs.Lawful.{StandsLawful}
@@ -93,7 +94,7 @@ module _ (plan : Plan) (trace : Trace) (valid : Valid plan) (none : HasNoRogue p
       (subst (λ rs. BellsHold (hostile_in s.setting) s.setting.history rs []) cast.rows stands.lawful.bells_hold.0)
       (flows_at [] stands.lawful.flows.0)
       (subst (λ rs. LegalJournal (hostile_in s.setting) s.setting.history rs s.journal) cast.rows stands.lawful.legal)
-      (subst (λ rs. Brisk (hostile_in s.setting) rs no_drops s.journal) cast.rows stands.lawful.brisk)
+      (subst (λ rs. Brisk (hostile_in s.setting) rs (drops_in s.setting.cast) s.journal) cast.rows stands.lawful.brisk)
       (net_within plan trace s.setting.scene s.setting.cast s.setting.history s.journal valid calm (λ net has. subst (λ rs. HasWholeIn s.setting.scene rs (net_place plan trace) s.setting.cast) cast.rows (cast.whole net has)) cast.scene flows_now rows_now)
       (serial_within plan trace s.setting.cast s.setting.history s.journal flows_now (λ serial has. (class serial has, class_at serial has, carries serial has, rows_of_class serial has)))
       (blk_within plan trace s.setting.scene s.setting.cast s.setting.history s.journal valid calm (λ blk has. subst (λ rs. HasBlkIn s.setting.scene rs (blk_place plan trace) s.setting.cast) cast.rows (cast.whole_block blk has)) flows_now rows_now)
