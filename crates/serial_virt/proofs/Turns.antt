@@ -2,7 +2,7 @@ use Rattle.std.proofs.Common.{◌≡◌, ◌==◌, ◌&&◌, ◌||◌, ℕ, zero
 use Rattle.std.proofs.lemmas.Bool.{ne_eqb}
 use Rattle.wire_core.specs.declared.names.QueueId.{QueueId}
 use Rattle.wire_core.specs.declared.names.Event.{Event}
-use Rattle.wire_core.specs.Ends.{Role, Consumer, Producer, role_of, waiting_role}
+use Rattle.wire_core.specs.Ends.{Consumer, Producer, role_of, waiting_role}
 use Rattle.wire_core.specs.Marks.{is_vain_look, is_role}
 use Rattle.wire_core.specs.Fates.{is_vain_at}
 use Rattle.wire_core.proofs.Readings.{and_no_right, at_here}

@@ -199,7 +199,13 @@ impl SerialVirtRx {
         ensures turn { self.new.turn ≡ self.old.turn }
     {
         let mut taken = None;
-        pull(&mut self.input, wires, self.load.is_none(), &mut taken, event);
+        pull(
+            &mut self.input,
+            wires,
+            self.load.is_none(),
+            &mut taken,
+            event,
+        );
         let given = read(&mut self.switch, taken);
         self.owe(given);
     }
@@ -224,14 +230,7 @@ impl SerialVirtRx {
     {
         let drops = self.drops[k];
         if k == self.to {
-            let dropped = put_or_drop_at(
-                &mut self.outputs,
-                wires,
-                k,
-                &mut self.load,
-                drops,
-                event,
-            );
+            let dropped = put_or_drop_at(&mut self.outputs, wires, k, &mut self.load, drops, event);
             if dropped {
                 self.load = None;
             }

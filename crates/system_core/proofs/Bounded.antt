@@ -1,9 +1,9 @@
 -- A play of a plan and a trace is shorter than their budget.
-use Rattle.std.proofs.Common.{◌≡◌, ◌<◌, ◌+◌, ◌*◌, ℕ, None, Some, Option, List, length, [], refl, subst}
+use Rattle.std.proofs.Common.{◌≡◌, ◌<◌, ◌+◌, ◌*◌, ℕ, None, Some, Option, List, length, [], refl, subst, Bool}
 use Rattle.std.specs.Option.{option_map_or}
 use Rattle.wire_core.specs.declared.names.Entry.{Entry}
 use Rattle.wire_core.specs.Journal.{LegalJournal, BellsHold, QueuesFlow}
-use Rattle.wire_core.specs.Marks.{no_drops, Brisk}
+use Rattle.wire_core.specs.Marks.{Brisk}
 use Rattle.sdf_plan.specs.declared.plan.Plan.{Plan}
 use Rattle.sdf_plan.specs.declared.plan.Net.{Net}
 use Rattle.sdf_plan.specs.declared.plan.Serial.{Serial}
@@ -21,7 +21,7 @@ use Rattle.serial_law.proofs.Arrivals.{as_there, RowAt}
 use Rattle.actor_set.specs.Laws.Kinds.{AllCalm, serial_part, sheet}
 use Rattle.actor_set.proofs.LawsLemmas.Calm.{calm_actor, sheet_is}
 use Rattle.wired_law.specs.Wiring.{HasWholeIn, HasBlkIn}
-use Rattle.cast_core.specs.Sources.{first_serial}
+use Rattle.cast_core.specs.Sources.{first_serial, serial_drops}
 use Rattle.cast_core.specs.Casts.{net_place, blk_place}
 use Rattle.cast_core.specs.Hostile.{HasNoRogue}
 use Rattle.cast_core.proofs.Seconds.{second_get, second_length}
@@ -29,10 +29,11 @@ use Rattle.cast_bound.specs.PlayBound.Standing.{StandsFrom, Carries, serial_firs
 use Rattle.cast_bound.proofs.Blocks.{blk_within}
 use Rattle.cast_bound.proofs.Networks.{net_within}
 use Rattle.cast_bound.proofs.Bounds.{serial_within, short}
+use Rattle.cast_bound.specs.Dropping.{drops_in}
 use Rattle.system_core.specs.Shows.{Setting, Shown, hostile_in, moved_in, RowsStand}
 use Rattle.system_core.proofs.Telling.{PlainRows, rows_plain}
 use Rattle.system_core.specs.Lawful.{StandsLawful}
-use Rattle.system_core.specs.Builds.{IsCastOf, serial_class}
+use Rattle.system_core.specs.Builds.{IsCastOf, class_of, serial_class}
 use Rattle.system_core.proofs.Begun.{There}
 use Rattle.system_core.proofs.PoolsLemmas.Placing.{cast_calm}
 
@@ -44,8 +45,8 @@ first_is : (o : Option Net) → option_map_or (λ (net : Net). 8 + 6 * length ne
 first_is None = refl
 first_is (Some net) = refl
 
-class_stands : (first count : ℕ) (trace : Trace) → StandsFrom first count (serial_class first count trace)
-class_stands first count trace = record {
+class_stands : (first count : ℕ) (drops : List Bool) (trace : Trace) → StandsFrom first count (serial_class first count drops trace)
+class_stands first count drops trace = record {
   device_rx = refl;
   device_tx = refl;
   rx = refl;
@@ -57,7 +58,7 @@ class_stands first count trace = record {
 }
 
 module _ (plan : Plan) (trace : Trace) (valid : Valid plan) (none : HasNoRogue plan) (s : Shown) (cast : IsCastOf plan trace s.setting) (stands : StandsLawful s)
-    (there : (serial : Serial) → plan.serial ≡ Some serial → IsSerial (There s.setting) (hostile_in s.setting) s.setting.rows (serial_class (first_serial plan) (length serial.client) trace)) where
+    (there : (serial : Serial) → plan.serial ≡ Some serial → IsSerial (There s.setting) (hostile_in s.setting) s.setting.rows (class_of plan trace serial)) where
   calm : AllCalm s.setting.cast
   calm = cast_calm plan trace valid none s.setting cast
 
@@ -75,14 +76,14 @@ module _ (plan : Plan) (trace : Trace) (valid : Valid plan) (none : HasNoRogue p
 
   module _ (serial : Serial) (has : plan.serial ≡ Some serial) where
     abbrev class : SerialClass
-    class = serial_class (first_serial plan) (length serial.client) trace
+    class = class_of plan trace serial
 
     rows_of_class : IsSerial (RowAt went) (hostile_in s.setting) (queues_of plan) class
     rows_of_class = subst (λ rs. IsSerial (RowAt went) (hostile_in s.setting) rs class) cast.rows
         (as_there (There s.setting) (RowAt went) (λ p at. row_as s.setting went p (rows_now at.0 (serial_part p) (calm_actor s.setting.cast calm at.0) at.1)) (hostile_in s.setting) s.setting.rows class (there serial has))
 
     class_at : StandsFrom (serial_first plan.net) (length serial.client) class
-    class_at = subst (λ f. StandsFrom f (length serial.client) class) (first_is plan.net) (class_stands (first_serial plan) (length serial.client) trace)
+    class_at = subst (λ f. StandsFrom f (length serial.client) class) (first_is plan.net) (class_stands (first_serial plan) (length serial.client) (serial_drops plan) trace)
 
     carries : Carries trace class
     carries = record { input = refl; scripts = refl }
@@ -93,7 +94,7 @@ module _ (plan : Plan) (trace : Trace) (valid : Valid plan) (none : HasNoRogue p
       (subst (λ rs. BellsHold (hostile_in s.setting) s.setting.history rs []) cast.rows stands.lawful.bells_hold.0)
       (flows_at [] stands.lawful.flows.0)
       (subst (λ rs. LegalJournal (hostile_in s.setting) s.setting.history rs s.journal) cast.rows stands.lawful.legal)
-      (subst (λ rs. Brisk (hostile_in s.setting) rs no_drops s.journal) cast.rows stands.lawful.brisk)
+      (subst (λ rs. Brisk (hostile_in s.setting) rs (drops_in s.setting.cast) s.journal) cast.rows stands.lawful.brisk)
       (net_within plan trace s.setting.scene s.setting.cast s.setting.history s.journal valid calm (λ net has. subst (λ rs. HasWholeIn s.setting.scene rs (net_place plan trace) s.setting.cast) cast.rows (cast.whole net has)) cast.scene flows_now rows_now)
       (serial_within plan trace s.setting.cast s.setting.history s.journal flows_now (λ serial has. (class serial has, class_at serial has, carries serial has, rows_of_class serial has)))
       (blk_within plan trace s.setting.scene s.setting.cast s.setting.history s.journal valid calm (λ blk has. subst (λ rs. HasBlkIn s.setting.scene rs (blk_place plan trace) s.setting.cast) cast.rows (cast.whole_block blk has)) flows_now rows_now)

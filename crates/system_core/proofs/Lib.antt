@@ -3,6 +3,7 @@ pub mod Telling
 pub mod Growing
 pub mod Hosts
 pub mod Marking
+pub mod Dropping
 pub mod SystemStep
 pub mod Playing
 pub mod RunsNow

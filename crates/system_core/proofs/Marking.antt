@@ -1,17 +1,19 @@
 -- What was dropped of the bytes for serial clients is what the calls tell.
-use Rattle.std.proofs.Common.{◌≡◌, ◌++◌, ℕ, Bool, Some, List, [], ◌∷◌, map, slice_get, refl, sym, ap, ◌∙◌, subst, append_assoc}
+use Rattle.std.proofs.Common.{◌≡◌, ◌+◌, ◌++◌, ℕ, Bool, Some, List, [], ◌∷◌, map, slice_get, refl, sym, ap, ◌∙◌, subst, append_assoc, arith}
 use Rattle.std.proofs.lemmas.List.{append-nil, map-append}
 use Rattle.wire_core.specs.declared.names.Entry.{Entry}
 use Rattle.wire_core.specs.declared.names.Event.{Event}
-use Rattle.wire_core.specs.Ends.{Producer}
-use Rattle.wire_core.specs.Journal.{EachMoment, History}
+use Rattle.wire_core.specs.Ends.{Role, Producer}
+use Rattle.wire_core.specs.Fates.{noes_at}
+use Rattle.wire_core.specs.Journal.{EachMoment, History, history_at}
 use Rattle.wire_core.specs.Lists.{Passed}
 use Rattle.wire_core.proofs.Tracks.{EachFrom-append}
 use Rattle.serial_virt.specs.declared.rx.SerialVirtRx.{SerialVirtRx}
 use Rattle.serial_virt.specs.Receiving.{RxStandsFor}
 use Rattle.serial_virt.proofs.Sharing.{rx_row}
 use Rattle.play_core.specs.Looks.{events_of}
-use Rattle.play_core.specs.Moved.{Moved, moved}
+use Rattle.play_core.specs.Moved.{Moved, moved, noes_of}
+use Rattle.play_core.proofs.Looking.{track_looks}
 use Rattle.play_core.specs.Rests.Showing.{HaveItems}
 use Rattle.play_core.proofs.Lists.{map_from}
 use Rattle.serial_law.specs.Table.{SharesOut}
@@ -21,6 +23,8 @@ use Rattle.actor_set.specs.Actors.{ActorStandsFor, part_of}
 use Rattle.actor_set.specs.Parts.{Part, RxPart}
 use Rattle.actor_set.specs.declared.actor.Actor.{Actor}
 use Rattle.actor_set.specs.declared.actor.Actor.TheVariants as Kinds
+use Rattle.system_core.specs.Shows.{Shown}
+use Rattle.system_core.specs.Lawful.{StandsLawful}
 use Rattle.system_core.specs.Dropped.{HaveTold, MarksStand, calls_by}
 
 -- a receiving virtualiser shares out by the marks that its calls tell
@@ -77,8 +81,24 @@ told_more history cast journal calls e told actors same passed more items stands
     ∙ (append_assoc told.past (events_of journal) (e.event ∷ []) ∙ ap (λ (es : List Event). told.past ++ es) (sym (map-append (λ (d : Entry). d.event) journal (e ∷ []))))) in record {
       past = told.past;
       calls_are = all;
-      marks = subst (λ (c : List Part). EachMoment (MarksStand history c told.past) (journal ++ e ∷ [])) (sym same)
-          (told.marks.0, EachFrom-append (λ b d. MarksStand history cast told.past (b ++ d ∷ [])) [] journal e told.marks.1 (λ k rx clients drops at.
-          subst (λ (es : List Event). SharesOut (told_marks rx clients drops es) drops rx clients (moved history (journal ++ e ∷ []))) all
-          (marks_at passed (moved history (journal ++ e ∷ [])) items actors stands k rx clients drops (ap (λ (c : List Part). slice_get c k) same ∙ at))));
+      marks = subst (λ (c : List Part). EachMoment (MarksStand history c told.past) (journal ++ e ∷ [])) (sym same) (
+        told.marks.0,
+        EachFrom-append (λ b d. MarksStand history cast told.past (b ++ d ∷ [])) [] journal e told.marks.1 (λ k rx clients drops at.
+            subst (λ (es : List Event). SharesOut (told_marks rx clients drops es) drops rx clients (moved history (journal ++ e ∷ []))) all
+            (marks_at passed (moved history (journal ++ e ∷ [])) items actors stands k rx clients drops (ap (λ (c : List Part). slice_get c k) same ∙ at))),
+      );
     }
+
+-- two lists of calls looked in vain as often as each of them
+noes_both : (r : Role) (n : ℕ) (xs ys : List Event) → noes_at r n (xs ++ ys) ≡ noes_at r n xs + noes_at r n ys
+noes_both r n [] ys = refl
+noes_both r n (x ∷ xs) ys = let h = noes_both r n xs ys in omega (arith, h)
+
+-- so the calls before the journal begins did as often as its history tells
+pub past_looks : (s : Shown) → (stands : StandsLawful s) → (r : Role) (n : ℕ) → noes_at r n stands.calls.past ≡ noes_of r (history_at s.setting.history n)
+past_looks s stands r n =
+    let all = stands.told.items.noes r n in
+    let calls = ap (noes_at r n) stands.calls.calls_are in
+    let both = noes_both r n stands.calls.past (events_of s.journal) in
+    let told = track_looks r n s.setting.history s.journal in
+    omega (arith, all, calls, both, told)
