@@ -1,14 +1,21 @@
 -- Actors drop no more than their ends look in vain, and so the serial class.
-use Rattle.std.proofs.Common.{◌≡◌, ◌⊎◌, ◌==◌, ◌||◌, ◌&&◌, ◌≤◌, ◌+◌, ℕ, suc, Bool, true, false, cond, Option, Some, None, List, [], ◌∷◌, slice_get, refl, sym, ap, ◌∙◌, rw, arith, inl, inr}
+use Rattle.std.proofs.Common.{◌≡◌, ◌⊎◌, ◌==◌, ◌||◌, ◌&&◌, ◌≤◌, ◌+◌, ℕ, suc, Bool, true, false, cond, Option, Some, None, List, [], ◌∷◌, length, slice_get, refl, sym, ap, ◌∙◌, rw, arith, inl, inr}
 use Rattle.std.specs.Option.{option_map_or}
-use Rattle.std.proofs.lemmas.Bool.{and_parts, eq-eqb, eqb-true}
+use Rattle.std.proofs.lemmas.Bool.{and_parts, or_left, or_right, eq-eqb, eqb-true}
 use Rattle.wire_core.specs.declared.names.Entry.{Entry}
 use Rattle.wire_core.specs.Bells.{bit}
 use Rattle.wire_core.specs.Ends.{Role, Consumer, Producer, role_of}
 use Rattle.wire_core.specs.Fates.{is_vain_at}
 use Rattle.wire_core.specs.Journal.{History}
 use Rattle.wire_core.specs.Marks.{Drops, dropped, is_role, is_vain_look}
+use Rattle.sdf_plan.specs.declared.plan.Plan.{Plan}
+use Rattle.trace_text.specs.declared.trace.Trace.{Trace}
+use Rattle.trace_text.specs.Events.{serial_clients}
 use Rattle.serial_virt.specs.Shares.{policy_at}
+use Rattle.play_core.proofs.Lists.{some_is}
+use Rattle.layout_laws.specs.Jobs.Jobs.{Job, EthDevice, EthDriver, NetReceiver, NetSender, NetCopier, NetClient, UartDevice, UartDriver, SerialReceiver, SerialSender, SerialClient, DiskDevice, DiskDriver, BlkVirtualiser, BlkClient}
+use Rattle.cast_core.specs.Casts.{calm_part}
+use Rattle.cast_core.specs.Sources.{every_second, first_serial, serial_drops}
 use Rattle.play_core.specs.Looks.{drops_at, noes_together}
 use Rattle.play_core.specs.Moved.{Moved, Seat, gone_at, moved}
 use Rattle.play_core.proofs.Looking.{drops_within}
@@ -21,13 +28,6 @@ use Rattle.cast_bound.specs.Dropping.{drops_in, serial_seats, DropOnlyAt}
 or_split : (a b : Bool) → (a || b) ≡ true → (a ≡ true) ⊎ (b ≡ true)
 or_split true b h = inl refl
 or_split false b h = inr h
-
-or_left : (a b : Bool) → a ≡ true → (a || b) ≡ true
-or_left a b h = rw h refl
-
-or_right : (a b : Bool) → b ≡ true → (a || b) ≡ true
-or_right true b h = refl
-or_right false b h = h
 
 both : (a b : Bool) → a ≡ true → b ≡ true → (a && b) ≡ true
 both a b h k = rw h k
@@ -100,3 +100,27 @@ none_dropped cast history journal only =
     let a = dropped_less (drops_in cast) (drops_at []) journal (in_seats cast [] only) in
     let b = drops_within [] history journal in
     omega (arith, a, b)
+
+-- a part that drops nowhere
+no_seat : (q p : Part) → Some q ≡ Some p → drop_seats q ≡ [] → (r : Role) (n : ℕ) → has_seat (drop_seats p) r n ≡ true → ⊥
+no_seat q p is none r n h =
+    let no : true ≡ false = sym h ∙ (ap (λ (z : Part). has_seat (drop_seats z) r n) (some_is (sym is)) ∙ ap (λ seats. has_seat seats r n) none) in
+    absurd cc
+
+-- the part of a job drops at ends of the plan's serial clients alone
+pub job_seats : (plan : Plan) (trace : Trace) (job : Job) (p : Part) → calm_part plan trace job ≡ Some p → (r : Role) (n : ℕ) → has_seat (drop_seats p) r n ≡ true → has_seat (dropping_ends (every_second (first_serial plan + 4) (length (serial_clients plan))) (serial_drops plan)) r n ≡ true
+job_seats plan trace EthDevice p is r n h = absurd (no_seat _ p is refl r n h)
+job_seats plan trace EthDriver p is r n h = absurd (no_seat _ p is refl r n h)
+job_seats plan trace NetReceiver p is r n h = absurd (no_seat _ p is refl r n h)
+job_seats plan trace NetSender p is r n h = absurd (no_seat _ p is refl r n h)
+job_seats plan trace (NetCopier c) p is r n h = absurd (no_seat _ p is refl r n h)
+job_seats plan trace (NetClient c) p is r n h = absurd (no_seat _ p is refl r n h)
+job_seats plan trace UartDevice p is r n h = absurd (no_seat _ p is refl r n h)
+job_seats plan trace UartDriver p is r n h = absurd (no_seat _ p is refl r n h)
+job_seats plan trace SerialReceiver p is r n h = sym (ap (λ (z : Part). has_seat (drop_seats z) r n) (some_is (sym is))) ∙ h
+job_seats plan trace SerialSender p is r n h = absurd (no_seat _ p is refl r n h)
+job_seats plan trace (SerialClient c) p is r n h = absurd (no_seat _ p is refl r n h)
+job_seats plan trace DiskDevice p is r n h = absurd (no_seat _ p is refl r n h)
+job_seats plan trace DiskDriver p is r n h = absurd (no_seat _ p is refl r n h)
+job_seats plan trace BlkVirtualiser p is r n h = absurd (no_seat _ p is refl r n h)
+job_seats plan trace (BlkClient c) p is r n h = absurd (no_seat _ p is refl r n h)
