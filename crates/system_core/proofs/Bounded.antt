@@ -35,6 +35,7 @@ use Rattle.system_core.proofs.Telling.{PlainRows, rows_plain}
 use Rattle.system_core.specs.Lawful.{StandsLawful}
 use Rattle.system_core.specs.Builds.{IsCastOf, class_of, serial_class}
 use Rattle.system_core.proofs.Begun.{There}
+use Rattle.system_core.proofs.DropSeats.{drop_nowhere, drop_only}
 use Rattle.system_core.proofs.PoolsLemmas.Placing.{cast_calm}
 
 -- what is said of a part of the serial class, as one of all
@@ -96,5 +97,5 @@ module _ (plan : Plan) (trace : Trace) (valid : Valid plan) (none : HasNoRogue p
       (subst (λ rs. LegalJournal (hostile_in s.setting) s.setting.history rs s.journal) cast.rows stands.lawful.legal)
       (subst (λ rs. Brisk (hostile_in s.setting) rs (drops_in s.setting.cast) s.journal) cast.rows stands.lawful.brisk)
       (net_within plan trace s.setting.scene s.setting.cast s.setting.history s.journal valid calm (λ net has. subst (λ rs. HasWholeIn s.setting.scene rs (net_place plan trace) s.setting.cast) cast.rows (cast.whole net has)) cast.scene flows_now rows_now)
-      (serial_within plan trace s.setting.cast s.setting.history s.journal flows_now (λ serial has. (class serial has, class_at serial has, carries serial has, rows_of_class serial has)))
+      (serial_within plan trace s.setting.cast s.setting.history s.journal flows_now (λ serial has. (class serial has, class_at serial has, carries serial has, rows_of_class serial has, drop_only plan trace s valid cast stands.fitted.scene_is serial has)) (drop_nowhere plan trace s valid cast stands.fitted.scene_is))
       (blk_within plan trace s.setting.scene s.setting.cast s.setting.history s.journal valid calm (λ blk has. subst (λ rs. HasBlkIn s.setting.scene rs (blk_place plan trace) s.setting.cast) cast.rows (cast.whole_block blk has)) flows_now rows_now)
