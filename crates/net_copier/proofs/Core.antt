@@ -39,6 +39,10 @@ pub fits_back : (drops : Bool) (f : Fate) (tla trf sra slf : List Cargo) (x : Ca
 fits_back true f tla trf sra slf x s new h = inl (let n = ap length h.leases ∙ length-append slf (x ∷ []) in let k = h.came refl in let b = not_copied s new in omega (arith, n, k, b))
 fits_back false f tla trf sra slf x s new h = inr (h.none refl)
 
+-- so many are settled where one waits
+pub back_settled : (drops : Bool) → drops ≡ true → (f : Fate) (tla trf sra slf : List Cargo) (x : Cargo) (s : Stage) → is_copied s ≡ false → Core drops f tla trf sra slf (Some x) None s → length f.dropped ≤ length slf
+back_settled drops on f tla trf sra slf x s new h = let n = ap length h.leases ∙ length-append slf (x ∷ []) in let k = h.came on in let b = not_copied s new in omega (arith, n, k, b)
+
 -- a lease came
 pub came_core : (drops : Bool) (ds : List Bool) (w : Bool) (tla trf sra slf : List Cargo) (s0 s : Stage) (x : Cargo) → IsAt s x → is_copied s ≡ false → Core drops (record { dropped = ds; waits = w }) tla trf sra slf None None s0 → Core drops (fate_after (record { dropped = ds; waits = w }) Came) (tla ++ x ∷ []) trf sra slf (Some x) None s
 came_core drops ds w tla trf sra slf s0 s x at new h =

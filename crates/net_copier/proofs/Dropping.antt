@@ -72,6 +72,7 @@ held c passed hold row =
       gives_back = row.gives_back;
       after_copy = let t = row.after_copy in omega (arith, t, none);
       each = λ on. let no : true ≡ false = sym on ∙ hold in absurd cc;
+      settled = λ on. let no : true ≡ false = sym on ∙ hold in absurd cc;
     }
 
 pub stands_held : (c : NetCopier) (passed : Passed) → c.drops ≡ false → CopierStandsFor c passed → HoldingCopierStands c passed

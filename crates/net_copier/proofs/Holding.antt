@@ -8,7 +8,7 @@ use Rattle.wire_core.specs.Deeds.{Cargo}
 use Rattle.wire_core.specs.Lists.{Passed}
 use Rattle.wire_core.specs.Fates.{Fate, without, marked}
 use Rattle.wire_core.proofs.Fating.{without_left, without_past}
-use Rattle.net_copier.proofs.Core.{Core, fits_all, fits_back}
+use Rattle.net_copier.proofs.Core.{Core, fits_all, fits_back, back_settled}
 use Rattle.net_copier.proofs.Standing.{core_of}
 use Rattle.turn_kit.specs.Hands.{bodies_of}
 use Rattle.turn_kit.proofs.Holding.{at_one, at_more, cargo-append}
@@ -96,6 +96,7 @@ module _ (c : NetCopier) (passed : Passed) (h : CopierStandsFor c passed) where
     gives_back = (option_to_list c.lease, sym h.leases);
     after_copy = let p = h.puts in omega (arith, p);
     each = λ on. (h.tells on).each;
+    settled = λ on. let k = (h.tells on).came in omega (arith, k);
   }
 
   at_stray : (x : Cargo) → c.lease ≡ Some x → c.buffer ≡ None → c.stage ≡ At.Stray → Core c.drops (lease_fate c passed.calls) tla trf sra slf (Some x) None At.Stray
@@ -125,6 +126,7 @@ module _ (c : NetCopier) (passed : Passed) (h : CopierStandsFor c passed) where
         gives_back = ([], append-nil slf);
         after_copy = omega (arith, puts);
         each = λ on. (h.tells on).each;
+        settled = λ on. back_settled c.drops on (lease_fate c passed.calls) tla trf sra slf x At.Stray refl (at_stray x lease none stage);
       }
     where
       no_buffer : (b : Option Cargo) → (is_some b ≡ true → (is_some c.lease ≡ true) × (c.stage ≡ At.Taken)) → b ≡ None

@@ -164,6 +164,7 @@ pub record CopierRow (c : NetCopier) (passed : Passed) : Type 0 where
       (passed.sent c.buffer_output.queue.0) + marked (leases_dropped c passed.calls)
   pub each : c.drops ≡ true → noes_at Consumer c.buffer_input.queue.0 passed.calls
       ≡ marked (leases_dropped c passed.calls)
+  pub settled : c.drops ≡ true → length (leases_dropped c passed.calls) ≤ length leases
 
 -- what a copier stands for that never drops: each lease that it took went back, or is in its hand;
 -- each buffer that it took was filled with the lease of its place, and was put, or is in its hand;

@@ -3,6 +3,7 @@ pub mod Beginnings
 pub mod Filled
 pub mod Arriving
 pub mod Answering
+pub mod DeliveringLemmas
 pub mod WireLemmas
 pub mod OwnersLemmas
 pub mod RxOwners

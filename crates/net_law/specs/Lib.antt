@@ -3,6 +3,7 @@
 -- TxParts; TxScene: where clients may be hostile), and of how often entries are moved (Hops).
 pub mod Receiving
 pub mod Sending
+pub mod Delivering
 pub mod Wire
 pub mod Owners
 pub mod RxOwners

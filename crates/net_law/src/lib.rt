@@ -21,6 +21,7 @@ ghost use Rattle.client_programs.specs.Net.Clients.{tx_active};
 ghost use Rattle.net_law.specs.Receiving.{IsReceiving};
 ghost use Rattle.net_law.specs.Sending.{IsSending};
 
+pub mod delivering;
 pub mod hops;
 pub mod owners;
 pub mod parts;

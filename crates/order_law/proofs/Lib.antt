@@ -3,6 +3,7 @@ pub mod Lists
 pub mod Telling
 pub mod Resting
 pub mod Moving
+pub mod Looking
 pub mod Ranking
 pub mod Ordering
 pub mod ActorParts

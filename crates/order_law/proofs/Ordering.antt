@@ -9,17 +9,21 @@ use Rattle.wire_core.specs.declared.names.QueueRow.{QueueRow}
 use Rattle.wire_core.specs.declared.names.Op.{Op}
 use Rattle.wire_core.specs.declared.names.Op.TheVariants as Do
 use Rattle.wire_core.specs.Deeds.{Cargo}
+use Rattle.wire_core.specs.Bells.{bit}
 use Rattle.wire_core.specs.Ends.{Role, Consumer, Producer, role_of}
+use Rattle.wire_core.specs.Fates.{is_vain_at, noes_at}
 use Rattle.wire_core.specs.Journal.{owner_of}
 use Rattle.wire_core.specs.Lists.{Passed, nothing_passed, with_deed}
+use Rattle.wire_core.proofs.Fating.{noes_more}
 use Rattle.spsc_queue.specs.Known.Ends.{EndIs}
 use Rattle.seat_wires.specs.Places.{ends_of, stands_at, joined_get, seat_end}
 use Rattle.seat_wires.specs.Times.{times_at, AddsTime}
 use Rattle.seat_wires.proofs.Timing.{times_go}
 use Rattle.actor_set.specs.declared.actor.Actor.{Actor}
 use Rattle.order_law.specs.Tales.{Call, Made, Goes}
-use Rattle.order_law.specs.Orders.{Seated, Turn, IsTurn, InOrder, HaveRun, actors_of, entries_at, listed, passed_by}
+use Rattle.order_law.specs.Orders.{Seated, Turn, IsTurn, InOrder, HaveLooked, HaveRun, actors_of, entries_at, listed, looked, noes_seen, passed_by}
 use Rattle.order_law.proofs.Lists.{same_some, same_heads, get_there, get_within, get_front, get_last, set_there, set_beside, length_set, same_lists, two_prefixes, prefix_same, prefix_then, map_set, map_there}
+use Rattle.order_law.proofs.Looking.{noes_go, no_vain}
 use Rattle.order_law.proofs.Moving.{moved_by, moved_else, moved_apart, moved_there, moved_few, moved_take, entries_go, end_there, sized_go}
 use Rattle.order_law.proofs.Ranking.{rank, rank_take, times_grow, entries_grow, comes_before}
 
@@ -107,6 +111,13 @@ listed_row rows all r n row x is there = ap (λ (o : Option QueueRow). option_ma
 
 listed_none : (rows : List QueueRow) (all : List Seated) (r : Role) (n : ℕ) → slice_get rows n ≡ None → listed rows all r n ≡ []
 listed_none rows all r n is = ap (λ (o : Option QueueRow). option_map_or (λ (z : QueueRow). option_map_or (λ (y : Seated). entries_at y.seats r n) (slice_get all (owner_of z r)) []) o []) is
+
+looked_row : (rows : List QueueRow) (all : List Seated) (r : Role) (n : ℕ) (row : QueueRow) (x : Seated) → slice_get rows n ≡ Some row → slice_get all (owner_of row r) ≡ Some x → looked rows all r n ≡ noes_seen x.seats r n
+looked_row rows all r n row x is there = ap (λ (o : Option QueueRow). option_map_or (λ (z : QueueRow). option_map_or (λ (y : Seated). noes_seen y.seats r n) (slice_get all (owner_of z r)) 0) o 0) is
+    ∙ ap (λ (o : Option Seated). option_map_or (λ (y : Seated). noes_seen y.seats r n) o 0) there
+
+looked_none : (rows : List QueueRow) (all : List Seated) (r : Role) (n : ℕ) → slice_get rows n ≡ None → looked rows all r n ≡ 0
+looked_none rows all r n is = ap (λ (o : Option QueueRow). option_map_or (λ (z : QueueRow). option_map_or (λ (y : Seated). noes_seen y.seats r n) (slice_get all (owner_of z r)) 0) o 0) is
 
 no_row : (row : QueueRow) → Some row ≡ None → ⊥
 no_row row e = cc
@@ -249,6 +260,26 @@ module _ (rows : List QueueRow) (news : List Seated) (peers : (n : ℕ) (row : Q
           (λ ne. let away : r ≡ made.did.maker → n ≡ l.call.deed.event.queue.0 → ⊥ = (λ same at. ne (ap (λ (w : QueueRow). owner_of w r) (same_some row own_row.0 (sym is ∙ (ap (λ (m : ℕ). slice_get rows m) at ∙ own_row.1))) ∙ (ap (owner_of own_row.0) same ∙ own_row.2))) in
           listed_row rows sits' r n row z.0 is (set_beside sits k (owner_of row r) new ne ∙ z.1) ∙ (sym (listed_row rows sits r n row z.0 is z.1) ∙ (sym (append-nil (listed rows sits r n)) ∙ ap (λ (w : List Cargo). listed rows sits r n ++ w) (sym (moved_apart l.call.deed made.did.maker made.did.makes r n away)))))
 
+      -- and how often each end looked in vain
+      looked_at : (r : Role) (n : ℕ) (o : Option QueueRow) → slice_get rows n ≡ o → looked rows sits' r n ≡ looked rows sits r n + bit (is_vain_at r n l.call.deed.event)
+      looked_at r n None is = let now = looked_none rows sits' r n is in let was = looked_none rows sits r n is in
+          let none = ap bit (no_vain l.call.deed.event made.did.maker made.did.makes r n (λ _ at. no_row own_row.0 (sym own_row.1 ∙ (ap (λ (m : ℕ). slice_get rows m) (sym at) ∙ is)))) in
+          omega (arith, now, was, none)
+      looked_at r n (Some row) is = let z = owner n row is r in dite (ℕ_discrete (owner_of row r) k)
+          (λ here. let z_is : z.0 ≡ x = same_some z.0 x (sym z.1 ∙ (ap (λ (m : ℕ). slice_get sits m) here ∙ at_k.1)) in
+          let now = looked_row rows sits' r n row new is (ap (λ (m : ℕ). slice_get sits' m) here ∙ set_there sits k x new at_k.1) in
+          let was : looked rows sits r n ≡ noes_seen x.seats r n = looked_row rows sits r n row z.0 is z.1 ∙ ap (λ (w : Seated). noes_seen w.seats r n) z_is in
+          let go = noes_go x.seats l.call.deed l.call.seats made.did r n in
+          omega (arith, now, was, go))
+          (λ ne. let away : r ≡ made.did.maker → n ≡ l.call.deed.event.queue.0 → ⊥ = (λ same at. ne (ap (λ (w : QueueRow). owner_of w r) (same_some row own_row.0 (sym is ∙ (ap (λ (m : ℕ). slice_get rows m) at ∙ own_row.1))) ∙ (ap (owner_of own_row.0) same ∙ own_row.2))) in
+          let now = looked_row rows sits' r n row z.0 is (set_beside sits k (owner_of row r) new ne ∙ z.1) in
+          let was = looked_row rows sits r n row z.0 is z.1 in
+          let none = ap bit (no_vain l.call.deed.event made.did.maker made.did.makes r n away) in
+          omega (arith, now, was, none))
+
+      looked_next : (calls : List Event) (r : Role) (n : ℕ) → looked rows sits' r n + noes_at r n calls ≡ looked rows sits r n + noes_at r n (calls ++ l.call.deed.event ∷ [])
+      looked_next calls r n = let now = looked_at r n (slice_get rows n) refl in let more = noes_more r n calls l.call.deed.event in omega (arith, now, more)
+
       passed_next : (calls : List Event) → passed_by rows sits' (calls ++ l.call.deed.event ∷ []) ≡ with_deed (passed_by rows sits calls) l.call.deed
       passed_next calls = λ i. record {
         taken = λ n. listed_at Consumer n (slice_get rows n) refl i;
@@ -283,12 +314,20 @@ module _ (rows : List QueueRow) (news : List Seated) (peers : (n : ℕ) (row : Q
       g.1 ∙ ap (λ (z : Seated). Some z) (λ i. record { actor = done.0 i; seats = done.1 i })
       ))
 
-  order : (many : ℕ) (sits : List Seated) (rest : List (List Call)) (calls : List Event) → total rest ≡ many → Under rows news sits rest → (turns : List Turn) × (after : List Event) × InOrder (actors_of sits) (passed_by rows sits calls) turns (actors_of news) (passed_by rows news after)
-  order zero sits rest calls none u = let same = at_end sits rest u none in ([], calls, (ap actors_of (sym same), ap (λ (z : List Seated). passed_by rows z calls) (sym same)))
+  -- since some calls were made, up to others, each end looked in vain so often more
+  abbrev Looks : List Seated → (calls after : List Event) → Type 0
+  Looks sits calls after = (r : Role) (n : ℕ) → looked rows news r n + noes_at r n calls ≡ looked rows sits r n + noes_at r n after
+
+  order : (many : ℕ) (sits : List Seated) (rest : List (List Call)) (calls : List Event) → total rest ≡ many → Under rows news sits rest → (turns : List Turn) × (after : List Event) × InOrder (actors_of sits) (passed_by rows sits calls) turns (actors_of news) (passed_by rows news after) × Looks sits calls after
+  order zero sits rest calls none u = let same = at_end sits rest u none in ([], calls, (ap actors_of (sym same), ap (λ (z : List Seated). passed_by rows z calls) (sym same)), λ r n. ap (λ (z : List Seated). looked rows z r n + noes_at r n calls) (sym same))
   order (suc m) sits rest calls some u = let l = least rest (omega (arith, some)) in let u' = next sits rest u l in
       let fewer : total (rest' sits rest u l) ≡ m = omega (arith, total_set rest l.place l.call l.calls l.there, some) in
-      let go = order m (sits' sits rest u l) (rest' sits rest u l) (calls ++ l.call.deed.event ∷ []) fewer u' in
-      (turn sits rest u l ∷ go.0, go.1, (is_turn sits rest u l calls (hands (sits' sits rest u l) (rest' sits rest u l) u'), subst (λ (z : List Actor × Passed). InOrder z.0 z.1 go.0 (actors_of news) (passed_by rows news go.1)) (λ i. (actors_next sits rest u l i, passed_next sits rest u l calls i)) go.2))
+      let go = order m (sits' sits rest u l) (rest' sits rest u l) (calls ++ l.call.deed.event ∷ []) fewer u' in (
+        turn sits rest u l ∷ go.0,
+        go.1,
+        (is_turn sits rest u l calls (hands (sits' sits rest u l) (rest' sits rest u l) u'), subst (λ (z : List Actor × Passed). InOrder z.0 z.1 go.0 (actors_of news) (passed_by rows news go.1)) (λ i. (actors_next sits rest u l i, passed_next sits rest u l calls i)) go.2),
+        λ r n. (let later = go.3 r n in let one = looked_next sits rest u l calls r n in let more = noes_more r n calls l.call.deed.event in omega (arith, later, one, more)),
+      )
 
 -- at the start
 listed_by : (rows : List QueueRow) (olds : List Seated) (r : Role) (n : ℕ) (row : QueueRow) → slice_get rows n ≡ Some row → listed rows olds r n ≡ option_map_or (λ (y : Seated). entries_at y.seats r n) (slice_get olds (owner_of row r)) []
@@ -333,7 +372,7 @@ module _ (rows : List QueueRow) (olds news : List Seated) (run : HaveRun rows ol
     λ z is. (t.0, t.1, subst (λ (w : Seated). Goes w.actor w.seats t.2 t.0.actor t.0.seats) (same_some x.0 z (sym x.1 ∙ is)) t.3),
   )
 
-  pub ordered : (turns : List Turn) × (calls : List Event) × InOrder (actors_of olds) nothing_passed turns (actors_of news) (passed_by rows news calls)
+  pub ordered : (turns : List Turn) × (calls : List Event) × InOrder (actors_of olds) nothing_passed turns (actors_of news) (passed_by rows news calls) × HaveLooked rows olds news calls
   ordered = let all = tales_in (length olds) Tells tells in
       let none : (k : ℕ) (x : Seated) → slice_get olds k ≡ Some x → (r : Role) (n : ℕ) → length (entries_at x.seats r n) ≡ 0 = (λ k x is r n. ap length (run.anew k x is r n).0) in
       let go = order rows news (λ n row is r. (let lt = run.peers n row is r in omega (arith, lt, run.many))) run.flows (total all.0) olds all.0 [] refl record {
@@ -343,7 +382,7 @@ module _ (rows : List QueueRow) (olds news : List Seated) (run : HaveRun rows ol
         own = run.own;
         sized = λ k x is r n. none k x is r n ∙ sym (ap length (run.anew k x is r n).1);
         few = λ n row is p c at_p at_c. omega (arith, none row.consumer.0 c at_c Consumer n);
-      } in (go.0, go.1, subst (λ (p : Passed). InOrder (actors_of olds) p go.0 (actors_of news) (passed_by rows news go.1)) (nothing_yet rows olds (λ k x is r n. (run.anew k x is r n).0)) go.2)
+      } in (go.0, go.1, subst (λ (p : Passed). InOrder (actors_of olds) p go.0 (actors_of news) (passed_by rows news go.1)) (nothing_yet rows olds (λ k x is r n. (run.anew k x is r n).0)) go.2, λ r n. (let all = go.3 r n in omega (arith, all)))
 
 -- what was put stays
 pub grows : (actors after : List Actor) (passed last : Passed) (turns : List Turn) → InOrder actors passed turns after last → (n : ℕ) → IsPrefix (passed.sent n) (last.sent n)

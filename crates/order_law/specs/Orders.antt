@@ -1,12 +1,13 @@
 -- The calls of all actors, one after another.
-use Rattle.std.specs.Prelude.{◌≡◌, ◌<◌, ℕ, Some, List, [], ◌∷◌, length, map, slice_get}
-use Rattle.std.specs.Prelude.{slice_set}
+use Rattle.std.specs.Prelude.{◌≡◌, ◌+◌, ◌<◌, ℕ, Option, Some, None, List, [], ◌∷◌, length, map}
+use Rattle.std.specs.Prelude.{slice_get, slice_set}
 use Rattle.std.specs.Option.{option_map_or}
 use Rattle.cargo_core.specs.Lists.{IsPrefix}
 use Rattle.wire_core.specs.declared.names.QueueRow.{QueueRow}
 use Rattle.wire_core.specs.declared.names.Event.{Event}
 use Rattle.wire_core.specs.Deeds.{Deed, Cargo}
 use Rattle.wire_core.specs.Ends.{Role, Consumer, Producer, End}
+use Rattle.wire_core.specs.Fates.{noes_at}
 use Rattle.wire_core.specs.Journal.{owner_of}
 use Rattle.wire_core.specs.Lists.{Passed, with_deed}
 use Rattle.spsc_queue.specs.Known.Ends.{EndIs}
@@ -44,6 +45,26 @@ passed_by rows all calls = record {
   sent = listed rows all Producer;
   calls = calls;
 }
+
+-- how often an end looked in vain, if it is there
+abbrev pub noes_known : Option EndIs → ℕ
+noes_known None = 0
+noes_known (Some e) = e.knows.noes
+
+-- how often the end of a queue that stands at these seats did
+abbrev pub noes_seen : SeatsAre → Role → ℕ → ℕ
+noes_seen s r n = noes_known (stands_at (ends_of s r) n)
+
+-- how often the end of a queue did that its owner by the rows has
+abbrev pub looked : List QueueRow → List Seated → Role → ℕ → ℕ
+looked rows all r n = option_map_or (λ (row : QueueRow).
+    option_map_or (λ (x : Seated). noes_seen x.seats r n) (slice_get all (owner_of row r)) 0)
+    (slice_get rows n) 0
+
+-- by these calls, made between the two, each end looked in vain so often more
+abbrev pub HaveLooked : List QueueRow → (olds news : List Seated) → List Event → Type 0
+HaveLooked rows olds news calls = (r : Role) (n : ℕ)
+    → looked rows news r n ≡ looked rows olds r n + noes_at r n calls
 
 -- the actor at a place made a call, and is this one then
 pub record Turn : Type 0 where

@@ -9,7 +9,8 @@ ghost use Rattle.wire_core.specs.declared.names.Event.{Event};
 ghost use Rattle.wire_core.specs.declared.names.QueueRow.{QueueRow};
 ghost use Rattle.wire_core.specs.Lists.{Passed, nothing_passed};
 ghost use Rattle.actor_set.specs.declared.actor.Actor.{Actor};
-ghost use Rattle.order_law.specs.Orders.{Seated, Turn, HaveRun, InOrder, actors_of, passed_by};
+ghost use Rattle.order_law.specs.Orders.{Seated, Turn, HaveLooked, HaveRun, InOrder, actors_of};
+ghost use Rattle.order_law.specs.Orders.{passed_by};
 
 pub mod actor_parts;
 pub mod ended;
@@ -21,12 +22,13 @@ pub use actor_parts::{
 /// Where actors began with nothing, each made its calls at its own ends, each put after all that
 /// had passed at its ends, and rings handed over entries with the times at which they were put, the
 /// calls stand in one order: each actor makes its own in turn, and after each call what was taken
-/// at a queue is a beginning of what was put there. What was put stays there.
+/// at a queue is a beginning of what was put there. By these calls each end looked in vain as often
+/// as it did since the actors began. What was put stays there.
 pub fn order_law()
     ensures ordered { (rows : List QueueRow) (olds news : List Seated) → HaveRun rows olds news
         → (turns : List Turn) × (calls : List Event)
         × InOrder (actors_of olds) nothing_passed turns (actors_of news)
-        (passed_by rows news calls) }
+        (passed_by rows news calls) × HaveLooked rows olds news calls }
     ensures grows { (actors after : List Actor) (passed end : Passed) (turns : List Turn)
         → InOrder actors passed turns after end → (n : ℕ) → IsPrefix (passed.sent n) (end.sent n) }
 {}

@@ -9,3 +9,4 @@ pub mod Sharing
 pub mod Dropping
 pub mod Sizes
 pub mod Holding
+pub mod Turns

@@ -1,6 +1,6 @@
 -- What the receiving virtualiser stands for of one client by itself: it may drop a byte for want of
 -- room in the client's queue.
-use Rattle.std.specs.Prelude.{◌≡◌, ◌==◌, ◌+◌, ◌&&◌, ℕ, Bool, true, false, cond, nat_lt, flat_map}
+use Rattle.std.specs.Prelude.{◌≡◌, ◌==◌, ◌+◌, ◌&&◌, ◌||◌, ℕ, Bool, true, false, cond, nat_lt, flat_map}
 use Rattle.std.specs.Prelude.{Option, Some, None, List, [], ◌++◌, ◌∷◌, length, map, slice_index_or}
 use Rattle.cargo_core.specs.declared.item.Item.{Item}
 use Rattle.wire_core.specs.declared.names.QueueId.{QueueId}
@@ -66,6 +66,14 @@ serial_word input t before e =
 -- what became of a client's bytes by these calls
 abbrev pub byte_fate : (input : ℕ) → Taker → List Event → Fate
 byte_fate input t calls = fate_of (serial_word input t) calls
+
+-- a look in vain for room in one of these queues, where bytes for its client may be dropped: it
+-- drops one
+abbrev pub is_byte_drop : List QueueId → (drops : List Bool) → Event → Bool
+is_byte_drop [] drops e = false
+is_byte_drop (q ∷ queues) [] e = false
+is_byte_drop (q ∷ queues) (d ∷ drops) e =
+    (d && is_vain_at Producer q.0 e) || is_byte_drop queues drops e
 
 -- the calls tell what became of a client's bytes: each is settled but one that waits, which is
 -- owed, and each look in vain for room dropped one

@@ -6,5 +6,5 @@
 mod rx;
 mod tx;
 
-pub use rx::{SerialVirtRx, rx_drop_law, rx_hand_law, rx_row_law};
+pub use rx::{SerialVirtRx, rx_drop_law, rx_hand_law, rx_row_law, rx_turn_law};
 pub use tx::{SerialVirtTx, tx_hand_law, tx_row_law};

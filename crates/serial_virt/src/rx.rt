@@ -10,10 +10,10 @@ ghost use Rattle.wire_core.specs.Lists.{Passed, Stepped, nothing_passed};
 ghost use Rattle.wire_core.specs.Marks.{is_mark};
 ghost use Rattle.wire_core.specs.Fates.{marked, noes_at};
 ghost use Rattle.turn_kit.specs.Turns.{Turned, Posted, PostedAt, choice_of, chosen_place};
-ghost use Rattle.turn_kit.specs.Turns.{Post, last_after, is_at_rest, is_mark_at};
+ghost use Rattle.turn_kit.specs.Turns.{Post, last_after, is_at_rest, is_drop, is_mark_at};
 ghost use Rattle.turn_kit.specs.Posts.{intake_post};
 ghost use Rattle.cargo_core.specs.Bodies.{buffers_of};
-ghost use Rattle.turn_kit.specs.ManyEnds.{outlet_queues, outlet_posts};
+ghost use Rattle.turn_kit.specs.ManyEnds.{AreApart, outlet_queues, outlet_posts};
 ghost use Rattle.serial_switch.specs.Carried.{bytes_carried, byte_cargo};
 ghost use Rattle.serial_switch.specs.Standing.{StandsAfter};
 ghost use Rattle.serial_switch.specs.Switching.{input_of, given_to};
@@ -23,7 +23,7 @@ ghost use Rattle.serial_virt.specs.Receiving.{IsNewRx, RxForgot, new_outlet, rx_
 ghost use Rattle.serial_virt.specs.Receiving.{rx_hand, loaded_with, loaded_for, is_owed_at};
 ghost use Rattle.serial_virt.specs.Receiving.{place_loaded, client_posts, taker_of};
 ghost use Rattle.serial_virt.specs.Receiving.{HoldingRxStands, HoldingRxRow, holding_rx_round};
-ghost use Rattle.serial_virt.specs.Shares.{AllHold, byte_fate};
+ghost use Rattle.serial_virt.specs.Shares.{AllHold, byte_fate, is_byte_drop};
 
 use cargo_core::{Body, Item, Memory, PoolId};
 use serial_switch::Switch;
@@ -199,7 +199,13 @@ impl SerialVirtRx {
         ensures turn { self.new.turn ≡ self.old.turn }
     {
         let mut taken = None;
-        pull(&mut self.input, wires, self.load.is_none(), &mut taken, event);
+        pull(
+            &mut self.input,
+            wires,
+            self.load.is_none(),
+            &mut taken,
+            event,
+        );
         let given = read(&mut self.switch, taken);
         self.owe(given);
     }
@@ -224,14 +230,7 @@ impl SerialVirtRx {
     {
         let drops = self.drops[k];
         if k == self.to {
-            let dropped = put_or_drop_at(
-                &mut self.outputs,
-                wires,
-                k,
-                &mut self.load,
-                drops,
-                event,
-            );
+            let dropped = put_or_drop_at(&mut self.outputs, wires, k, &mut self.load, drops, event);
             if dropped {
                 self.load = None;
             }
@@ -307,4 +306,12 @@ pub fn rx_drop_law()
     ensures few { (v : SerialVirtRx) (k : ℕ) (q : QueueId) (calls : List Event)
         → marked (byte_fate v.input.queue.0 (taker_of v k q) calls).dropped
         ≤ noes_at Producer q.0 calls }
+{}
+
+/// A turn of it is a drop exactly where a look for room was in vain in the queue of a client whose
+/// bytes may be dropped: so the entry of a journal alone tells.
+pub fn rx_turn_law()
+    ensures { (v n : SerialVirtRx) (e : Event) → AreApart (outlet_queues v.outputs)
+        → (t : Turned (rx_round v) e (rx_round n)) → is_drop t.posted.post e
+        ≡ is_byte_drop (outlet_queues v.outputs) v.drops.items e }
 {}

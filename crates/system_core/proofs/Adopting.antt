@@ -5,12 +5,15 @@ use Rattle.std.specs.Option.{option_map_or}
 use Rattle.std.proofs.lemmas.List.{length-map}
 use Rattle.std.proofs.lemmas.Option.{get_or_from_slice_get}
 use Rattle.cargo_core.specs.Items.{kind_of}
+use Rattle.cargo_core.specs.declared.item.QueueKind.{QueueKind}
 use Rattle.wire_core.specs.declared.names.Event.{Event}
 use Rattle.wire_core.specs.declared.names.PoolRow.{PoolRow}
+use Rattle.wire_core.specs.declared.names.QueueId.{QueueId}
 use Rattle.wire_core.specs.declared.names.QueueRow.{QueueRow}
 use Rattle.wire_core.specs.Deeds.{Cargo}
 use Rattle.wire_core.specs.Ends.{Role, Consumer, Producer, End}
-use Rattle.wire_core.specs.Journal.{History, Hostiles, history_at, is_calm, owner_of}
+use Rattle.wire_core.specs.Fates.{noes_at}
+use Rattle.wire_core.specs.Journal.{History, Hostiles, history_at, is_calm, owner_of, start_track}
 use Rattle.wire_core.specs.Lists.{Passed}
 use Rattle.wire_core.specs.Queues.{Queue, queue_at, end_at, items_of}
 use Rattle.wire_core.specs.Sizes.{AreSized}
@@ -20,7 +23,7 @@ use Rattle.seat_wires.specs.Places.{no_end}
 use Rattle.turn_kit.specs.Pace.{pendings}
 use Rattle.turn_kit.proofs.Pacing.{paced_anew}
 use Rattle.play_core.specs.Manners.{Manner, Calm}
-use Rattle.play_core.specs.Moved.{moved}
+use Rattle.play_core.specs.Moved.{moved, noes_of}
 use Rattle.play_core.specs.Names.{AreNoted, Noted, carries_pages, is_wild, names_at, names_of, told_by, wild_in}
 use Rattle.play_core.specs.Sheets.{Scene}
 use Rattle.play_core.specs.Still.{IsPeopled}
@@ -50,8 +53,11 @@ use Rattle.cast_law.specs.Restarting.{AreAlike, disarmed}
 use Rattle.cast_law.proofs.Restarted.{as_many, calm_there as same_there, hosts_alike, in_place_alike, placed_alike, scene_alike, whole_alike, wired_alike}
 use Rattle.cast_law.proofs.TurnsLemmas.{noted_tell, told_turns}
 use Rattle.plain_wires.specs.Adopted.{IsEndedOf, all_adopted}
-use Rattle.order_law.specs.ActorParts.Opening.{IsForgotten}
-use Rattle.order_law.specs.ActorParts.Parting.{Apart, AreApart, IsRingOf, apart_end, hostile_apart}
+use Rattle.order_law.specs.Orders.{noes_known}
+use Rattle.order_law.specs.ActorParts.Opened.{AreAsOpened}
+use Rattle.order_law.specs.ActorParts.Opening.{IsForgotten, first_half}
+use Rattle.order_law.specs.ActorParts.Parting.{Apart, AreApart, IsRingOf, apart_end, end_in, ends_at, hostile_apart}
+use Rattle.order_law.proofs.ActorParts.Standing.{found}
 use Rattle.order_law.specs.ActorParts.Finished.{AreFinished, OwnEnd}
 use Rattle.order_law.specs.Ended.Tracks.{track_of, TellsEnds}
 use Rattle.order_law.specs.Ended.Leaving.{history_left, AreLeft}
@@ -60,7 +66,7 @@ use Rattle.order_law.proofs.EndedLemmas.Leaving.{are_left, same_end}
 use Rattle.order_law.proofs.EndedLemmas.Resting.{rests_left}
 use Rattle.order_law.proofs.EndedLemmas.Rounds.{fits_round}
 use Rattle.cast_law.specs.Runs.Running.{HaveHeld}
-use Rattle.cast_law.specs.Gone.Gone.{HaveGone, passed_of, left_at, actors_apart}
+use Rattle.cast_law.specs.Gone.Gone.{HaveGone, HaveLooked, passed_of, left_at, noes_apart, noes_left, actors_apart}
 use Rattle.cast_law.proofs.GoneLemmas.Gone.{have_gone as went_on, hand_over}
 use Rattle.sdf_plan.specs.declared.plan.Plan.{Plan}
 use Rattle.sdf_check.specs.Valid.{Valid}
@@ -76,6 +82,7 @@ use Rattle.system_core.specs.Systems.{Holds, HoldsBefore, GoesOn}
 use Rattle.system_core.specs.Adopting.{HaveComeFrom, IsAdopted, rests_by, rests_first}
 use Rattle.system_core.proofs.Fitting.{are_sized, fitted_place}
 use Rattle.system_core.proofs.Hosts.{calm_there}
+use Rattle.system_core.proofs.Marking.{told_anew}
 use Rattle.system_core.proofs.Owned.{past_owners}
 use Rattle.system_core.proofs.PastNames.{none_left, told_left}
 
@@ -88,6 +95,39 @@ sent_shown : (ended : List EndedIs) (n : ℕ) → items_of ((passed_of ended [])
 sent_shown [] n = refl
 sent_shown (e ∷ ended) zero = refl
 sent_shown (e ∷ ended) (suc n) = sent_shown ended n
+
+-- how often the ends of ended rings looked in vain is what their history tells
+none_told : (r : Role) → 0 ≡ noes_of r start_track
+none_told Consumer = refl
+none_told Producer = refl
+
+noes_shown : (ended : List EndedIs) (r : Role) (n : ℕ) → noes_left ended r n ≡ noes_of r (history_at (history_left ended) n)
+noes_shown [] Consumer n = refl
+noes_shown [] Producer n = refl
+noes_shown (e ∷ ended) Consumer zero = refl
+noes_shown (e ∷ ended) Producer zero = refl
+noes_shown (e ∷ ended) Consumer (suc n) = noes_shown ended Consumer n
+noes_shown (e ∷ ended) Producer (suc n) = noes_shown ended Producer n
+
+-- the end of a new ring never looked
+none_opened : (parts : List Apart) (rows : List QueueRow) → AreAsOpened rows parts → (r : Role) (n : ℕ) → noes_apart rows parts r n ≡ 0
+none_opened parts rows opened r n = by (slice_get rows n)
+  where
+    first : (x : Role) (kind : QueueKind) (wild : Bool) → (first_half x kind wild).noes ≡ 0
+    first Consumer kind wild = refl
+    first Producer kind wild = refl
+
+    at_end : (p : Apart) → ((i : ℕ) (x : QueueId × EndIs) → slice_get (ends_at p r) i ≡ Some x → x.1.knows.noes ≡ 0) → (o : Option EndIs) → end_in (ends_at p r) n ≡ o → noes_known o ≡ 0
+    at_end p none None is = refl
+    at_end p none (Some e) is = let f = found (ends_at p r) n e is in ap (λ (z : EndIs). z.knows.noes) (sym f.4) ∙ none f.0 f.1 f.2
+
+    of_part : (k : ℕ) (o : Option Apart) → slice_get parts k ≡ o → option_map_or (λ (p : Apart). noes_known (end_in (ends_at p r) n)) o 0 ≡ 0
+    of_part k None is = refl
+    of_part k (Some p) is = at_end p (λ i x at. let y = opened k p is r i x at in ap (λ (h : Half). h.noes) y.2 ∙ first r y.0.kind _) (end_in (ends_at p r) n) refl
+
+    by : (o : Option QueueRow) → option_map_or (λ (row : QueueRow). option_map_or (λ (p : Apart). noes_known (end_in (ends_at p r) n)) (slice_get parts (owner_of row r)) 0) o 0 ≡ 0
+    by None = refl
+    by (Some row) = of_part (owner_of row r) (slice_get parts (owner_of row r)) refl
 
 -- the entries that stand in the queues are those that are left
 entries_left : (rows : List QueueRow) (ended : List EndedIs) (n : ℕ) → length ended ≡ length rows → (queue_at (all_adopted rows ended) n).entries ≡ left_at ended n
@@ -175,7 +215,7 @@ record Ended (parts : List Apart) (ended : List EndedIs) (n : ℕ) (row : QueueR
   pub kind : e.producer.kind ≡ row.kind
 
 module _ (s : Setting) (rings : List RingIs) (parts : List Apart) (fitted : IsFitted s) (few : length s.cast ≤ 65536) (apart : AreApart s.rows rings parts) (actors nows : List Actor) (ended : List EndedIs) (done : AreFinished s.rows rings parts actors ended) (forgotten : AllZip IsForgotten actors nows) (cast : map part_of actors ≡ s.cast)
-    (olds : List Actor) (calls : List Event) (held : HaveHeld s.rows olds actors (passed_of ended calls)) (over : (n : ℕ) → (passed_of ended calls).sent n ≡ (passed_of ended calls).taken n ++ left_at ended n) where
+    (olds : List Actor) (calls : List Event) (held : HaveHeld s.rows olds actors (passed_of ended calls)) (over : (n : ℕ) → (passed_of ended calls).sent n ≡ (passed_of ended calls).taken n ++ left_at ended n) (looks : (r : Role) (n : ℕ) → noes_left ended r n ≡ noes_at r n calls) where
   abbrev rows : List QueueRow
   rows = s.rows
 
@@ -325,8 +365,11 @@ module _ (s : Setting) (rings : List RingIs) (parts : List Apart) (fitted : IsFi
   stands_there : (n : ℕ) → passed.sent n ≡ passed.taken n ++ (queue_at world n).entries
   stands_there n = over n ∙ ap (λ (l : List Cargo). passed.taken n ++ l) (sym (entries_left rows ended n ended_many))
 
+  noes : (r : Role) (n : ℕ) → noes_at r n passed.calls ≡ noes_of r (history_at history n)
+  noes r n = sym (looks r n) ∙ noes_shown ended r n
+
   items : HaveItems passed (moved history [])
-  items = record { taken = taken_shown ended; sent = sent_shown ended }
+  items = record { taken = taken_shown ended; sent = sent_shown ended; noes = noes }
 
   sends_was : ClientsSend rows s.cast passed
   sends_was = subst (λ (c : List Part). ClientsSend rows c passed) cast held.sends
@@ -369,6 +412,8 @@ module _ (s : Setting) (rings : List RingIs) (parts : List Apart) (fitted : IsFi
     stands_there = stands_there;
     shows_taken = taken_shown ended;
     shows_sent = sent_shown ended;
+    shows_noes = noes;
+    told = told_anew history nows passed items stands_now;
     kinds = kinds;
     size = left.size;
     queues = λ n row at. (left.each n row at).shown;
@@ -522,11 +567,14 @@ module _ (s : Setting) (rings : List RingIs) (parts : List Apart) (come : HaveCo
 
   -- so the system that takes over what is left goes on from it
   module _ (few : length s.cast ≤ 65536) (actors nows : List Actor) (ended : List EndedIs) (done : AreFinished s.rows rings parts actors ended) (forgotten : AllZip IsForgotten actors nows) where
-    held : (calls : List Event) × HaveHeld s.rows (actors_apart come.olds) actors (passed_of ended calls)
+    held : (calls : List Event) × HaveHeld s.rows (actors_apart come.olds) actors (passed_of ended calls) × HaveLooked s.rows come.olds ended calls
     held = went_on s.rows rings come.olds parts actors ended have_gone done
 
     over : (n : ℕ) → (passed_of ended held.0).sent n ≡ (passed_of ended held.0).taken n ++ left_at ended n
     over n = hand_over s.rows rings come.olds parts actors ended have_gone done held.0 n
+
+    looks : (r : Role) (n : ℕ) → noes_left ended r n ≡ noes_at r n held.0
+    looks r n = let all = held.2 r n in let none = none_opened come.olds s.rows come.opened r n in omega (arith, all, none)
 
     cast_is : map part_of actors ≡ s.cast
     cast_is = held.1.parts ∙ old_cast
@@ -535,13 +583,13 @@ module _ (s : Setting) (rings : List RingIs) (parts : List Apart) (come : HaveCo
     many = done.many ∙ all_long (IsRingOf (hostile_apart parts)) s.rows rings come.after.rings_are
 
     come_ended : AllZip IsEndedOf s.rows ended
-    come_ended = (left s rings parts come.fitted few come.after actors nows ended done forgotten cast_is (actors_apart come.olds) held.0 held.1 over).ended_of
+    come_ended = (left s rings parts come.fitted few come.after actors nows ended done forgotten cast_is (actors_apart come.olds) held.0 held.1 over looks).ended_of
 
     come_goes : GoesOn (begun_on ended s.rows s.pools nows s.net s.serial s.blk) (all_adopted s.rows ended) nows
-    come_goes = subst (λ (h : History). GoesOn (record (begun h s.rows s.pools nows s.net s.serial s.blk) { names = names_left 0 ended }) (all_adopted s.rows ended) nows) (sym (history_is s.rows ended many)) (goes_on s rings parts come.fitted few come.after actors nows ended done forgotten cast_is (actors_apart come.olds) held.0 held.1 over)
+    come_goes = subst (λ (h : History). GoesOn (record (begun h s.rows s.pools nows s.net s.serial s.blk) { names = names_left 0 ended }) (all_adopted s.rows ended) nows) (sym (history_is s.rows ended many)) (goes_on s rings parts come.fitted few come.after actors nows ended done forgotten cast_is (actors_apart come.olds) held.0 held.1 over looks)
 
     come_adopted : (t : Shown) → t ≡ started_on ended s.rows s.pools (all_adopted s.rows ended) nows s.net s.serial s.blk → IsAdopted s parts t
-    come_adopted t is = is_adopted s rings parts come.fitted few come.after actors nows ended done forgotten cast_is (actors_apart come.olds) held.0 held.1 over t
+    come_adopted t is = is_adopted s rings parts come.fitted few come.after actors nows ended done forgotten cast_is (actors_apart come.olds) held.0 held.1 over looks t
         (ap (λ (z : Shown). z.setting) is ∙ ap (λ (h : History). record (begun h s.rows s.pools nows s.net s.serial s.blk) { names = names_left 0 ended }) (history_is s.rows ended many))
         (ap (λ (z : Shown). z.journal) is)
 

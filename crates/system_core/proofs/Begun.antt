@@ -10,6 +10,8 @@ use Rattle.serial_switch.specs.Switching.{input_of}
 use Rattle.trace_text.specs.declared.trace.Trace.{Trace}
 use Rattle.trace_text.specs.Events.{is_serial_rogue}
 use Rattle.wire_core.specs.declared.names.QueueRow.{QueueRow}
+use Rattle.wire_core.specs.Fates.{marked, without}
+use Rattle.wire_core.proofs.Fating.{without_length}
 use Rattle.region_layout.specs.Rows.{uart_number}
 use Rattle.play_core.specs.Moved.{Moved, Seat}
 use Rattle.play_core.specs.Wants.{intake, outlet}
@@ -18,6 +20,7 @@ use Rattle.play_core.specs.Manners.{Calm}
 use Rattle.play_core.proofs.Lists.{some_is, map_get, map_from, there_is, there_below}
 use Rattle.serial_law.specs.Parts.{SerialPart, SerialClient}
 use Rattle.serial_law.specs.Bytes.{bytes_in}
+use Rattle.serial_law.specs.Table.{Marks}
 use Rattle.serial_law.specs.Serial.{SerialClass, IsSerial, ArrivesWhole}
 use Rattle.serial_law.specs.Beside.{HasQueue, IsSerialBeside, ArrivesBeside}
 use Rattle.actor_set.specs.Parts.{Part, ClientPart}
@@ -26,12 +29,12 @@ use Rattle.system_core.specs.Shows.{Setting, Shown, hostile_in, moved_in}
 use Rattle.actor_set.specs.Laws.Records.{record_by}
 use Rattle.system_core.specs.Lawful.{record_at, IsFitted, IsTold}
 use Rattle.system_core.specs.Crews.{number_named}
-use Rattle.system_core.specs.Builds.{serial_class}
+use Rattle.system_core.specs.Builds.{class_of, serial_class}
 use Rattle.system_core.specs.GivesBack.{SerialGivesBack}
 use Rattle.system_core.proofs.Casting.{HasSerial}
 use Rattle.system_core.specs.PlanPlays.{ShowsInPart, ShowsWhole}
 use Rattle.actor_set.proofs.LawsLemmas.Calm.{calm_at}
-use Rattle.cast_core.specs.Sources.{every_second, first_serial}
+use Rattle.cast_core.specs.Sources.{every_second, first_serial, serial_drops}
 use Rattle.cast_core.proofs.Seconds.{second_get, second_there, second_length}
 
 -- an actor of the serial class is one of a cast
@@ -91,7 +94,7 @@ module _ (plan : Plan) (serial : Serial) (first : ℕ) (trace : Trace) (s : Sett
   sender_end c q at = map_get intake (every_second (first + 5) count) c q at
 
   -- whichever of its clients are hostile
-  pub serial_beside : IsSerialBeside (There s) (is_serial_rogue plan) s.rows (serial_class first count trace)
+  pub serial_beside : IsSerialBeside (There s) (is_serial_rogue plan) s.rows (serial_class first count (serial_drops plan) trace)
   serial_beside = record {
     device = ((uart_number plan).0, h.device);
     driver = (number_named plan serial.driver, h.driver);
@@ -118,7 +121,7 @@ module _ (plan : Plan) (serial : Serial) (first : ℕ) (trace : Trace) (s : Sett
         let script = there_is trace.says c (omega (arith, lt, says)) in
         (script.0, client_is c q p script.0 (calm c) rx tx script.1)
 
-    pub serial_there : IsSerial (There s) (hostile_in s) s.rows (serial_class first count trace)
+    pub serial_there : IsSerial (There s) (hostile_in s) s.rows (serial_class first count (serial_drops plan) trace)
     serial_there = record {
       device = ((uart_number plan).0, h.device);
       driver = (number_named plan serial.driver, h.driver);
@@ -142,7 +145,7 @@ module _ (plan : Plan) (serial : Serial) (first : ℕ) (trace : Trace) (s : Sett
     }
 
 -- what is seen of the class is what its actors took
-module _ (plan : Plan) (serial : Serial) (trace : Trace) (s : Shown) (h : HasSerial (first_serial plan) plan serial trace s.setting) (says : length trace.says ≡ length serial.client) (told : IsTold s) where
+module _ (plan : Plan) (serial : Serial) (trace : Trace) (s : Shown) (h : HasSerial (first_serial plan) plan serial trace s.setting) (says : length trace.says ≡ length serial.client) (told : IsTold s) (marks : Marks) where
   abbrev first : ℕ
   first = first_serial plan
 
@@ -150,7 +153,7 @@ module _ (plan : Plan) (serial : Serial) (trace : Trace) (s : Shown) (h : HasSer
   clients = length serial.client
 
   abbrev class : SerialClass
-  class = serial_class first clients trace
+  class = class_of plan trace serial
 
   abbrev went : Moved
   went = moved_in s.setting s.journal
@@ -180,7 +183,7 @@ module _ (plan : Plan) (serial : Serial) (trace : Trace) (s : Shown) (h : HasSer
   line_is =
       told.line ∙ (ap (option_map (record_at s)) h.device_is ∙ ap Some (ap (λ o. option_map_or (record_by went) o []) h.device))
 
-  pub shows_in_part : ArrivesBeside (is_serial_rogue plan) class went → ShowsInPart plan trace serial went s.state
+  pub shows_in_part : ArrivesBeside marks (is_serial_rogue plan) class went → ShowsInPart plan trace serial marks went s.state
   shows_in_part a = record {
     count_is = ap length told.serial ∙ (length-map s.setting.serial.clients (record_at s) ∙ (ap length h.clients_are ∙ length-map serial.client (λ (x : Client). number_named plan x.pd)));
     records = λ c got at. begins c got at (is_serial_rogue plan c) refl;
@@ -188,14 +191,24 @@ module _ (plan : Plan) (serial : Serial) (trace : Trace) (s : Shown) (h : HasSer
     line = (bytes_in (went.taken (first + 1)), line_is, a.line);
   }
     where
-      begins : (c : ℕ) (got : List ℕ) → slice_get s.state.serial c ≡ Some got → (b : Bool) → is_serial_rogue plan c ≡ b → IsPrefix got (input_of clients c trace.input)
-      begins c got at true rogue = subst (λ g. IsPrefix g (input_of clients c trace.input)) (sym (nothing_is c got rogue at)) (input_of clients c trace.input, refl)
+      begins : (c : ℕ) (got : List ℕ) → slice_get s.state.serial c ≡ Some got → (b : Bool) → is_serial_rogue plan c ≡ b → IsPrefix got (without (marks c) (input_of clients c trace.input))
+      begins c got at true rogue = subst (λ g. IsPrefix g (without (marks c) (input_of clients c trace.input))) (sym (nothing_is c got rogue at)) (without (marks c) (input_of clients c trace.input), refl)
       begins c got at false calm =
           let r = record_is c got calm at in
-          subst (λ n. IsPrefix got (input_of n c trace.input)) (second_length (first + 4) clients) (subst (λ x. IsPrefix x (input_of (length class.client_rx) c trace.input)) r.1 (a.records c (first + 4 + 2 * c) r.0))
+          subst (λ n. IsPrefix got (without (marks c) (input_of n c trace.input))) (second_length (first + 4) clients) (subst (λ x. IsPrefix x (without (marks c) (input_of (length class.client_rx) c trace.input))) r.1 (a.records c (first + 4 + 2 * c) r.0))
 
-  pub shows_whole : SerialGivesBack plan → ArrivesWhole class went → ShowsWhole clients trace s.state
-  shows_whole calm a = record {
-    records = λ c got at. let r = record_is c got (calm c) at in sym r.1 ∙ (a.records c (first + 4 + 2 * c) r.0 ∙ ap (λ n. input_of n c trace.input) (second_length (first + 4) clients));
+  pub shows_whole : SerialGivesBack plan → ((c q : ℕ) → slice_get class.client_rx c ≡ Some q → length (marks c) ≤ length (input_of (length class.client_rx) c class.input)) → ArrivesWhole marks class went → ShowsWhole clients trace marks s.state
+  shows_whole calm fit a = record {
+    records = all;
+    lacks = λ c got at. (
+        let r = record_is c got (calm c) at in
+        let few : length (marks c) ≤ length (input_of clients c trace.input) = subst (λ n. length (marks c) ≤ length (input_of n c trace.input)) (second_length (first + 4) clients) (fit c (first + 4 + 2 * c) r.0) in
+        let left = without_length (marks c) (input_of clients c trace.input) few in
+        let is = ap length (all c got at) in
+        omega (arith, left, is)
+        );
     line = (bytes_in (went.taken (first + 1)), line_is, a.line);
   }
+    where
+      all : (c : ℕ) (got : List ℕ) → slice_get s.state.serial c ≡ Some got → got ≡ without (marks c) (input_of clients c trace.input)
+      all c got at = let r = record_is c got (calm c) at in sym r.1 ∙ (a.records c (first + 4 + 2 * c) r.0 ∙ ap (λ n. without (marks c) (input_of n c trace.input)) (second_length (first + 4) clients))

@@ -12,7 +12,7 @@ use Rattle.actor_set.specs.Laws.Kinds.{serial_part}
 use Rattle.trace_text.specs.Events.{is_serial_rogue}
 use Rattle.cast_core.specs.Casts.{calm_part}
 use Rattle.cast_core.specs.Hostile.{acts_at, serial_rogue_at}
-use Rattle.cast_core.specs.Sources.{every_second, first_serial}
+use Rattle.cast_core.specs.Sources.{every_second, first_serial, serial_drops}
 use Rattle.layout_laws.proofs.SeatsLemmas.Naming.{serial_named}
 use Rattle.system_core.specs.Shows.{Crew, Setting}
 use Rattle.system_core.specs.States.{crew_of, nobody}
@@ -31,7 +31,7 @@ pub record HasSerial (first : ℕ) (plan : Plan) (serial : Serial) (trace : Trac
   pub clients_are : s.serial.clients ≡ map (λ (c : Client). number_named plan c.pd) serial.client
   pub device : IsPart s (uart_number plan).0 (SerialDevice first (first + 1) trace.input)
   pub driver : IsPart s (number_named plan serial.driver) (SerialDriver first (first + 1) (first + 2) (first + 3))
-  pub receiver : IsPart s (number_named plan serial.rx_virt) (SerialReceiver (first + 2) (every_second (first + 4) (length serial.client)))
+  pub receiver : IsPart s (number_named plan serial.rx_virt) (SerialReceiver (first + 2) (every_second (first + 4) (length serial.client)) (serial_drops plan))
   pub sender : IsPart s (number_named plan serial.tx_virt) (SerialSender (first + 3) (every_second (first + 5) (length serial.client)))
   pub client : (c : ℕ) (client : Client) (script : List ℕ) → is_serial_rogue plan c ≡ false → slice_get serial.client c ≡ Some client → slice_get trace.says c ≡ Some script → IsPart s (number_named plan client.pd) (SerialClient (first + 4 + 2 * c) (first + 5 + 2 * c) script)
   pub hostile : (c : ℕ) (client : Client) → is_serial_rogue plan c ≡ true → slice_get serial.client c ≡ Some client → (r : RoguePart) × (slice_get s.cast (number_named plan client.pd) ≡ Some (HostilePart r)) × IsRogueAlike (serial_rogue_at first c (acts_at trace.serial_acts c)) r
@@ -48,7 +48,7 @@ has_serial plan trace s cast serial has =
       clients_are = ap (λ (c : Crew). c.clients) who;
       device = plays_calm plan trace s.cast cast.parts jobs.UartDevice _ named.device _ refl refl;
       driver = plays_calm plan trace s.cast cast.parts jobs.UartDriver _ named.driver _ refl refl;
-      receiver = plays_calm plan trace s.cast cast.parts jobs.SerialReceiver _ named.receiver _ refl refl ∙ ap (λ (cs : List Client). Some (RxPart (first + 2) (every_second (first + 4) (length cs)))) clients;
+      receiver = plays_calm plan trace s.cast cast.parts jobs.SerialReceiver _ named.receiver _ refl refl ∙ ap (λ (cs : List Client). Some (RxPart (first + 2) (every_second (first + 4) (length cs)) (serial_drops plan))) clients;
       sender = plays_calm plan trace s.cast cast.parts jobs.SerialSender _ named.sender _ refl refl ∙ ap (λ (cs : List Client). Some (TxPart (first + 3) (every_second (first + 5) (length cs)))) clients;
       client = λ c client script calm at said. plays_calm plan trace s.cast cast.parts (jobs.SerialClient c) _ (named.client c client at) _ (ap (λ b. if b then Some (HostilePart (serial_rogue_at first c (acts_at trace.serial_acts c))) else calm_part plan trace (jobs.SerialClient c)) calm ∙ ap (λ o. Some (ClientPart (first + 4 + 2 * c) (first + 5 + 2 * c) (unwrap_or o []))) said) refl;
       hostile = λ c client rogue at. plays_rogue plan trace s.cast cast.parts (jobs.SerialClient c) _ (named.client c client at) _ (ap (λ b. if b then Some (HostilePart (serial_rogue_at first c (acts_at trace.serial_acts c))) else calm_part plan trace (jobs.SerialClient c)) rogue);

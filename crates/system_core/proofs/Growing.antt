@@ -30,7 +30,7 @@ block_ends scene wild names (BlkClient req resp asks pool) = refl
 pub told_ends : (scene : Scene) (wild : Wild) (names : Names) (p : Part) → (told_sheet scene wild names p).ends ≡ (sheet scene p).ends
 told_ends scene wild names (UartPart rx tx input) = refl
 told_ends scene wild names (DriverPart device_rx device_tx rx tx) = refl
-told_ends scene wild names (RxPart rx clients) = refl
+told_ends scene wild names (RxPart rx clients drops) = refl
 told_ends scene wild names (TxPart tx clients) = refl
 told_ends scene wild names (ClientPart rx tx script) = refl
 told_ends scene wild names (NetworkPart p) = refl
@@ -54,7 +54,7 @@ block_on wild names grown grows (BlkClient req resp asks pool) m h = tt
 within_on : (wild : Wild) (names grown : Names) → GrowsTo names grown → (p : Part) (m : Moved) → LiesWithin wild names p m → LiesWithin wild grown p m
 within_on wild names grown grows (UartPart rx tx input) m h = tt
 within_on wild names grown grows (DriverPart device_rx device_tx rx tx) m h = tt
-within_on wild names grown grows (RxPart rx clients) m h = tt
+within_on wild names grown grows (RxPart rx clients drops) m h = tt
 within_on wild names grown grows (TxPart tx clients) m h = tt
 within_on wild names grown grows (ClientPart rx tx script) m h = tt
 within_on wild names grown grows (NetworkPart p) m h = tt

@@ -84,6 +84,7 @@ module _ (a : Inside) (i : IsSystem a) where
 
   -- all that holds of a system
   pub stands_lawful : StandsLawful (shown_of a)
+  unfolding told
   stands_lawful = record {
     fitted = i.fitted;
     lawful = record {
@@ -97,4 +98,5 @@ module _ (a : Inside) (i : IsSystem a) where
       owners = one_owner a i;
     };
     told = told;
+    calls = i.holds.told;
   }

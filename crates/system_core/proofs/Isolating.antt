@@ -1,8 +1,14 @@
 -- A client of a class is there where the class is, and what it recorded is of what it must get.
-use Rattle.std.proofs.Common.{◌≡◌, ◌<◌, ℕ, Bool, true, false, Option, Some, None, List, [], ◌∷◌, length, slice_get, refl, sym, ap, subst, arith, eqb-true}
+use Rattle.std.proofs.Common.{◌≡◌, ◌<◌, ◌++◌, ℕ, Bool, true, false, cond, Option, Some, None, List, [], ◌∷◌, length, slice_get, refl, sym, ap, ◌∙◌, subst, arith, eqb-true}
 use Rattle.std.specs.Prelude.{◌==◌}
 use Rattle.std.specs.Option.{option_map_or}
+use Rattle.cargo_core.specs.Lists.{IsPrefix}
 use Rattle.cargo_core.specs.declared.item.Reply.{Reply}
+use Rattle.wire_core.specs.declared.names.Event.{Event}
+use Rattle.wire_core.specs.Fates.{without}
+use Rattle.serial_virt.specs.Shares.{byte_fate}
+use Rattle.serial_law.specs.Dropped.{taker}
+use Rattle.serial_law.specs.Serial.{SerialClass}
 use Rattle.sdf_plan.specs.declared.plan.Plan.{Plan}
 use Rattle.sdf_plan.specs.declared.plan.Net.{Net}
 use Rattle.sdf_plan.specs.declared.plan.Serial.{Serial}
@@ -19,7 +25,9 @@ use Rattle.system_core.specs.Shows.{Shown}
 use Rattle.system_core.specs.Plays.{runnable_now}
 use Rattle.system_core.specs.Reports.{report_of}
 use Rattle.system_core.specs.PlanPlays.{IsSystemOf}
-use Rattle.system_core.specs.Isolation.{AreOfOneList, BlkRests, IsRecordIn, NetRests, SerialRests}
+use Rattle.system_core.specs.Builds.{class_of}
+use Rattle.system_core.specs.Dropped.{calls_by, dropped_by}
+use Rattle.system_core.specs.Isolation.{AreOfOneList, BlkRests, IsLeftOf, IsRecordBut, IsRecordIn, NetRests, SerialRests, may_drop}
 use Rattle.system_core.proofs.Scripts.{serials}
 
 -- where a list has no elements there are none
@@ -29,6 +37,13 @@ none_are (x ∷ xs) h = let e : length (x ∷ xs) ≡ 0 = eqb-true (length (x �
 
 still : (s : Shown) → (report_of s).quiet ≡ true → runnable_now s ≡ []
 still s h = none_are (runnable_now s) h
+
+-- two lists that are one begin with the same, and go on so
+same_heads : {T : Type 0} (x y : T) (xs ys : List T) → x ∷ xs ≡ y ∷ ys → (x ≡ y) × (xs ≡ ys)
+same_heads x y xs ys e = (cc, cc)
+
+whole_left : {T : Type 0} (xs : List T) → without [] xs ≡ xs
+whole_left xs = refl
 
 -- a class is there where it has a client
 there_in : {T U : Type 0} (f : T → List U) (class : Option T) (c : ℕ) → c < length (option_map_or f class []) → (x : T) × (class ≡ Some x)
@@ -58,15 +73,41 @@ frames_of plan trace s c got h lt at =
       all = λ rests. (h.whole_net (still s rests.0) rests.1 has.0 has.1).records c (client_mac plan c) got mac at;
     }
 
-pub input_for : (plan : Plan) (trace : Trace) (s : Shown) (c : ℕ) (got : List ℕ) → IsSystemOf plan trace s → c < length (serial_clients plan) → slice_get s.state.serial c ≡ Some got → IsRecordIn (input_of (length (serial_clients plan)) c trace.input) (SerialRests plan s) got
+-- a beginning of what is left of a list is left of it
+nothing_left : {T : Type 0} (xs : List T) → (marks : List Bool) × ([] ≡ without marks xs)
+nothing_left [] = ([], refl)
+nothing_left (x ∷ xs) = let r = nothing_left xs in (true ∷ r.0, r.1)
+
+left_begins : {T : Type 0} (got : List T) (marks : List Bool) (whole : List T) → IsPrefix got (without marks whole) → IsLeftOf got whole
+left_begins [] marks whole begins = nothing_left whole
+left_begins (g ∷ got) [] [] begins = let none = begins.1 in cc
+left_begins (g ∷ got) (m ∷ marks) [] begins = let none = begins.1 in cc
+left_begins (g ∷ got) [] (x ∷ whole) begins =
+    let heads = same_heads g x (got ++ begins.0) whole begins.1 in
+    let r = left_begins got [] whole (begins.0, heads.1 ∙ sym (whole_left whole)) in
+    (false ∷ r.0, λ i. heads.0 i ∷ r.1 i)
+left_begins (g ∷ got) (true ∷ marks) (x ∷ whole) begins = let r = left_begins (g ∷ got) marks whole begins in (true ∷ r.0, r.1)
+left_begins (g ∷ got) (false ∷ marks) (x ∷ whole) begins =
+    let heads = same_heads g x (got ++ begins.0) (without marks whole) begins.1 in
+    let r = left_begins got marks whole (begins.0, heads.1) in
+    (false ∷ r.0, λ i. heads.0 i ∷ r.1 i)
+
+pub input_for : (plan : Plan) (trace : Trace) (s : Shown) (c : ℕ) (got : List ℕ) → IsSystemOf plan trace s → c < length (serial_clients plan) → slice_get s.state.serial c ≡ Some got → IsRecordBut (input_of (length (serial_clients plan)) c trace.input) (may_drop plan c) (SerialRests plan s) got
 input_for plan trace s c got h lt at =
     let has = there_in (λ (serial : Serial). serial.client) plan.serial c lt in
-    let own : IsRecordIn (input_of (length has.0.client) c trace.input) (SerialRests plan s) got = record {
-      begins = (h.shows has.0 has.1).records c got at;
-      all = λ rests. (h.whole (still s rests.0) rests.1 has.0 has.1).records c got at;
+    let class : SerialClass = class_of plan trace has.0 in
+    let calls : List Event = calls_by h.stands.calls.past s.journal in
+    let none : may_drop plan c ≡ false → dropped_by class calls c ≡ [] = (λ kept. ap (λ (b : Bool). cond b (byte_fate class.rx (taker class.client_rx class.drops c) calls).dropped []) kept) in
+    let kept_all : may_drop plan c ≡ false → without (dropped_by class calls c) (input_of (length has.0.client) c trace.input) ≡ input_of (length has.0.client) c trace.input = (λ kept. ap (λ (bs : List Bool). without bs (input_of (length has.0.client) c trace.input)) (none kept)) in
+    let own : IsRecordBut (input_of (length has.0.client) c trace.input) (may_drop plan c) (SerialRests plan s) got = record {
+      left = left_begins got (dropped_by class calls c) (input_of (length has.0.client) c trace.input) ((h.shows has.0 has.1).records c got at);
+      kept = λ kept. record {
+        begins = subst (IsPrefix got) (kept_all kept) ((h.shows has.0 has.1).records c got at);
+        all = λ rests. (h.whole (still s rests.0) rests.1 has.0 has.1).records c got at ∙ kept_all kept;
+      };
     } in
     let many : length (serial_clients plan) ≡ length has.0.client = ap (λ cs. length cs) (serials plan has.0 has.1) in
-    subst (λ n. IsRecordIn (input_of n c trace.input) (SerialRests plan s) got) (sym many) own
+    subst (λ n. IsRecordBut (input_of n c trace.input) (may_drop plan c) (SerialRests plan s) got) (sym many) own
 
 pub replies_for : (plan : Plan) (trace : Trace) (s : Shown) (c : ℕ) (got : List Reply) → IsSystemOf plan trace s → c < length (blk_clients plan) → slice_get s.state.blk c ≡ Some got → IsRecordIn (replies_in plan trace c) (BlkRests plan s) got
 replies_for plan trace s c got h lt at =

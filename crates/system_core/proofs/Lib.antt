@@ -2,6 +2,8 @@
 pub mod Telling
 pub mod Growing
 pub mod Hosts
+pub mod Marking
+pub mod Dropping
 pub mod SystemStep
 pub mod Playing
 pub mod RunsNow
@@ -28,6 +30,7 @@ pub mod Crewing
 pub mod Built
 pub mod Quieting
 pub mod PoolsLemmas
+pub mod DropSeats
 pub mod Together
 pub mod Parting
 pub mod PastNames

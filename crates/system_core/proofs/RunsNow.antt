@@ -40,7 +40,7 @@ both e f = cc
 
 module _ (history : History) (rows : List QueueRow) (names : List Noted) (w : List Queue) (actors : List Actor) (journal : List Entry) (h : Holds history rows names w actors journal) where
   pub items_here : HaveItems h.passed (moved history journal)
-  items_here = record { taken = h.shows_taken; sent = h.shows_sent }
+  items_here = record { taken = h.shows_taken; sent = h.shows_sent; noes = h.shows_noes }
 
   bells_here : HaveBells w history journal
   bells_here n lt = (h.queues n (get_or rows n no_row) (slice_get-get_or rows n no_row (subst (λ m. n < m) h.size lt))).bells

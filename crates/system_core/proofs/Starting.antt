@@ -5,7 +5,8 @@ use Rattle.wire_core.specs.declared.names.PoolRow.{PoolRow}
 use Rattle.wire_core.specs.declared.names.QueueRow.{QueueRow}
 use Rattle.wire_core.specs.Lists.{nothing_passed}
 use Rattle.wire_core.specs.Queues.{Queue, starts, queue_at, end_at, is_pending}
-use Rattle.wire_core.specs.Journal.{History, start_history, IsShown}
+use Rattle.wire_core.specs.Ends.{Role, Consumer, Producer}
+use Rattle.wire_core.specs.Journal.{History, start_history, start_track, IsShown}
 use Rattle.wire_core.proofs.BellTheorem.{start_is}
 use Rattle.turn_kit.specs.Pace.{pendings}
 use Rattle.turn_kit.proofs.Pacing.{paced_anew}
@@ -13,7 +14,7 @@ use Rattle.actor_set.specs.Actors.{actor_round, actor_rests, part_of}
 use Rattle.actor_set.specs.declared.actor.Actor.{Actor}
 use Rattle.play_core.specs.Names.{Noted, Wild, told_by, wild_in}
 use Rattle.play_core.specs.Runs.{is_runnable, flags_from}
-use Rattle.play_core.specs.Moved.{moved}
+use Rattle.play_core.specs.Moved.{moved, noes_of}
 use Rattle.play_core.specs.Wants.{Needful, Want}
 use Rattle.play_core.specs.Sheets.{needful}
 use Rattle.play_core.proofs.Noting.{nothing_noted}
@@ -32,9 +33,15 @@ use Rattle.system_core.specs.Systems.{Holds}
 use Rattle.play_core.proofs.Lists.{map_get}
 use Rattle.play_core.proofs.Flags.{flag_at, flags_length}
 use Rattle.system_core.proofs.Hosts.{calm_there}
+use Rattle.system_core.proofs.Marking.{told_anew}
 use Rattle.system_core.proofs.RunsNow.{idle_here}
 use Rattle.player_kit.proofs.Listing.{not_not}
 use Rattle.player_kit.proofs.Showing.{starts_shown, nothing_there, none_stored}
+
+-- nobody looked in vain yet
+none_looked : (r : Role) → 0 ≡ noes_of r start_track
+none_looked Consumer = refl
+none_looked Producer = refl
 
 -- a start state holds
 module _ (rows : List QueueRow) (pools : List PoolRow) (actors : List Actor) (in_place : IsInPlace rows pools (map part_of actors)) (s : AreStarting rows actors) where
@@ -47,12 +54,17 @@ module _ (rows : List QueueRow) (pools : List PoolRow) (actors : List Actor) (in
   kept : TellsKept wild (told_by []) nothing_passed
   kept = noted_tell wild [] nothing_passed (nothing_noted wild)
 
+  none_here : (r : Role) (n : ℕ) → 0 ≡ (moved (start_history rows) []).noes r n
+  none_here r n = none_looked r ∙ ap (noes_of r) (sym (start_is rows n))
+
   pub start_holds : Holds (start_history rows) rows [] (starts rows) actors []
   start_holds = record {
     passed = nothing_passed;
     stands_there = λ n. sym (nothing_there rows n);
     shows_taken = λ n. ap (λ t. t.taken) (sym (start_is rows n));
     shows_sent = λ n. ap (λ t. t.sent) (sym (start_is rows n));
+    shows_noes = none_here;
+    told = told_anew (start_history rows) actors nothing_passed (record { taken = λ n. ap (λ t. t.taken) (sym (start_is rows n)); sent = λ n. ap (λ t. t.sent) (sym (start_is rows n)); noes = none_here }) s.stands;
     kinds = λ n row at k c there. cc;
     size = simp length-map;
     queues = λ n row at. subst (IsShown row (queue_at (starts rows) n)) (sym (start_is rows n)) (starts_shown rows n row at);

@@ -10,6 +10,7 @@ use Rattle.wire_core.specs.declared.names.Event.{Event}
 use Rattle.wire_core.specs.declared.names.Entry.{Entry}
 use Rattle.wire_core.specs.Deeds.{Deed, Cargo, cargo_of}
 use Rattle.wire_core.specs.Ends.{Role, Consumer, Producer, Moves, role_of}
+use Rattle.wire_core.specs.Fates.{noes_at}
 use Rattle.wire_core.specs.Lists.{Passed, Stepped, with_deed, if_there, if_put, put_by, taken_by}
 use Rattle.wire_core.specs.Queues.{Queue, Happens, queue_at, no_queue, end_at, items_of, after, is_store}
 use Rattle.wire_core.specs.Journal.{track, track_after, History, Hostiles, history_at, if_on, IsShown, LegalEntry, LegalJournal, MayCall, owner_of, is_calm}
@@ -18,15 +19,15 @@ use Rattle.wire_core.proofs.Places.{slice_get_written, slice_get_beside}
 use Rattle.wire_core.proofs.Beside.{take_beside, put_beside}
 use Rattle.wire_core.proofs.Tracks.{EachFrom-append, track_from-append, shown_tells, shown_finds, shown_condition, shown_carries, shown_after}
 use Rattle.wire_core.specs.Ends.{waiting_role}
-use Rattle.wire_core.specs.Marks.{HasCalmQueues, no_drops, since}
+use Rattle.wire_core.specs.Marks.{Drops, HasCalmQueues, since}
 use Rattle.wire_core.proofs.Answering.{finds, tells, stays}
 use Rattle.client_programs.specs.declared.rogue.Rogue.{Rogue}
 use Rattle.turn_kit.specs.Turns.{Turned, is_at_rest}
 use Rattle.turn_kit.specs.Pace.{Paced, pendings, IsCalled}
 use Rattle.turn_kit.proofs.Playing.{pace_own, pace_beside}
 use Rattle.turn_kit.proofs.Plainness.{plain_next}
-use Rattle.actor_set.proofs.LawsLemmas.Paces.{post_end, post_waits}
-use Rattle.actor_set.specs.Actors.{FitsActor, ActorStandsFor, ActorEnd, ActorTurned, IsActorCall, IsWhole, part_of, actor_round}
+use Rattle.actor_set.proofs.LawsLemmas.Paces.{post_end}
+use Rattle.actor_set.specs.Actors.{FitsActor, ActorStandsFor, ActorEnd, ActorTurned, ActsAlike, IsActorCall, IsWhole, part_of, actor_round}
 use Rattle.actor_set.specs.Rogues.{KeepsActs}
 use Rattle.actor_set.proofs.LawsLemmas.Rounds.{acted_is, turned_is}
 use Rattle.actor_set.proofs.RogueLemmas.Playing.{beside as acts_beside, own as acts_next}
@@ -34,14 +35,15 @@ use Rattle.play_core.specs.Manners.{Calm}
 use Rattle.play_core.specs.Names.{AreNoted, Noted, Wild, notes_of, told_by, wild_in}
 use Rattle.play_core.proofs.Noting.{notes_keep}
 use Rattle.actor_set.specs.Parts.{Part}
-use Rattle.play_core.specs.Moved.{moved}
+use Rattle.play_core.specs.Moved.{moved, noes_of}
+use Rattle.play_core.proofs.Looking.{looks_kept}
 use Rattle.play_core.specs.Sheets.{AreFilled, AreSeated}
 use Rattle.actor_set.specs.Laws.Kinds.{sheet, scene_of, hostiles, manner_of}
 use Rattle.actor_set.specs.Laws.Scenes.{ToldInTurn}
 use Rattle.system_core.specs.Systems.{Holds}
 use Rattle.actor_set.specs.declared.actor.Actor.{Actor}
 use Rattle.actor_set.specs.declared.actor.Actor.TheVariants as Kinds
-use Rattle.actor_set.proofs.LawsLemmas.Beside.{fits_beside, stands_beside}
+use Rattle.actor_set.proofs.LawsLemmas.Beside.{alike_more, fits_beside, stands_beside}
 use Rattle.actor_set.proofs.LawsLemmas.PartEnds.{same_part}
 use Rattle.actor_set.proofs.LawsLemmas.Starts.{fits_whole}
 use Rattle.wired_law.specs.Wiring.{IsWired, AreAtWork, ClientsSend}
@@ -51,6 +53,9 @@ use Rattle.cast_law.proofs.BesideLemmas.Asking.{asks_on}
 use Rattle.cast_law.proofs.BesideLemmas.Carrying.{call_carries}
 use Rattle.cast_law.proofs.TurnsLemmas.{all_told, noted_tell, told_turns, wired_place}
 use Rattle.wired_law.proofs.Wiring.{sends_on}
+use Rattle.cast_bound.specs.Dropping.{drops_in}
+use Rattle.system_core.proofs.Dropping.{drops_own}
+use Rattle.system_core.proofs.Marking.{told_more}
 use Rattle.system_core.proofs.Hosts.{CallsAt, calls_at_end, calm_there, hostile_end, rogue_hostile, rogue_is, rogue_was, store_moves, store_puts, store_takes}
 use Rattle.play_core.proofs.Lists.{some_is, map_get}
 use Rattle.player_kit.proofs.Showing.{no_row, taken_shown, sent_shown, still_there, moved_there, none_put, put_kind}
@@ -105,6 +110,14 @@ module _ (history : History) (rows : List QueueRow) (names : List Noted) (w v : 
   shows_sent' : (n : ℕ) → items_of (passed'.sent n) ≡ (track history n (journal ++ entry_of k e ∷ [])).sent
   unfolding passed' deed
   shows_sent' n = sent_shown (e.queue.0 == n) (track history n journal) e (cargo_of deed) (old.passed.sent n) st.happened.may.item (old.shows_sent n) ∙ ap (λ t. t.sent) (sym (more n))
+
+  -- what is a call more of all
+  calls' : passed'.calls ≡ old.passed.calls ++ e ∷ []
+  unfolding passed' deed
+  calls' = refl
+
+  shows_noes' : (r : Role) (n : ℕ) → noes_at r n passed'.calls ≡ noes_of r (track history n (journal ++ entry_of k e ∷ []))
+  shows_noes' r n = ap (noes_at r n) calls' ∙ looks_kept r n history journal (entry_of k e) old.passed.calls (old.shows_noes r n)
 
   kinds' : (n : ℕ) (row : QueueRow) → slice_get rows n ≡ Some row → (j : ℕ) (c : Cargo) → slice_get (passed'.sent n) j ≡ Some c → ((eqb e.queue.0 n ≡ true) × (e.queue.0 ≡ n)) ⊎ ((eqb e.queue.0 n ≡ false) × (e.queue.0 ≢ n)) → kind_of c.0 ≡ row.kind
   unfolding passed' deed
@@ -167,6 +180,13 @@ module _ (history : History) (rows : List QueueRow) (names : List Noted) (w v : 
     | inr store ↦ store_puts deed n store
   ]
 
+  -- another actor did the same by the calls with this one
+  acts_alike : (j : ℕ) (y : Actor) → slice_get actors j ≡ Some y → (j ≡ k → ⊥) → ActsAlike y old.passed.calls passed'.calls
+  acts_alike j y at away = subst (ActsAlike y old.passed.calls) (sym calls') (alike_more y old.passed.calls e (λ theirs. elim calls.sort.1 [
+    | inl same ↦ absurd (apart j y at away (subst (λ q. ActorEnd y q e.queue.0) (sym same) theirs))
+    | inr store ↦ store
+  ]))
+
   fits' : FitsActor (end_at v) x' → (j : ℕ) (y : Actor) → slice_get (slice_set actors k x') j ≡ Some y → ((eqb j k ≡ true) × (j ≡ k)) ⊎ ((eqb j k ≡ false) × (j ≢ k)) → FitsActor (end_at v) y
   fits' new j y at (inl same) = let e : x' ≡ y = some_is (sym (slice_get_written actors k x x' here) ∙ (ap (slice_get (slice_set actors k x')) (sym same.1) ∙ at)) in subst (FitsActor (end_at v)) e new
   fits' new j y at (inr away) =
@@ -178,7 +198,7 @@ module _ (history : History) (rows : List QueueRow) (names : List Noted) (w v : 
   stands' j y at (inl same) = let e : x' ≡ y = some_is (sym (slice_get_written actors k x x' here) ∙ (ap (slice_get (slice_set actors k x')) (sym same.1) ∙ at)) in subst (λ a. ActorStandsFor a passed') e (st.kept old.passed (old.stands k x here))
   stands' j y at (inr away) =
       let was : slice_get actors j ≡ Some y = sym (slice_get_beside actors k j x' away.1) ∙ at in
-      stands_beside old.passed passed' y (fits_whole (end_at w) y (old.fits j y was))
+      stands_beside old.passed passed' y (fits_whole (end_at w) y (old.fits j y was)) (acts_alike j y was away.1)
       (λ n theirs. ap (λ c. old.passed.taken n ++ c) (take_still j y was away.1 n theirs) ∙ append-nil (old.passed.taken n))
       (λ n theirs. ap (λ c. old.passed.sent n ++ c) (put_still j y was away.1 n theirs) ∙ append-nil (old.passed.sent n))
       (old.stands j y was)
@@ -192,6 +212,9 @@ module _ (history : History) (rows : List QueueRow) (names : List Noted) (w v : 
 
   abbrev wild : Wild
   wild = wild_in hostile rows
+
+  abbrev drops : Drops
+  drops = drops_in (map part_of actors)
 
   -- a calm actor makes no store
   plain : manner_of (part_of x) ≡ Calm → is_store e.op ≡ false
@@ -252,18 +275,18 @@ module _ (history : History) (rows : List QueueRow) (names : List Noted) (w v : 
         };
       }
 
-  paced' : (j : ℕ) (y : Actor) → slice_get (slice_set actors k x') j ≡ Some y → HasCalmQueues hostile rows j → ((eqb j k ≡ true) × (j ≡ k)) ⊎ ((eqb j k ≡ false) × (j ≢ k)) → Paced (pendings history (journal ++ entry_of k e ∷ [])) (since no_drops j (journal ++ entry_of k e ∷ [])) (actor_round y)
+  paced' : (j : ℕ) (y : Actor) → slice_get (slice_set actors k x') j ≡ Some y → HasCalmQueues hostile rows j → ((eqb j k ≡ true) × (j ≡ k)) ⊎ ((eqb j k ≡ false) × (j ≢ k)) → Paced (pendings history (journal ++ entry_of k e ∷ [])) (since drops j (journal ++ entry_of k e ∷ [])) (actor_round y)
   paced' j y at calm (inl same) =
       let is : x' ≡ y = some_is (sym (slice_get_written actors k x x' here) ∙ (ap (slice_get (slice_set actors k x')) (sym same.1) ∙ at)) in
       let has : HasCalmQueues hostile rows k = subst (HasCalmQueues hostile rows) same.1 calm in
       let manner : manner_of (part_of x) ≡ Calm = calm_there (map part_of actors) k x cast_here has.calm in
       let turn : Turned (actor_round x) e (actor_round x') = turned_is x x' e manner turned in
       let was = old.paced k x here has in
-      let now = pace_own hostile no_drops history rows journal (entry_of k e) legal' has (actor_round x) (actor_round x') was turn (post_waits x e turn.place turn.posted.post turn.posted.there) (runs manner) in
-      subst (λ i. Paced (pendings history (journal ++ entry_of k e ∷ [])) (since no_drops i (journal ++ entry_of k e ∷ [])) (actor_round y)) (sym same.1) (subst (λ a. Paced (pendings history (journal ++ entry_of k e ∷ [])) (since no_drops k (journal ++ entry_of k e ∷ [])) (actor_round a)) is now)
+      let now = pace_own hostile drops history rows journal (entry_of k e) legal' has (actor_round x) (actor_round x') was turn (drops_own (map part_of actors) k (end_at w) x e (actor_round x') cast_here (old.fits k x here) turn) (runs manner) in
+      subst (λ i. Paced (pendings history (journal ++ entry_of k e ∷ [])) (since drops i (journal ++ entry_of k e ∷ [])) (actor_round y)) (sym same.1) (subst (λ a. Paced (pendings history (journal ++ entry_of k e ∷ [])) (since drops k (journal ++ entry_of k e ∷ [])) (actor_round a)) is now)
   paced' j y at calm (inr away) =
       let was : slice_get actors j ≡ Some y = sym (slice_get_beside actors k j x' away.1) ∙ at in
-      pace_beside hostile no_drops history rows journal (entry_of k e) legal' j calm (actor_round y) (λ h. away.1 (sym h)) (λ i p pat row rat. old.owners j y was (waiting_role p.side) p.queue (post_end y i p pat) row rat) (old.paced j y was calm)
+      pace_beside hostile drops history rows journal (entry_of k e) legal' j calm (actor_round y) (λ h. away.1 (sym h)) (λ i p pat row rat. old.owners j y was (waiting_role p.side) p.queue (post_end y i p pat) row rat) (old.paced j y was calm)
 
   -- a hostile client goes on to have made the calls of its acts
   acts_own : (after : Rogue) → x' ≡ Kinds.Rogue after → (r : Rogue) → x ≡ Kinds.Rogue r → KeepsActs k after (journal ++ entry_of k e ∷ [])
@@ -359,7 +382,7 @@ module _ (history : History) (rows : List QueueRow) (names : List Noted) (w v : 
             | inl same ↦ inl (same_part x' x (role_of e.op) e.queue.0 (sym part) (fits_whole (end_at w) x (old.fits k x here)) (subst (λ r. ActorEnd x r e.queue.0) same calls.own))
             | inr store ↦ inr store
           ];
-        }) (record { taken = old.shows_taken; sent = old.shows_sent }) (record { taken = shows_taken'; sent = shows_sent' }) (old.carry place placed)
+        }) (record { taken = old.shows_taken; sent = old.shows_sent; noes = old.shows_noes }) (record { taken = shows_taken'; sent = shows_sent'; noes = shows_noes' }) (old.carry place placed)
 
     -- all goes on to hold
     pub step_holds : Holds history rows names' v actors' after_
@@ -368,6 +391,8 @@ module _ (history : History) (rows : List QueueRow) (names : List Noted) (w v : 
       stands_there = λ n. there_after n (eqb_tells e.queue.0 n);
       shows_taken = shows_taken';
       shows_sent = shows_sent';
+      shows_noes = shows_noes';
+      told = told_more history (map part_of actors) journal old.passed.calls (entry_of k e) old.told actors' parts passed' calls' (record { taken = shows_taken'; sent = shows_sent'; noes = shows_noes' }) (λ j y at. stands' j y at (eqb_tells j k));
       kinds = λ n row at j c there. kinds' n row at j c there (eqb_tells e.queue.0 n);
       size = size';
       queues = queues';
@@ -381,7 +406,7 @@ module _ (history : History) (rows : List QueueRow) (names : List Noted) (w v : 
       acts = λ j r at. acts' part j r at (eqb_tells j k);
       owners = λ j y at. owners' part (fits_whole (end_at v) x' new) j y at (eqb_tells j k);
       unstored = λ n row at calm. unstored' n row at (subst (λ c. is_calm (hostiles c) row ≡ true) parts calm) (eqb_tells e.queue.0 n);
-      paced = λ j y at calm. paced' j y at (subst (λ c. HasCalmQueues (hostiles c) rows j) parts calm) (eqb_tells j k);
+      paced = λ j y at calm. subst (λ c. Paced (pendings history after_) (since (drops_in c) j after_) (actor_round y)) (sym parts) (paced' j y at (subst (λ c. HasCalmQueues (hostiles c) rows j) parts calm) (eqb_tells j k));
       peers = λ n row at r. rw length-set (old.peers n row at r);
       few = rw length-set old.few;
       legal = subst (λ c. LegalJournal (hostiles c) history rows after_) (sym parts) (EachFrom-append (LegalEntry hostile history rows) [] journal (entry_of k e) old.legal legal');

@@ -29,7 +29,8 @@ use Rattle.system_core.proofs.Bounded.{bounded}
 use Rattle.system_core.proofs.Replying.{shows_replies}
 use Rattle.system_core.proofs.PoolsLemmas.Placing.{cast_calm}
 use Rattle.system_core.proofs.PoolsLemmas.Showing.{tells_owners}
-use Rattle.system_core.proofs.Arriving.{LawBeside, LawWhole, class_there, serial_arrives, serial_scripts, serial_shows, serial_whole}
+use Rattle.system_core.proofs.Arriving.{LawBeside, LawWhole, class_there, serial_arrives, serial_drops_so, serial_scripts, serial_shows, serial_whole}
+use Rattle.system_core.proofs.Marking.{past_looks}
 
 -- a system of a plan and a trace, whatever its queues had before its journal begins
 module _ (plan : Plan) (trace : Trace) (valid : Valid plan) (read : IsReadFor plan trace) (s : Shown) (cast_is : IsCastOf plan trace s.setting) (stands : StandsLawful s) (beside : LawBeside) (whole : LawWhole) where
@@ -44,13 +45,15 @@ module _ (plan : Plan) (trace : Trace) (valid : Valid plan) (read : IsReadFor pl
     stands = stands;
     owners = tells_owners plan trace s valid cast_is stands;
     arrives = λ serial has. serial_arrives plan trace read s cast_is stands serial has beside;
+    drops = λ serial has. serial_drops_so plan trace read s cast_is stands serial has beside;
+    past = past_looks s stands;
     shows = λ serial has. serial_shows plan trace read s cast_is stands serial has beside;
     scripts = λ gives serial has. serial_scripts plan trace read s cast_is stands serial has gives;
     shows_net = λ net has. shows_frames plan net trace s cast_is has stands.told;
     plain = λ gives net has. sends_are plan net trace s cast_is has stands.told (none_there plan trace s.setting valid gives net has cast_is);
     wild_net = λ net has. wild_is plan net trace s cast_is has stands.told;
     shows_blk = λ blk has. shows_replies plan blk trace s cast_is has stands.told;
-    whole = λ quiet calm serial has. serial_whole plan trace read s cast_is stands serial has whole quiet calm;
+    whole = λ quiet calm serial has. serial_whole plan trace read s cast_is stands serial has beside whole quiet calm;
     whole_net = λ quiet gives net has. shows_whole_net s stands quiet plan valid gives net has trace cast_is;
     whole_blk = λ quiet gives blk has. shows_whole_blk s stands quiet plan valid gives blk has trace cast_is;
   }

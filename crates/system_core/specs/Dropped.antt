@@ -5,15 +5,14 @@ use Rattle.wire_core.specs.declared.names.Entry.{Entry}
 use Rattle.wire_core.specs.declared.names.Event.{Event}
 use Rattle.wire_core.specs.Ends.{Producer}
 use Rattle.wire_core.specs.Fates.{marked}
-use Rattle.wire_core.specs.Journal.{EachMoment}
+use Rattle.wire_core.specs.Journal.{EachMoment, History}
 use Rattle.serial_virt.specs.Shares.{policy_at}
 use Rattle.play_core.specs.Looks.{events_of}
-use Rattle.play_core.specs.Moved.{Moved, gone_at}
+use Rattle.play_core.specs.Moved.{Moved, gone_at, moved}
 use Rattle.serial_law.specs.Table.{Marks, SharesOut}
 use Rattle.serial_law.specs.Dropped.{told_marks}
 use Rattle.serial_law.specs.Serial.{SerialClass}
-use Rattle.actor_set.specs.Parts.{RxPart}
-use Rattle.system_core.specs.Shows.{Setting, moved_in}
+use Rattle.actor_set.specs.Parts.{Part, RxPart}
 
 -- all calls: those before the journal, and the journal's
 abbrev pub calls_by : (past : List Event) → List Entry → List Event
@@ -21,18 +20,19 @@ calls_by past journal = past ++ events_of journal
 
 -- after a journal each receiving virtualiser has shared out what it took, but for those bytes that
 -- were dropped as all calls tell
-abbrev pub MarksStand : Setting → (past : List Event) → List Entry → Type 0
-MarksStand s past journal = (k rx : ℕ) (clients : List ℕ) (drops : List Bool)
-    → slice_get s.cast k ≡ Some (RxPart rx clients drops)
+abbrev pub MarksStand : History → List Part → (past : List Event) → List Entry → Type 0
+MarksStand history cast past journal = (k rx : ℕ) (clients : List ℕ) (drops : List Bool)
+    → slice_get cast k ≡ Some (RxPart rx clients drops)
     → SharesOut (told_marks rx clients drops (calls_by past journal)) drops rx clients
-    (moved_in s journal)
+    (moved history journal)
 
 -- these are all calls: some that were made before the journal begins, and the journal's; and by
 -- them it was shared out so at each moment
-pub record HaveTold (s : Setting) (journal : List Entry) (calls : List Event) : Type 0 where
+pub record HaveTold (history : History) (cast : List Part) (journal : List Entry)
+    (calls : List Event) : Type 0 where
   pub past : List Event
   pub calls_are : calls ≡ calls_by past journal
-  pub marks : EachMoment (MarksStand s past) journal
+  pub marks : EachMoment (MarksStand history cast past) journal
 
 -- of each client's part of the input, byte by byte, whether it was dropped, as these calls tell
 abbrev pub dropped_by : SerialClass → List Event → Marks

@@ -9,7 +9,7 @@ use Rattle.wire_core.specs.Lists.{Passed}
 use Rattle.wire_core.specs.Queues.{Queue, queue_at, end_at, items_of}
 use Rattle.wire_core.specs.Journal.{History, track, IsShown, LegalJournal, BellsHold, QueuesFlow}
 use Rattle.wire_core.specs.Journal.{EachMoment, owner_of, is_calm}
-use Rattle.wire_core.specs.Marks.{HasCalmQueues, no_drops, since}
+use Rattle.wire_core.specs.Marks.{HasCalmQueues, since}
 use Rattle.play_core.specs.Moved.{moved, noes_of}
 use Rattle.play_core.specs.Names.{AreNoted, Noted, told_by, wild_in}
 use Rattle.turn_kit.specs.Pace.{Paced, pendings}
@@ -22,7 +22,9 @@ use Rattle.wired_law.specs.Wiring.{AreOfKind, ClientsSend}
 use Rattle.cast_law.specs.Pools.Beside.{CastCarries, RoguesAsk}
 use Rattle.cast_law.specs.Pools.Owning.{IsKeptBeside}
 use Rattle.cast_law.specs.Pools.Places.{PoolPlace, IsPlaced}
+use Rattle.cast_bound.specs.Dropping.{drops_in}
 use Rattle.system_core.specs.Shows.{Setting, hostile_in}
+use Rattle.system_core.specs.Dropped.{HaveTold}
 use Rattle.system_core.specs.Lawful.{IsFitted}
 use Rattle.actor_set.specs.declared.actor.Actor.{Actor}
 use Rattle.actor_set.specs.declared.actor.Actor.TheVariants as Kinds
@@ -38,7 +40,11 @@ pub record Holds (history : History) (rows : List QueueRow) (names : List Noted)
   pub shows_taken : (n : ℕ) → items_of (passed.taken n) ≡ (track history n journal).taken
   pub shows_sent : (n : ℕ) → items_of (passed.sent n) ≡ (track history n journal).sent
   -- and by its calls each end looked in vain as often
-  pub shows_noes : (r : Role) (n : ℕ) → noes_at r n passed.calls ≡ noes_of r (track history n journal)
+  pub shows_noes : (r : Role) (n : ℕ)
+      → noes_at r n passed.calls ≡ noes_of r (track history n journal)
+  -- which are those made before the journal begins, and the journal's; and those bytes for serial
+  -- clients were dropped that they tell
+  pub told : HaveTold history (map part_of actors) journal passed.calls
   -- what was put to a queue is of its kind
   pub kinds : AreOfKind rows passed
   pub size : length world ≡ length rows
@@ -74,7 +80,8 @@ pub record Holds (history : History) (rows : List QueueRow) (names : List Noted)
   -- what each actor did since its last mark that isn't hostile and has no queue with a hostile end
   pub paced : (k : ℕ) (x : Actor) → slice_get actors k ≡ Some x
       → HasCalmQueues (hostiles (map part_of actors)) rows k
-      → Paced (pendings history journal) (since no_drops k journal) (actor_round x)
+      → Paced (pendings history journal) (since (drops_in (map part_of actors)) k
+      journal) (actor_round x)
   pub peers : (n : ℕ) (row : QueueRow) → slice_get rows n ≡ Some row → (r : Role)
       → owner_of row r < length actors
   pub few : length actors ≤ 65536

@@ -19,6 +19,7 @@ use Rattle.play_core.specs.Still.{IsPeopled}
 use Rattle.play_core.proofs.Lists.{some_is, there_is, there_below}
 use Rattle.actor_set.specs.declared.actor.Actor.{Actor}
 use Rattle.wired_law.specs.Wiring.{AreOfKind}
+use Rattle.order_law.specs.Orders.{noes_known}
 use Rattle.order_law.specs.ActorParts.Parting.{Apart, AreApart, IsRingOf, ends_at, end_in, hostile_apart}
 use Rattle.order_law.specs.ActorParts.Finished.{HasEnded, AreFinished}
 use Rattle.cast_law.specs.Gone.Gone.{passed_of, left_at}
@@ -39,6 +40,7 @@ pub record IsKept (parts : List Apart) (ended : List EndedIs) (n : ℕ) (row : Q
   pub kinds : All (λ (x : Cargo). kind_of x.0 ≡ row.kind) e.producer.entries
   pub known : (r : Role) (p : Apart) → slice_get parts (owner_of row r) ≡ Some p
       → (entries_known (end_in (ends_at p r) n) ≡ (half_of e r).entries) × (times_known (end_in (ends_at p r) n) ≡ (half_of e r).times)
+  pub noes : (r : Role) (p : Apart) → slice_get parts (owner_of row r) ≡ Some p → noes_known (end_in (ends_at p r) n) ≡ (half_of e r).noes
 
 -- at each place all is what is said of all
 all_there : (P : Cargo → Type 0) (xs : List Cargo) → All P xs → (k : ℕ) (x : Cargo) → slice_get xs k ≡ Some x → P x
@@ -71,8 +73,17 @@ module _ (rows : List QueueRow) (rings : List RingIs) (parts : List Apart) (acto
         times = sent_then ∙ (has.times ∙ ap (λ (l : List ℕ). l ++ has.later) (sym taken_then));
         kinds = subst (λ (k : QueueKind). All (λ (x : Cargo). kind_of x.0 ≡ k) e.0.producer.entries) kind (subst (All (λ (x : Cargo). kind_of x.0 ≡ g.0.kind)) (sym sent) has.kinds);
         known = λ r q here. by r q here e.0 p.0 c.0 put.0 take.0 p.1 c.1 put.1 take.1 (sent, sent_then) (taken, taken_then);
+        noes = λ r q here. looks r q here e.0 p.0 c.0 put.0 take.0 p.1 c.1 put.1 take.1 (ap (λ (h : Half). h.noes) has.producer) (ap (λ (h : Half). h.noes) has.consumer);
       }
     where
+      looks : (r : Role) (q : Apart) → slice_get parts (owner_of row r) ≡ Some q → (e : EndedIs) (p c : Apart) (put take : EndIs) → slice_get parts (owner_of row Producer) ≡ Some p → slice_get parts (owner_of row Consumer) ≡ Some c
+          → end_in (ends_at p Producer) n ≡ Some put → end_in (ends_at c Consumer) n ≡ Some take
+          → e.producer.noes ≡ put.knows.noes → e.consumer.noes ≡ take.knows.noes → noes_known (end_in (ends_at q r) n) ≡ (half_of e r).noes
+      looks Producer q here e p c put take at_p at_c put_is take_is sent taken =
+          ap noes_known (ap (λ (z : Apart). end_in (ends_at z Producer) n) (some_is (sym here ∙ at_p)) ∙ put_is) ∙ sym sent
+      looks Consumer q here e p c put take at_p at_c put_is take_is sent taken =
+          ap noes_known (ap (λ (z : Apart). end_in (ends_at z Consumer) n) (some_is (sym here ∙ at_c)) ∙ take_is) ∙ sym taken
+
       by : (r : Role) (q : Apart) → slice_get parts (owner_of row r) ≡ Some q → (e : EndedIs) (p c : Apart) (put take : EndIs) → slice_get parts (owner_of row Producer) ≡ Some p → slice_get parts (owner_of row Consumer) ≡ Some c
           → end_in (ends_at p Producer) n ≡ Some put → end_in (ends_at c Consumer) n ≡ Some take
           → (e.producer.entries ≡ put.knows.entries) × (e.producer.times ≡ put.knows.times) → (e.consumer.entries ≡ take.knows.entries) × (e.consumer.times ≡ take.knows.times)

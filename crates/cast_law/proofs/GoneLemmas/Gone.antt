@@ -1,5 +1,5 @@
 -- What actors leave that have gone apart over rings.
-use Rattle.std.proofs.Common.{◌≡◌, ◌∙◌, ◌<◌, ◌≤◌, ◌⊎◌, inl, inr, ◌++◌, ℕ, List, [], length, map, refl, sym, ap, subst, arith, Option, Some, None, slice_get}
+use Rattle.std.proofs.Common.{◌≡◌, ◌∙◌, ◌+◌, ◌<◌, ◌≤◌, ◌⊎◌, inl, inr, ◌++◌, ℕ, List, [], length, map, refl, sym, ap, subst, arith, Option, Some, None, slice_get}
 use Rattle.std.specs.Option.{option_map_or}
 use Rattle.std.proofs.lemmas.List.{length-map}
 use Rattle.std.proofs.lemmas.Bool.{cases_lt}
@@ -7,6 +7,7 @@ use Rattle.wire_core.specs.declared.names.Event.{Event}
 use Rattle.wire_core.specs.declared.names.QueueRow.{QueueRow}
 use Rattle.wire_core.specs.Deeds.{Cargo}
 use Rattle.wire_core.specs.Ends.{Role, Consumer, Producer, End}
+use Rattle.wire_core.specs.Fates.{noes_at}
 use Rattle.wire_core.specs.Journal.{owner_of}
 use Rattle.wire_core.specs.Lists.{Passed, nothing_passed}
 use Rattle.spsc_queue.specs.Known.Ends.{EndIs, RingIs, EndedIs}
@@ -19,7 +20,7 @@ use Rattle.actor_set.specs.declared.actor.Actor.{Actor}
 use Rattle.actor_set.proofs.LawsLemmas.Beside.{stands_beside}
 use Rattle.actor_set.proofs.LawsLemmas.Starts.{fits_whole}
 use Rattle.order_law.specs.Tales.{Goes}
-use Rattle.order_law.specs.Orders.{Seated, Turn, HaveRun, InOrder, actors_of, entries_at, listed, passed_by}
+use Rattle.order_law.specs.Orders.{Seated, Turn, HaveRun, InOrder, actors_of, entries_at, listed, looked, noes_known, noes_seen, passed_by}
 use Rattle.order_law.proofs.Ordering.{ordered}
 use Rattle.cast_law.specs.Runs.Running.{AreReady, HaveHeld}
 use Rattle.cast_law.proofs.RunsLemmas.Holding.{have_held}
@@ -27,7 +28,7 @@ use Rattle.order_law.specs.ActorParts.Parting.{Apart, ends_at, end_in, apart_end
 use Rattle.order_law.specs.ActorParts.Going.{AreSeatsOf, HasGone}
 use Rattle.order_law.specs.ActorParts.Finished.{AreFinished}
 use Rattle.order_law.proofs.ActorParts.Standing.{found}
-use Rattle.cast_law.specs.Gone.Gone.{HaveGone, passed_of, left_at, actors_apart}
+use Rattle.cast_law.specs.Gone.Gone.{HaveGone, HaveLooked, passed_of, left_at, noes_apart, noes_left, actors_apart}
 use Rattle.cast_law.proofs.GoneLemmas.Lists.{Pair, pairs, maps_same, none_beyond}
 use Rattle.cast_law.proofs.GoneLemmas.Ended.{IsKept, half_of, kept_at, kinds_kept, handed, ended_long}
 
@@ -35,6 +36,9 @@ use Rattle.cast_law.proofs.GoneLemmas.Ended.{IsKept, half_of, kept_at, kinds_kep
 seats_entries : (rings : List RingIs) (p : Apart) (s : SeatsAre) → AreSeatsOf rings p s → (r : Role) (n : ℕ) → entries_at s r n ≡ entries_known (end_in (ends_at p r) n)
 seats_entries rings p s of Consumer n = ap entries_known (of.same Consumer n)
 seats_entries rings p s of Producer n = ap entries_known (of.same Producer n)
+
+seats_noes : (rings : List RingIs) (p : Apart) (s : SeatsAre) → AreSeatsOf rings p s → (r : Role) (n : ℕ) → noes_seen s r n ≡ noes_known (end_in (ends_at p r) n)
+seats_noes rings p s of r n = ap noes_known (of.same r n)
 
 times_joined : (x : Option (Option EndIs)) → times_or x ≡ times_known (joined_get x)
 times_joined None = refl
@@ -155,6 +159,48 @@ module _ (rows : List QueueRow) (rings : List RingIs) (olds news : List Apart) (
             ap at_row row.1 ∙ (ap (λ (o : Option Seated). option_map_or (λ (y : Seated). entries_at y.seats r n) o []) x.1 ∙ (entries_kept n row.0 kept r x.0 x.1 ∙ sym (ap of_ring kept.there)))
         by (inr le) = ap at_row (none_beyond rows n le) ∙ sym (ap of_ring (none_beyond ended n (let long = ended_long rows rings news actors ended gone.stand peopled done in omega (arith, le, long))))
 
+    -- and how often their ends looked in vain
+    noes_is : (r : Role) (n : ℕ) → noes_left ended r n ≡ option_map_or (λ (e : EndedIs). (half_of e r).noes) (slice_get ended n) 0
+    noes_is Consumer n = refl
+    noes_is Producer n = refl
+
+    looked_now : (r : Role) (n : ℕ) → looked rows now r n ≡ noes_left ended r n
+    looked_now r n = by (cases_lt n (length rows)) ∙ sym (noes_is r n)
+      where
+        at_row : Option QueueRow → ℕ
+        at_row o = option_map_or (λ (row : QueueRow). option_map_or (λ (x : Seated). noes_seen x.seats r n) (slice_get now (owner_of row r)) 0) o 0
+
+        of_ring : Option EndedIs → ℕ
+        of_ring o = option_map_or (λ (e : EndedIs). (half_of e r).noes) o 0
+
+        by : (n < length rows) ⊎ (length rows ≤ n) → at_row (slice_get rows n) ≡ of_ring (slice_get ended n)
+        by (inl lt) =
+            let row = there_is rows n lt in
+            let kept = kept_at rows rings news actors ended gone.stand peopled done n row.0 row.1 in
+            let x = there_is now (owner_of row.0 r) (let less = gone.peopled n row.0 row.1 r in let long = length-map ws after in omega (arith, less, long, ways_long)) in
+            let p = is_at (owner_of row.0 r) x.0 x.1 in
+            ap at_row row.1 ∙ (ap (λ (o : Option Seated). option_map_or (λ (y : Seated). noes_seen y.seats r n) o 0) x.1
+            ∙ (seats_noes rings p.part x.0.seats p.seats r n ∙ (kept.noes r p.part p.new ∙ sym (ap of_ring kept.there))))
+        by (inr le) = ap at_row (none_beyond rows n le) ∙ sym (ap of_ring (none_beyond ended n (let long = ended_long rows rings news actors ended gone.stand peopled done in omega (arith, le, long))))
+
+    looked_then : (r : Role) (n : ℕ) → looked rows begun r n ≡ noes_apart rows olds r n
+    looked_then r n = by (slice_get rows n) refl
+      where
+        at_row : Option QueueRow → ℕ
+        at_row o = option_map_or (λ (row : QueueRow). option_map_or (λ (x : Seated). noes_seen x.seats r n) (slice_get begun (owner_of row r)) 0) o 0
+
+        of_part : Option QueueRow → ℕ
+        of_part o = option_map_or (λ (row : QueueRow). option_map_or (λ (p : Apart). noes_known (end_in (ends_at p r) n)) (slice_get olds (owner_of row r)) 0) o 0
+
+        by : (o : Option QueueRow) → slice_get rows n ≡ o → at_row (slice_get rows n) ≡ of_part (slice_get rows n)
+        by None is = ap at_row is ∙ sym (ap of_part is)
+        by (Some row) is =
+            let x = there_is begun (owner_of row r) (let less = gone.peopled n row is r in let long = begun_long in omega (arith, less, long)) in
+            let w = was_at (owner_of row r) x.0 x.1 in
+            ap at_row is ∙ (ap (λ (o : Option Seated). option_map_or (λ (y : Seated). noes_seen y.seats r n) o 0) x.1
+            ∙ (seats_noes rings w.way.one x.0.seats w.seats r n
+            ∙ (sym (ap (λ (o : Option Apart). option_map_or (λ (p : Apart). noes_known (end_in (ends_at p r) n)) o 0) w.old) ∙ sym (ap of_part is))))
+
     passed_is : (calls : List Event) → passed_by rows now calls ≡ passed_of ended calls
     passed_is calls = λ i. record { taken = λ n. told_is Consumer n i; sent = λ n. told_is Producer n i; calls = calls }
 
@@ -164,9 +210,13 @@ module _ (rows : List QueueRow) (rings : List RingIs) (olds news : List Apart) (
     now_are : actors_of now ≡ actors
     now_are = maps_same after (λ (x : Seated). x.actor) (λ (w : Way). w.other.actor) ws (λ w. refl) ∙ (sym (maps_same (λ (w : Way). w.other) (λ (p : Apart). p.actor) (λ (w : Way). w.other.actor) ws (λ w. refl)) ∙ (ap actors_apart news_are ∙ sym done.actors_are))
 
-    in_order : (turns : List Turn) × (calls : List Event) × InOrder (actors_apart olds) nothing_passed turns actors (passed_of ended calls)
-    in_order = let o = ordered rows begun now run in
-        (o.0, o.1, subst (λ (z : List Actor × List Actor × Passed). InOrder z.0 nothing_passed o.0 z.1 z.2) (λ i. (begun_are i, now_are i, passed_is o.1 i)) o.2)
+    in_order : (turns : List Turn) × (calls : List Event) × InOrder (actors_apart olds) nothing_passed turns actors (passed_of ended calls) × HaveLooked rows olds ended calls
+    in_order = let o = ordered rows begun now run in (
+      o.0,
+      o.1,
+      subst (λ (z : List Actor × List Actor × Passed). InOrder z.0 nothing_passed o.0 z.1 z.2) (λ i. (begun_are i, now_are i, passed_is o.1 i)) o.2,
+      λ r n. sym (looked_now r n) ∙ (o.3 r n ∙ ap (λ (m : ℕ). m + noes_at r n o.1) (looked_then r n)),
+    )
 
   abbrev no_ends : Role → ℕ → End
   no_ends r n = no_end
@@ -189,11 +239,11 @@ module _ (rows : List QueueRow) (rings : List RingIs) (olds news : List Apart) (
         );
   }
 
-  pub have_gone : (calls : List Event) × HaveHeld rows (actors_apart olds) actors (passed_of ended calls)
+  pub have_gone : (calls : List Event) × HaveHeld rows (actors_apart olds) actors (passed_of ended calls) × HaveLooked rows olds ended calls
   have_gone =
       let w = pairs (HasGone rings) olds news gone.many gone.gone in
       let o = in_order w.0 w.1 w.2 in
-      (o.1, have_held rows (actors_apart olds) actors o.0 (passed_of ended o.1) ready o.2 (kinds_kept rows rings news actors ended gone.stand peopled done o.1))
+      (o.1, have_held rows (actors_apart olds) actors o.0 (passed_of ended o.1) ready o.2 (kinds_kept rows rings news actors ended gone.stand peopled done o.1), o.3)
 
   pub hand_over : (calls : List Event) (n : ℕ) → (passed_of ended calls).sent n ≡ (passed_of ended calls).taken n ++ left_at ended n
   hand_over = handed rows rings news actors ended gone.stand peopled done

@@ -1,17 +1,21 @@
 -- Actors that have gone apart, and what passed at rings that came to their end.
-use Rattle.std.specs.Prelude.{◌≡◌, ℕ, Some, List, [], length, map, slice_get}
+use Rattle.std.specs.Prelude.{◌≡◌, ◌+◌, ℕ, Some, List, [], length, map, slice_get}
 use Rattle.std.specs.Option.{option_map_or}
 use Rattle.wire_core.specs.declared.names.Event.{Event}
 use Rattle.wire_core.specs.declared.names.PoolRow.{PoolRow}
 use Rattle.wire_core.specs.declared.names.QueueRow.{QueueRow}
 use Rattle.wire_core.specs.Deeds.{Cargo}
+use Rattle.wire_core.specs.Ends.{Role, Consumer, Producer}
+use Rattle.wire_core.specs.Fates.{noes_at}
+use Rattle.wire_core.specs.Journal.{owner_of}
 use Rattle.wire_core.specs.Lists.{Passed}
 use Rattle.spsc_queue.specs.Known.Ends.{RingIs, EndedIs}
 use Rattle.play_core.specs.Still.{IsPeopled}
 use Rattle.actor_set.specs.Actors.{part_of}
 use Rattle.actor_set.specs.declared.actor.Actor.{Actor}
 use Rattle.cast_law.specs.Pools.Places.{IsInPlace}
-use Rattle.order_law.specs.ActorParts.Parting.{Apart, AreApart}
+use Rattle.order_law.specs.Orders.{noes_known}
+use Rattle.order_law.specs.ActorParts.Parting.{Apart, AreApart, end_in, ends_at}
 use Rattle.order_law.specs.ActorParts.Opened.{HaveNothing}
 use Rattle.order_law.specs.ActorParts.Going.{HasGone}
 
@@ -26,6 +30,22 @@ passed_of ended calls = record {
   sent = λ n. option_map_or (λ (e : EndedIs). e.producer.entries) (slice_get ended n) [];
   calls = calls;
 }
+
+-- how often an end of a queue looked in vain, by what is kept of its ended ring
+abbrev pub noes_left : List EndedIs → Role → ℕ → ℕ
+noes_left ended Consumer n = option_map_or (λ (e : EndedIs). e.consumer.noes) (slice_get ended n) 0
+noes_left ended Producer n = option_map_or (λ (e : EndedIs). e.producer.noes) (slice_get ended n) 0
+
+-- how often the end of a queue did that its owner by the rows has
+abbrev pub noes_apart : List QueueRow → List Apart → Role → ℕ → ℕ
+noes_apart rows parts r n = option_map_or (λ (row : QueueRow).
+    option_map_or (λ (p : Apart). noes_known (end_in (ends_at p r) n))
+    (slice_get parts (owner_of row r)) 0) (slice_get rows n) 0
+
+-- by these calls each end looked in vain so often more
+abbrev pub HaveLooked : List QueueRow → List Apart → List EndedIs → List Event → Type 0
+HaveLooked rows olds ended calls = (r : Role) (n : ℕ)
+    → noes_left ended r n ≡ noes_apart rows olds r n + noes_at r n calls
 
 -- the actors without their ends
 abbrev pub actors_apart : List Apart → List Actor

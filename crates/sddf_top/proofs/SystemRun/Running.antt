@@ -17,7 +17,7 @@ use Rattle.play_core.proofs.Lists.{some_is, map_get, map_from, there_is, there_b
 use Rattle.actor_set.specs.Actors.{part_anew, part_of, actor_rests}
 use Rattle.actor_set.specs.Parts.{Part}
 use Rattle.order_law.specs.ActorParts.Given.{Kept, apart_of}
-use Rattle.order_law.specs.ActorParts.Opened.{HaveNothing}
+use Rattle.order_law.specs.ActorParts.Opened.{HaveNothing, AreAsOpened}
 use Rattle.order_law.specs.ActorParts.Parting.{Apart, AreApart, HasItsEnds, ends_at, end_in}
 use Rattle.order_law.specs.ActorParts.Finished.{OwnEnd}
 use Rattle.order_law.specs.ActorParts.Going.{AreSeatsOf, HasGone}
@@ -132,7 +132,7 @@ map_twice [] = refl
 map_twice (p ∷ ps) = ap (λ (l : List Part). part_of p.0.actor ∷ l) (map_twice ps)
 
 -- what the threads answered came from the system that was built
-module _ (plan : Plan) (trace : Trace) (built : Shown) (is : IsBuilt plan trace built) (stands : StandsLawful built) (rings rings' : List RingIs) (same : rings' ≡ rings) (olds news : List Kept) (apart : AreApart built.setting.rows rings (map apart_of olds)) (nothing : HaveNothing (map apart_of olds)) (cast : map (λ (p : Kept). part_of p.0.actor) olds ≡ built.setting.cast) (many : length news ≡ length olds) (rows : List QueueRow) (rows_is : rows ≡ built.setting.rows) (apart' : AreApart rows rings' (map apart_of news)) (limit : ℕ)
+module _ (plan : Plan) (trace : Trace) (built : Shown) (is : IsBuilt plan trace built) (stands : StandsLawful built) (rings rings' : List RingIs) (same : rings' ≡ rings) (olds news : List Kept) (apart : AreApart built.setting.rows rings (map apart_of olds)) (nothing : HaveNothing (map apart_of olds)) (opened : AreAsOpened built.setting.rows (map apart_of olds)) (cast : map (λ (p : Kept). part_of p.0.actor) olds ≡ built.setting.cast) (many : length news ≡ length olds) (rows : List QueueRow) (rows_is : rows ≡ built.setting.rows) (apart' : AreApart rows rings' (map apart_of news)) (limit : ℕ)
     (came : (k : ℕ) (old new : Apart) → slice_get (map apart_of olds) k ≡ Some old → slice_get (map apart_of news) k ≡ Some new → CameWithin rings limit old new) where
   pub come : HaveComeFrom built.setting rings' (map apart_of news)
   come = record {
@@ -141,6 +141,7 @@ module _ (plan : Plan) (trace : Trace) (built : Shown) (is : IsBuilt plan trace 
     olds = map apart_of olds;
     before = subst (λ (rs : List RingIs). AreApart built.setting.rows rs (map apart_of olds)) (sym same) apart;
     nothing = nothing;
+    opened = opened;
     cast = map_twice olds ∙ cast;
     many = length-map news apart_of ∙ (many ∙ sym (length-map olds apart_of));
     after = subst (λ (rs : List QueueRow). AreApart rs rings' (map apart_of news)) rows_is apart';

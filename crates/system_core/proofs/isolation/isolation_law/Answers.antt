@@ -1,13 +1,12 @@
-use Rattle.std.proofs.Common.{◌<◌, List, length, sym, subst}
+use Rattle.std.proofs.Common.{◌<◌, ℕ, List, sym, subst}
 use Rattle.frame_core.specs.declared.mac.Mac.{Mac}
 use Rattle.cargo_core.specs.declared.item.Ask.{Ask}
-use Rattle.trace_text.specs.Events.{serial_clients}
 use Rattle.net_expect.specs.Expecting.{frames_for}
 use Rattle.serial_switch.specs.Switching.{input_of}
 use Rattle.blk_expect.specs.Replies.{replies_of}
 use Rattle.expect_core.specs.Expected.{client_asks, client_entry}
 use Rattle.cast_core.specs.Sources.{client_mac}
-use Rattle.system_core.specs.Isolation.{BlkRests, IsRecordIn, NetRests, SerialRests}
+use Rattle.system_core.specs.Isolation.{BlkRests, IsRecordBut, IsRecordIn, NetRests, SerialRests, may_drop}
 use Rattle.system_core.proofs.Isolating.{frames_of, input_for, of_one, replies_for}
 use Rattle.system_core.proofs.isolation.isolation_law.Goals as goal
 
@@ -23,11 +22,11 @@ pub returns-clause-serial : goal.returns-clause-serial
 returns-clause-serial k plan other trace told s t c got seen h g same at to =
     let lt = same.here in
     let below = subst (λ n. c < n) same.many lt in
-    let many = length (serial_clients plan) in
-    of_one (input_of many c trace.input) (input_of many c told.input) (SerialRests plan s) (SerialRests other t) got seen
-    (λ quiet rests. k.isolation_law.ensures.serial many c trace.input told.input quiet rests got seen same.input)
-    (input_for plan trace s c got h lt at)
-    (subst (λ n. IsRecordIn (input_of n c told.input) (SerialRests other t) seen) (sym same.many) (input_for other told t c seen g below to))
+    record {
+      one = input_for plan trace s c got h lt at;
+      other = subst (λ (xs : List ℕ). IsRecordBut xs (may_drop other c) (SerialRests other t) seen) (sym same.input)
+          (subst (λ n. IsRecordBut (input_of n c told.input) (may_drop other c) (SerialRests other t) seen) (sym same.many) (input_for other told t c seen g below to));
+    }
 
 pub returns-clause-blk : goal.returns-clause-blk
 returns-clause-blk k plan other trace told s t c d got seen h g same at to =

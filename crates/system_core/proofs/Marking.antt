@@ -1,0 +1,104 @@
+-- What was dropped of the bytes for serial clients is what the calls tell.
+use Rattle.std.proofs.Common.{◌≡◌, ◌+◌, ◌++◌, ℕ, Bool, Some, List, [], ◌∷◌, map, slice_get, refl, sym, ap, ◌∙◌, subst, append_assoc, arith}
+use Rattle.std.proofs.lemmas.List.{append-nil, map-append}
+use Rattle.wire_core.specs.declared.names.Entry.{Entry}
+use Rattle.wire_core.specs.declared.names.Event.{Event}
+use Rattle.wire_core.specs.Ends.{Role, Producer}
+use Rattle.wire_core.specs.Fates.{noes_at}
+use Rattle.wire_core.specs.Journal.{EachMoment, History, history_at}
+use Rattle.wire_core.specs.Lists.{Passed}
+use Rattle.wire_core.proofs.Tracks.{EachFrom-append}
+use Rattle.serial_virt.specs.declared.rx.SerialVirtRx.{SerialVirtRx}
+use Rattle.serial_virt.specs.Receiving.{RxStandsFor}
+use Rattle.serial_virt.proofs.Sharing.{rx_row}
+use Rattle.play_core.specs.Looks.{events_of}
+use Rattle.play_core.specs.Moved.{Moved, moved, noes_of}
+use Rattle.play_core.proofs.Looking.{track_looks}
+use Rattle.play_core.specs.Rests.Showing.{HaveItems}
+use Rattle.play_core.proofs.Lists.{map_from}
+use Rattle.serial_law.specs.Table.{SharesOut}
+use Rattle.serial_law.specs.Dropped.{client_queues, told_marks}
+use Rattle.serial_law.proofs.Telling.{told_shares}
+use Rattle.actor_set.specs.Actors.{ActorStandsFor, part_of}
+use Rattle.actor_set.specs.Parts.{Part, RxPart}
+use Rattle.actor_set.specs.declared.actor.Actor.{Actor}
+use Rattle.actor_set.specs.declared.actor.Actor.TheVariants as Kinds
+use Rattle.system_core.specs.Shows.{Shown}
+use Rattle.system_core.specs.Lawful.{StandsLawful}
+use Rattle.system_core.specs.Dropped.{HaveTold, MarksStand, calls_by}
+
+-- a receiving virtualiser shares out by the marks that its calls tell
+shares_told : (v : SerialVirtRx) (passed : Passed) (m : Moved) → HaveItems passed m → RxStandsFor v passed
+    → SharesOut (told_marks v.input.queue.0 (client_queues v) v.drops.items passed.calls) v.drops.items v.input.queue.0 (client_queues v) m
+shares_told v passed m items st = told_shares v passed m (record { taken = items.taken v.input.queue.0; sent = λ k q at. items.sent q; noes = λ k q at. items.noes Producer q }) (rx_row v passed st)
+
+-- the queues and the policies of a part that is a receiving virtualiser
+abbrev RxIs : Type 0
+RxIs = ℕ × List ℕ × List Bool
+
+module _ (passed : Passed) (m : Moved) (items : HaveItems passed m) where
+  abbrev Shares : RxIs → Type 0
+  Shares z = SharesOut (told_marks z.0 z.1 z.2 passed.calls) z.2 z.0 z.1 m
+
+  by_part : (rx : ℕ) (clients : List ℕ) (drops : List Bool) (x : Actor) → ActorStandsFor x passed → part_of x ≡ RxPart rx clients drops → Shares (rx, clients, drops)
+  by_part rx clients drops (Kinds.SerialVirtRx v) st is = subst Shares (triple (v.input.queue.0, client_queues v, v.drops.items) (rx, clients, drops) is) (shares_told v passed m items st)
+    where
+      triple : (a b : RxIs) → RxPart a.0 a.1 a.2 ≡ RxPart b.0 b.1 b.2 → a ≡ b
+      triple a b e = cc
+  by_part rx clients drops (Kinds.UartDevice x) st is = cc
+  by_part rx clients drops (Kinds.UartDriver x) st is = cc
+  by_part rx clients drops (Kinds.SerialVirtTx x) st is = cc
+  by_part rx clients drops (Kinds.SerialClient x) st is = cc
+  by_part rx clients drops (Kinds.EthDevice x) st is = cc
+  by_part rx clients drops (Kinds.EthDriver x) st is = cc
+  by_part rx clients drops (Kinds.NetVirtRx x) st is = cc
+  by_part rx clients drops (Kinds.NetCopier x) st is = cc
+  by_part rx clients drops (Kinds.NetClient x) st is = cc
+  by_part rx clients drops (Kinds.NetVirtTx x) st is = cc
+  by_part rx clients drops (Kinds.DiskDevice x) st is = cc
+  by_part rx clients drops (Kinds.BlkDriver x) st is = cc
+  by_part rx clients drops (Kinds.BlkVirt x) st is = cc
+  by_part rx clients drops (Kinds.BlkClient x) st is = cc
+  by_part rx clients drops (Kinds.Rogue x) st is = cc
+
+  pub marks_at : (actors : List Actor) → ((k : ℕ) (x : Actor) → slice_get actors k ≡ Some x → ActorStandsFor x passed) → (k rx : ℕ) (clients : List ℕ) (drops : List Bool) → slice_get (map part_of actors) k ≡ Some (RxPart rx clients drops) → SharesOut (told_marks rx clients drops passed.calls) drops rx clients m
+  marks_at actors stands k rx clients drops at = let y = map_from part_of actors k (RxPart rx clients drops) at in by_part rx clients drops y.0 (stands k y.0 y.1) y.2
+
+-- where a journal begins all calls were made before it
+pub told_anew : (history : History) (actors : List Actor) (passed : Passed) → HaveItems passed (moved history []) → ((k : ℕ) (x : Actor) → slice_get actors k ≡ Some x → ActorStandsFor x passed) → HaveTold history (map part_of actors) [] passed.calls
+told_anew history actors passed items stands =
+    let all : passed.calls ≡ calls_by passed.calls [] = sym (append-nil passed.calls) in record {
+      past = passed.calls;
+      calls_are = all;
+      marks = (λ k rx clients drops at. subst (λ (es : List Event). SharesOut (told_marks rx clients drops es) drops rx clients (moved history [])) all (marks_at passed (moved history []) items actors stands k rx clients drops at), tt);
+    }
+
+-- and each call is one of its own
+pub told_more : (history : History) (cast : List Part) (journal : List Entry) (calls : List Event) (e : Entry) → HaveTold history cast journal calls → (actors : List Actor) → map part_of actors ≡ cast → (passed : Passed) → passed.calls ≡ calls ++ e.event ∷ []
+    → HaveItems passed (moved history (journal ++ e ∷ [])) → ((k : ℕ) (x : Actor) → slice_get actors k ≡ Some x → ActorStandsFor x passed) → HaveTold history (map part_of actors) (journal ++ e ∷ []) passed.calls
+told_more history cast journal calls e told actors same passed more items stands =
+    let all : passed.calls ≡ calls_by told.past (journal ++ e ∷ []) = more ∙ (ap (λ (es : List Event). es ++ e.event ∷ []) told.calls_are
+    ∙ (append_assoc told.past (events_of journal) (e.event ∷ []) ∙ ap (λ (es : List Event). told.past ++ es) (sym (map-append (λ (d : Entry). d.event) journal (e ∷ []))))) in record {
+      past = told.past;
+      calls_are = all;
+      marks = subst (λ (c : List Part). EachMoment (MarksStand history c told.past) (journal ++ e ∷ [])) (sym same) (
+        told.marks.0,
+        EachFrom-append (λ b d. MarksStand history cast told.past (b ++ d ∷ [])) [] journal e told.marks.1 (λ k rx clients drops at.
+            subst (λ (es : List Event). SharesOut (told_marks rx clients drops es) drops rx clients (moved history (journal ++ e ∷ []))) all
+            (marks_at passed (moved history (journal ++ e ∷ [])) items actors stands k rx clients drops (ap (λ (c : List Part). slice_get c k) same ∙ at))),
+      );
+    }
+
+-- two lists of calls looked in vain as often as each of them
+noes_both : (r : Role) (n : ℕ) (xs ys : List Event) → noes_at r n (xs ++ ys) ≡ noes_at r n xs + noes_at r n ys
+noes_both r n [] ys = refl
+noes_both r n (x ∷ xs) ys = let h = noes_both r n xs ys in omega (arith, h)
+
+-- so the calls before the journal begins did as often as its history tells
+pub past_looks : (s : Shown) → (stands : StandsLawful s) → (r : Role) (n : ℕ) → noes_at r n stands.calls.past ≡ noes_of r (history_at s.setting.history n)
+past_looks s stands r n =
+    let all = stands.told.items.noes r n in
+    let calls = ap (noes_at r n) stands.calls.calls_are in
+    let both = noes_both r n stands.calls.past (events_of s.journal) in
+    let told = track_looks r n s.setting.history s.journal in
+    omega (arith, all, calls, both, told)
