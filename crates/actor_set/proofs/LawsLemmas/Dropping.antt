@@ -79,14 +79,14 @@ no_consumer (q ∷ qs) (false ∷ ds) n = no_consumer qs ds n
 
 -- nor one that is no client's
 none_there : (qs : List ℕ) (ds : List Bool) (n : ℕ) → ((j : ℕ) → slice_get qs j ≡ Some n → ⊥) → has_seat (dropping_ends qs ds) Producer n ≡ false
-none_there [] ds n no = refl
-none_there (q ∷ qs) [] n no = refl
-none_there (q ∷ qs) (true ∷ ds) n no = or_no (q == n) (has_seat (dropping_ends qs ds) Producer n) (by (eqb_tells q n)) ∙ none_there qs ds n (λ j at. no (suc j) at)
+none_there [] ds n absent = refl
+none_there (q ∷ qs) [] n absent = refl
+none_there (q ∷ qs) (true ∷ ds) n absent = or_no (q == n) (has_seat (dropping_ends qs ds) Producer n) (by (eqb_tells q n)) ∙ none_there qs ds n (λ j at. absent (suc j) at)
   where
     by : ((eqb q n ≡ true) × (q ≡ n)) ⊎ ((eqb q n ≡ false) × (q ≢ n)) → eqb q n ≡ false
-    by (inl t) = absurd (no 0 (ap Some t.1))
+    by (inl t) = absurd (absent 0 (ap Some t.1))
     by (inr t) = t.0
-none_there (q ∷ qs) (false ∷ ds) n no = none_there qs ds n (λ j at. no (suc j) at)
+none_there (q ∷ qs) (false ∷ ds) n absent = none_there qs ds n (λ j at. absent (suc j) at)
 
 -- a client's is among them where its bytes may be dropped
 pub client_there : (qs : List ℕ) (ds : List Bool) (k n : ℕ) → slice_get qs k ≡ Some n → ((j : ℕ) → slice_get qs j ≡ Some n → j ≡ k) → has_seat (dropping_ends qs ds) Producer n ≡ policy_at ds k
