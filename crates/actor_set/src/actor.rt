@@ -158,11 +158,11 @@ impl Actor {
         ensures unchanged { OnErr result (self.new ≡ self.old) }
     {
         match self {
-            Actor::UartDevice(device) => device.step(wires, event)?,
+            Actor::UartDevice(device) => return device.step(wires, event),
             Actor::UartDriver(driver) => driver.step(wires, event),
             Actor::SerialVirtRx(virt) => virt.step(wires, event),
             Actor::SerialVirtTx(virt) => *event = virt.step(wires),
-            Actor::SerialClient(client) => client.step(wires, event)?,
+            Actor::SerialClient(client) => return client.step(wires, event),
             Actor::EthDevice(device) => *event = device.step(wires)?,
             Actor::EthDriver(driver) => driver.step(wires, event),
             Actor::NetVirtRx(virt) => *event = virt.step(wires)?,

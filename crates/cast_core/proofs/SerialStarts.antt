@@ -1,5 +1,5 @@
 -- Virtualisers of the serial class that are so made are in their start state, and have these parts.
-use Rattle.std.proofs.Common.{◌≡◌, ℕ, Bool, false, List, [], ◌∷◌, length, map, refl, sym, ap, ◌∙◌, subst}
+use Rattle.std.proofs.Common.{◌≡◌, ℕ, zero, suc, Bool, List, [], ◌∷◌, ◌++◌, length, map, refl, sym, ap, ◌∙◌, subst}
 use Rattle.std.proofs.lemmas.List.{length-map}
 use Rattle.wire_core.specs.declared.names.QueueId.{QueueId}
 use Rattle.turn_kit.specs.ManyEnds.{intake_queues, outlet_queues}
@@ -9,6 +9,7 @@ use Rattle.serial_virt.specs.Sending.{IsNewTx, new_intake}
 use Rattle.serial_virt.specs.declared.tx.SerialVirtTx.{SerialVirtTx}
 use Rattle.actor_set.specs.Actors.{numbers}
 use Rattle.actor_set.specs.Parts.{RxPart, TxPart}
+use Rattle.actor_set.specs.StartStates.{IsNewSharer}
 use Rattle.cast_core.specs.Sources.{every_second}
 use Rattle.cast_core.proofs.Seconds.{second_length}
 
@@ -27,41 +28,32 @@ rx_queues rx clients drops v new = ap (map (λ o. o.queue)) new.outputs ∙ outl
 tx_queues : (tx : QueueId) (clients : List QueueId) (v : SerialVirtTx) → IsNewTx tx clients v → intake_queues v.inputs ≡ clients
 tx_queues tx clients v new = ap (map (λ o. o.queue)) new.inputs ∙ intake_list clients
 
--- clients that wait, with their queues
-abbrev waits : List QueueId → List (QueueId × Bool)
-waits qs = map (λ (q : QueueId). (q, false)) qs
-
-waits_at : (qs : List QueueId) → map (λ (c : QueueId × Bool). c.0) (waits qs) ≡ qs
-waits_at [] = refl
-waits_at (q ∷ qs) = ap (λ z. q ∷ z) (waits_at qs)
-
-waits_all : (qs : List QueueId) → map (λ (c : QueueId × Bool). c.1) (waits qs) ≡ map (λ (q : QueueId). false) qs
-waits_all [] = refl
-waits_all (q ∷ qs) = ap (λ z. false ∷ z) (waits_all qs)
-
-waits_new : (rx : QueueId) (qs : List QueueId) (ts : List (QueueId × Bool)) (v : SerialVirtRx) → ts ≡ waits qs → IsNewRx rx (map (λ c. c.0) ts) (map (λ c. c.1) ts) v → IsNewRx rx qs (map (λ (q : QueueId). false) qs) v
-waits_new rx qs ts v is new =
-    let n : IsNewRx rx (map (λ (c : QueueId × Bool). c.0) (waits qs)) (map (λ (c : QueueId × Bool). c.1) (waits qs)) v = subst (λ (z : List (QueueId × Bool)). IsNewRx rx (map (λ c. c.0) z) (map (λ c. c.1) z) v) is new in
-    subst (λ z. IsNewRx rx qs z v) (waits_all qs) (subst (λ z. IsNewRx rx z (map (λ (c : QueueId × Bool). c.1) (waits qs)) v) (waits_at qs) n)
-
-pub rx_new : (rx : QueueId) (qs : List QueueId) (ts : List (QueueId × Bool)) (v : SerialVirtRx) → ts ≡ waits qs → IsNewRx rx (map (λ c. c.0) ts) (map (λ c. c.1) ts) v → IsNewRx v.input.queue (outlet_queues v.outputs) (map (λ (q : QueueId). false) (outlet_queues v.outputs)) v
-rx_new rx qs ts v is new =
-    let n = waits_new rx qs ts v is new in
-    subst (λ q. IsNewRx q (outlet_queues v.outputs) (map (λ (q : QueueId). false) (outlet_queues v.outputs)) v) (sym n.input) (subst (λ zs. IsNewRx rx zs (map (λ (q : QueueId). false) zs) v) (sym (rx_queues rx qs (map (λ (q : QueueId). false) qs) v n)) n)
-
-pub taker_count : (qs : List QueueId) (ts : List (QueueId × Bool)) → ts ≡ waits qs → length ts ≡ length qs
-taker_count qs ts is = ap length is ∙ length-map qs (λ (q : QueueId). (q, false))
+-- a virtualiser that is so made is one of its own queues, and each client has its policy
+pub rx_new : (rx : QueueId) (ts : List (QueueId × Bool)) (v : SerialVirtRx) → IsNewRx rx (map (λ c. c.0) ts) (map (λ c. c.1) ts) v → IsNewSharer v
+rx_new rx ts v n =
+    let queues = rx_queues rx (map (λ (c : QueueId × Bool). c.0) ts) (map (λ (c : QueueId × Bool). c.1) ts) v n in
+    record {
+      new = subst (λ ds. IsNewRx v.input.queue (outlet_queues v.outputs) ds v) (sym n.policies)
+          (subst (λ q. IsNewRx q (outlet_queues v.outputs) (map (λ (c : QueueId × Bool). c.1) ts) v) (sym n.input)
+          (subst (λ qs. IsNewRx rx qs (map (λ (c : QueueId × Bool). c.1) ts) v) (sym queues) n));
+      policies = ap length n.policies ∙ (length-map ts (λ (c : QueueId × Bool). c.1) ∙ (sym (length-map ts (λ (c : QueueId × Bool). c.0)) ∙ sym (ap length queues)));
+    }
 
 pub tx_new : (tx : QueueId) (clients : List QueueId) (v : SerialVirtTx) → IsNewTx tx clients v → IsNewTx v.output.queue (intake_queues v.inputs) v
 tx_new tx clients v new = subst (λ q. IsNewTx q (intake_queues v.inputs) v) (sym new.output) (subst (λ qs. IsNewTx tx qs v) (sym (tx_queues tx clients v new)) new)
 
-pub rx_part : (rx : QueueId) (clients : List QueueId) (ts : List (QueueId × Bool)) (v : SerialVirtRx) (qs : List ℕ) → ts ≡ waits clients → IsNewRx rx (map (λ c. c.0) ts) (map (λ c. c.1) ts) v → numbers clients ≡ qs → RxPart v.input.queue.0 (numbers (outlet_queues v.outputs)) ≡ RxPart rx.0 qs
-rx_part rx clients ts v qs is new are =
-    let n = waits_new rx clients ts v is new in
-    ap (λ (q : QueueId). RxPart q.0 (numbers (outlet_queues v.outputs))) n.input ∙ ap (RxPart rx.0) (ap numbers (rx_queues rx clients (map (λ (q : QueueId). false) clients) v n) ∙ are)
+pub queue_count : (qs : List QueueId) (first count : ℕ) → numbers qs ≡ every_second first count → length qs ≡ count
+queue_count qs first count is = sym (length-map qs (λ (q : QueueId). q.0)) ∙ (ap length is ∙ second_length first count)
+
+pub rx_part : (rx : QueueId) (ts : List (QueueId × Bool)) (v : SerialVirtRx) (qs : List ℕ) (drops : List Bool) → IsNewRx rx (map (λ c. c.0) ts) (map (λ c. c.1) ts) v → numbers (map (λ c. c.0) ts) ≡ qs → map (λ c. c.1) ts ≡ drops → RxPart v.input.queue.0 (numbers (outlet_queues v.outputs)) v.drops.items ≡ RxPart rx.0 qs drops
+rx_part rx ts v qs drops n are policies =
+    let queues = rx_queues rx (map (λ (c : QueueId × Bool). c.0) ts) (map (λ (c : QueueId × Bool). c.1) ts) v n in
+    ap (λ (q : QueueId). RxPart q.0 (numbers (outlet_queues v.outputs)) v.drops.items) n.input
+    ∙ (ap (λ ns. RxPart rx.0 ns v.drops.items) (ap numbers queues ∙ are)
+    ∙ ap (RxPart rx.0 qs) (n.policies ∙ policies))
+
+pub taker_count : (ts : List (QueueId × Bool)) (first count : ℕ) → numbers (map (λ c. c.0) ts) ≡ every_second first count → length ts ≡ count
+taker_count ts first count is = sym (length-map ts (λ (c : QueueId × Bool). c.0)) ∙ queue_count (map (λ (c : QueueId × Bool). c.0) ts) first count is
 
 pub tx_part : (tx : QueueId) (clients : List QueueId) (v : SerialVirtTx) (qs : List ℕ) → IsNewTx tx clients v → numbers clients ≡ qs → TxPart v.output.queue.0 (numbers (intake_queues v.inputs)) ≡ TxPart tx.0 qs
 tx_part tx clients v qs new is = ap (λ (q : QueueId). TxPart q.0 (numbers (intake_queues v.inputs))) new.output ∙ ap (TxPart tx.0) (ap numbers (tx_queues tx clients v new) ∙ is)
-
-pub queue_count : (qs : List QueueId) (first count : ℕ) → numbers qs ≡ every_second first count → length qs ≡ count
-queue_count qs first count is = sym (length-map qs (λ (q : QueueId). q.0)) ∙ (ap length is ∙ second_length first count)

@@ -21,8 +21,8 @@ use Rattle.actor_set.specs.StartStates.{IsNew}
 use Rattle.actor_set.specs.declared.actor.Actor.{Actor}
 use Rattle.play_core.specs.Sheets.{Scene}
 use Rattle.expect_core.specs.Expected.{client_asks, client_entry}
-use Rattle.cast_core.specs.Sources.{every_second, first_serial, pool_at, pools_at, client_mac}
-use Rattle.cast_core.specs.Sources.{client_program, first_blk, first_blk_pool}
+use Rattle.cast_core.specs.Sources.{every_second, first_serial, serial_drops, pool_at, pools_at}
+use Rattle.cast_core.specs.Sources.{client_mac, client_program, first_blk, first_blk_pool}
 use Rattle.cast_core.specs.Hostile.{acts_at, net_rogue_at, serial_rogue_at, blk_rogue_at}
 use Rattle.layout_laws.specs.Jobs.Jobs.{Job, EthDevice, EthDriver, NetReceiver, NetSender}
 use Rattle.layout_laws.specs.Jobs.Jobs.{NetCopier, NetClient, UartDevice, UartDriver}
@@ -77,7 +77,7 @@ calm_part plan trace UartDevice = Some (UartPart
 calm_part plan trace UartDriver = Some (DriverPart (first_serial plan) (first_serial plan + 1)
     (first_serial plan + 2) (first_serial plan + 3))
 calm_part plan trace SerialReceiver = Some (RxPart (first_serial plan + 2)
-    (every_second (first_serial plan + 4) (length (serial_clients plan))))
+    (every_second (first_serial plan + 4) (length (serial_clients plan))) (serial_drops plan))
 calm_part plan trace SerialSender = Some (TxPart (first_serial plan + 3)
     (every_second (first_serial plan + 5) (length (serial_clients plan))))
 calm_part plan trace (SerialClient c) = Some (ClientPart (first_serial plan + 4 + 2 * c)

@@ -1,7 +1,7 @@
 -- What a plan, the rows of its pools and a trace give each client of a class, by its number, and
 -- where the classes begin.
-use Rattle.std.specs.Prelude.{◌+◌, ◌*◌, ℕ, zero, suc, Bool, false, if◌then◌else◌, List, [], ◌∷◌}
-use Rattle.std.specs.Prelude.{length, codes, slice_get, unwrap_or}
+use Rattle.std.specs.Prelude.{◌+◌, ◌*◌, ℕ, zero, suc, Bool, true, false, if◌then◌else◌, List, []}
+use Rattle.std.specs.Prelude.{◌∷◌, length, map, codes, slice_get, unwrap_or}
 use Rattle.std.specs.Option.{option_map_or}
 use Rattle.frame_core.specs.declared.mac.Mac.{Mac}
 use Rattle.frame_core.specs.Macs.{mac_of}
@@ -10,8 +10,11 @@ use Rattle.sdf_plan.specs.declared.plan.Plan.{Plan}
 use Rattle.sdf_plan.specs.declared.plan.Net.{Net}
 use Rattle.sdf_plan.specs.declared.plan.NetClient.{NetClient}
 use Rattle.sdf_plan.specs.declared.plan.Serial.{Serial}
+use Rattle.sdf_plan.specs.declared.plan.SerialClient.{SerialClient}
+use Rattle.sdf_plan.specs.declared.plan.Policy.{Policy}
+use Rattle.sdf_plan.specs.declared.plan.Policy.TheVariants as To
 use Rattle.trace_text.specs.declared.trace.Trace.{Trace}
-use Rattle.trace_text.specs.Events.{net_clients, is_source, runs}
+use Rattle.trace_text.specs.Events.{net_clients, serial_clients, is_source, runs}
 use Rattle.net_expect.specs.Expecting.{Program}
 use Rattle.client_programs.specs.Net.Programs.{program_with}
 use Rattle.client_programs.specs.declared.net.program.NetProgram.{NetProgram}
@@ -36,6 +39,19 @@ first_blk plan = first_serial plan
 -- the number of the block virtualiser's pool: those of the network stand before it
 abbrev pub first_blk_pool : Plan → ℕ
 first_blk_pool plan = option_map_or (λ (net : Net). 1 + 2 * length net.client) plan.net 0
+
+-- by this policy what comes for a client is dropped where there is no room for it
+abbrev pub is_dropping : Policy → Bool
+is_dropping To.Hold = false
+is_dropping To.Drop = true
+
+-- whether these clients' bytes may be dropped
+abbrev pub drops_of : List SerialClient → List Bool
+drops_of clients = map (λ (client : SerialClient). is_dropping client.policy) clients
+
+-- for each client of the serial class whether its bytes may be dropped
+abbrev pub serial_drops : Plan → List Bool
+serial_drops plan = drops_of (serial_clients plan)
 
 -- the pool of a number, as its row tells it
 abbrev pub pool_at : List PoolRow → ℕ → PoolAt

@@ -1,11 +1,12 @@
 //! The actors of the serial class.
 ghost use Rattle.std.specs.Prelude.{◌≡◌, ◌<◌, ◌≤◌, ◌+◌, ◌*◌, [], Some, length, slice_get};
-ghost use Rattle.std.specs.Prelude.{unwrap_or, map, false, IfOk};
+ghost use Rattle.std.specs.Prelude.{unwrap_or, map, IfOk};
 ghost use Rattle.trace_text.specs.Events.{serial_clients};
 ghost use Rattle.actor_set.specs.Actors.{part_of, numbers};
 ghost use Rattle.actor_set.specs.Parts.{UartPart, DriverPart, RxPart, TxPart, ClientPart};
 ghost use Rattle.actor_set.specs.StartStates.{IsNew};
-ghost use Rattle.cast_core.specs.Sources.{every_second, first_serial};
+ghost use Rattle.cast_core.specs.Sources.{every_second, first_serial, is_dropping, drops_of};
+ghost use Rattle.cast_core.specs.Sources.{serial_drops};
 ghost use Rattle.trace_text.specs.declared.class.Class.TheVariants as Of;
 ghost use Rattle.layout_laws.specs.Jobs.Jobs as jobs;
 ghost use Rattle.cast_core.specs.Casts.{job_part};
@@ -19,7 +20,7 @@ use actor_set::Actor;
 use cargo_core::{Bytes, Memory};
 use client_programs::SerialClient;
 use device_model::UartDevice;
-use sdf_plan::Plan;
+use sdf_plan::{Plan, Policy, SerialClient as Taker};
 use serial_virt::{SerialVirtRx, SerialVirtTx};
 use std::alloc::Global;
 use trace_text::{Trace, is_serial_rogue};
@@ -64,29 +65,54 @@ fn driver(first: u16) -> UartDriver
     )
 }
 
-// Each of these clients waits for room in its queue.
-fn waiting(alloc: Global, queues: Vec<QueueId>) -> Result<Vec<(QueueId, bool)>, Memory>
-    ensures { IfOk result (λ clients. clients.items ≡ map (λ q. (q, false)) queues.items) }
+// Whether what comes for a client is dropped where there is no room for it.
+fn is_dropping(policy: Policy) -> bool
+    ensures { result ≡ is_dropping policy }
 {
-    let mut clients = Vec::with_capacity(alloc, queues.len())?;
-    for queue in queues {
-        clients.push((queue, false))?;
+    match policy {
+        Policy::Hold => false,
+        Policy::Drop => true,
     }
-    Ok(clients)
+}
+
+// Of each client its queue, every second one from a number on, and whether its bytes may be dropped.
+fn takers(
+    alloc: Global,
+    clients: &[Taker],
+    first: u16,
+    count: u16,
+) -> Result<Vec<(QueueId, bool)>, Memory>
+    requires clients { count ≡ length clients.now }
+    requires numbered { first + 2 * count ≤ 65537 }
+    ensures queues { IfOk result (λ ts.
+        numbers (map (λ t. t.0) ts.items) ≡ every_second first count) }
+    ensures drops { IfOk result (λ ts. map (λ t. t.1) ts.items ≡ drops_of clients.now) }
+{
+    let mut takers = Vec::with_capacity(alloc, count as usize)?;
+    for k in 0..count {
+        let drops = is_dropping(clients[k as usize].policy);
+        takers.push((QueueId(first + 2 * k), drops))?;
+    }
+    Ok(takers)
 }
 
 // The receiving virtualiser.
-fn receiver(alloc: Global, first: u16, clients: u16) -> Result<SerialVirtRx, Memory>
+fn receiver(alloc: Global, plan: &Plan, first: u16, clients: u16) -> Result<SerialVirtRx, Memory>
+    requires clients { clients ≡ length (serial_clients plan.now) }
     requires some { 0 < clients }
     requires few { clients ≤ 8 }
     requires numbered { first + 4 + 2 * clients ≤ 65536 }
     ensures new { IfOk result (λ v. IsNew (Actor.SerialVirtRx v)) }
-    ensures part { IfOk result (λ v.
-        part_of (Actor.SerialVirtRx v) ≡ RxPart (first + 2) (every_second (first + 4) clients)) }
+    ensures part { IfOk result (λ v. part_of (Actor.SerialVirtRx v)
+        ≡ RxPart (first + 2) (every_second (first + 4) clients) (serial_drops plan.now)) }
 {
-    let queues = every_second(alloc, first + 4, clients)?;
-    let takers = waiting(alloc, queues)?;
-    Ok(SerialVirtRx::new(alloc, QueueId(first + 2), takers)?)
+    match &plan.serial {
+        Some(serial) => {
+            let takers = takers(alloc, serial.client.as_slice(), first + 4, clients)?;
+            Ok(SerialVirtRx::new(alloc, QueueId(first + 2), takers)?)
+        }
+        None => unreachable!(),
+    }
 }
 
 // The sending virtualiser.
@@ -164,7 +190,7 @@ pub fn serial_actor(
     match job {
         SerialJob::Device => Ok(Actor::UartDevice(device(alloc, first, trace)?)),
         SerialJob::Driver => Ok(Actor::UartDriver(driver(first))),
-        SerialJob::Receiver => Ok(Actor::SerialVirtRx(receiver(alloc, first, clients)?)),
+        SerialJob::Receiver => Ok(Actor::SerialVirtRx(receiver(alloc, plan, first, clients)?)),
         SerialJob::Sender => Ok(Actor::SerialVirtTx(sender(alloc, first, clients)?)),
         SerialJob::Client(c) => any_client(alloc, plan, trace, clients, c),
     }

@@ -72,7 +72,7 @@ pub fn serial_law()
         → Conserves [] (bodies_at passed.taken (t.input.queue.0 ∷ []))
         (bodies_at passed.sent (t.output.queue.0 ∷ [])) (terminal_hand t)
         (bodies_at passed.taken (t.input.queue.0 ∷ [])) }
-    ensures receiver { (v : SerialVirtRx) (passed : Passed) → SerialRx.HoldingRxStands v passed
+    ensures receiver { (v : SerialVirtRx) (passed : Passed) → SerialRx.RxStandsFor v passed
         → Conserves [] (bodies_at passed.taken (v.input.queue.0 ∷ []))
         (bodies_at passed.sent (map (λ q. q.0) (outlet_queues v.outputs))) (SerialRx.rx_hand v)
         (bodies_at passed.taken (v.input.queue.0 ∷ [])) }

@@ -1,4 +1,4 @@
-use Rattle.std.proofs.Common.{◌≡◌, ◌-◌, ℕ, Bool, cond, Some, List, [], length, slice_get, refl, sym, ap, ◌∙◌, subst, arith}
+use Rattle.std.proofs.Common.{◌≡◌, ℕ, Bool, cond, Some, List, [], length, slice_get, sym, ap, ◌∙◌, subst, arith}
 use Rattle.cargo_core.specs.Lists.{IsPrefix}
 use Rattle.wire_core.specs.Ends.{Producer}
 use Rattle.wire_core.specs.Fates.{without, marked}

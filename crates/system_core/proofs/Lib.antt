@@ -3,6 +3,7 @@ pub mod Telling
 pub mod Growing
 pub mod Hosts
 pub mod Marking
+pub mod Dropping
 pub mod SystemStep
 pub mod Playing
 pub mod RunsNow
@@ -29,6 +30,7 @@ pub mod Crewing
 pub mod Built
 pub mod Quieting
 pub mod PoolsLemmas
+pub mod DropSeats
 pub mod Together
 pub mod Parting
 pub mod PastNames

@@ -14,7 +14,7 @@ use Rattle.wire_core.specs.Queues.{Queue, Happens, end_at, is_pending, is_store}
 use Rattle.wire_core.specs.Journal.{History, Hostiles, MayCall, EachMoment, EachFrom, LegalEntry, QueuesFlow, owner_of}
 use Rattle.wire_core.proofs.Tracks.{EachFrom-append}
 use Rattle.wire_core.proofs.Places.{slice_get_written}
-use Rattle.wire_core.specs.Marks.{no_drops, since, since_from, calls_at, AreFew, Brisk}
+use Rattle.wire_core.specs.Marks.{Drops, since, since_from, calls_at, AreFew, Brisk}
 use Rattle.turn_kit.specs.Turns.{is_at_rest}
 use Rattle.turn_kit.specs.Pace.{pendings, IsCalled}
 use Rattle.turn_kit.proofs.Playing.{pace_few}
@@ -33,6 +33,7 @@ use Rattle.actor_set.specs.declared.actor.Actor.{Actor}
 use Rattle.play_core.specs.Manners.{Manner, Manners, Calm, Hostile, is_hostile}
 use Rattle.actor_set.specs.Laws.Kinds.{scene_of, manner_of, manners, hostiles, idles}
 use Rattle.actor_set.specs.Laws.Scenes.{LiesWithin, told_sheet}
+use Rattle.cast_bound.specs.Dropping.{drops_in}
 use Rattle.system_core.specs.Shows.{Crew, Setting, hostile_in, runs, NamesTell, RowsStand}
 use Rattle.system_core.specs.Lawful.{IsFitted}
 use Rattle.player_kit.specs.Runnings.{removed_if, with_option, with_if}
@@ -250,18 +251,18 @@ module _ (history : History) (rows : List QueueRow) (names : List Noted) (pools 
       (called_so (all_settled history journal (wanted history rows names (map part_of actors) (part_of x) journal)) (called_from k 0 history rows journal) settled flag)
 
 -- who isn't there made no calls
-nobody_since : (hostile : Hostiles) (history : History) (rows : List QueueRow) (actors a : ℕ) (before es : List Entry) → ((n : ℕ) (row : QueueRow) → slice_get rows n ≡ Some row → (r : Role) → owner_of row r < actors) → actors ≤ a → EachFrom (LegalEntry hostile history rows) before es → since_from no_drops a [] es ≡ []
-nobody_since hostile history rows actors a before [] peers le l = refl
-nobody_since hostile history rows actors a before (e ∷ es) peers le l =
+nobody_since : (drops : Drops) (hostile : Hostiles) (history : History) (rows : List QueueRow) (actors a : ℕ) (before es : List Entry) → ((n : ℕ) (row : QueueRow) → slice_get rows n ≡ Some row → (r : Role) → owner_of row r < actors) → actors ≤ a → EachFrom (LegalEntry hostile history rows) before es → since_from drops a [] es ≡ []
+nobody_since drops hostile history rows actors a before [] peers le l = refl
+nobody_since drops hostile history rows actors a before (e ∷ es) peers le l =
     let lt : e.actor.0 < actors = subst (λ n. n < actors) l.0.legal.caller.some.1 (peers e.event.queue.0 l.0.row l.0.there l.0.legal.caller.some.0) in
     let off : (e.actor.0 == a) ≡ false = eqb_apart e.actor.0 a (λ h. absurd (omega (arith, lt, le, h))) in
-    rw off (nobody_since hostile history rows actors a (before ++ e ∷ []) es peers le l.1)
+    rw off (nobody_since drops hostile history rows actors a (before ++ e ∷ []) es peers le l.1)
 
 -- each actor made few calls since its last mark
-few_holds : (history : History) (rows : List QueueRow) (names : List Noted) (w : List Queue) (actors : List Actor) (journal : List Entry) → Holds history rows names w actors journal → AreFew (hostiles (map part_of actors)) rows no_drops journal
+few_holds : (history : History) (rows : List QueueRow) (names : List Noted) (w : List Queue) (actors : List Actor) (journal : List Entry) → Holds history rows names w actors journal → AreFew (hostiles (map part_of actors)) rows (drops_in (map part_of actors)) journal
 few_holds history rows names w actors journal h a calm r n = elim (get_case actors a) [
-  | inl y ↦ pace_few (pendings history journal) (since no_drops a journal) (actor_round y.0) (h.paced a y.0 y.1 calm) r n
-  | inr past ↦ let none : since no_drops a journal ≡ [] = nobody_since (hostiles (map part_of actors)) history rows (length actors) a [] journal h.peers past h.legal in subst (λ es. calls_at r n es ≤ 8) (sym none) (omega arith)
+  | inl y ↦ pace_few (pendings history journal) (since (drops_in (map part_of actors)) a journal) (actor_round y.0) (h.paced a y.0 y.1 calm) r n
+  | inr past ↦ let none : since (drops_in (map part_of actors)) a journal ≡ [] = nobody_since (drops_in (map part_of actors)) (hostiles (map part_of actors)) history rows (length actors) a [] journal h.peers past h.legal in subst (λ es. calls_at r n es ≤ 8) (sym none) (omega arith)
 ]
 
 -- a system after a step: all goes on to hold, and the runnable actors are those of this list
@@ -270,7 +271,7 @@ pub record StepThen (setting : Setting) (v : List Queue) (actors : List Actor) (
   pub cast_is : map part_of actors ≡ setting.cast
   pub rows_hold : EachMoment (RowsStand setting) journal
   pub names_tell : EachMoment (NamesTell setting) journal
-  pub brisk : Brisk (hostile_in setting) setting.rows no_drops journal
+  pub brisk : Brisk (hostile_in setting) setting.rows (drops_in setting.cast) journal
   pub own : PutTheirOwn setting journal
   pub running : list ≡ runs setting journal
   pub room_is : length actors ≤ room
@@ -283,7 +284,7 @@ module _ (history : History) (rows : List QueueRow) (names : List Noted) (pools 
   abbrev notes : Option Body → List Noted
   notes body = notes_of (wild_in (hostiles (map part_of actors)) rows) (record { event = e; body = body })
 
-  pub system_then : IsFitted setting → Holds history rows names w actors journal → EachMoment (RowsStand setting) journal → EachMoment (NamesTell setting) journal → list ≡ runs setting journal → length actors ≤ room → Brisk (hostile_in setting) rows no_drops journal → QueuesFlow history rows [] → PutTheirOwn setting journal
+  pub system_then : IsFitted setting → Holds history rows names w actors journal → EachMoment (RowsStand setting) journal → EachMoment (NamesTell setting) journal → list ≡ runs setting journal → length actors ≤ room → Brisk (hostile_in setting) rows (drops_in (map part_of actors)) journal → QueuesFlow history rows [] → PutTheirOwn setting journal
       → slice_get list place ≡ Some k → x ≡ slice_index_or actors k x → IsActorCall x e → (st : Stepped ActorStandsFor Happens w v x x' e) → ActorTurned x e x' → FitsActor (end_at v) x' → part_of x' ≡ part_of x
       → y ≡ slice_index_or (slice_set actors k x') k y → row ≡ slice_index_or rows e.queue.0 row → idle ≡ idles (manner_of (part_of y)) (actor_rests y) (is_pending k v) → rung ≡ reach_of e.op row k → IsAsked (slice_set actors k x') v rung woken
       → StepThen (record setting { names = names ++ notes st.body }) v (slice_set actors k x') (journal ++ entry_of k e ∷ []) (with_option rung woken (removed_if idle list place)) room
@@ -315,7 +316,7 @@ module _ (history : History) (rows : List QueueRow) (names : List Noted) (pools 
         cast_is = cast_is;
         rows_hold = (rows_then.0, EachFrom-append (λ b d. RowsStand later (b ++ d ∷ [])) [] journal (entry_of k e) rows_then.1 rows_next);
         names_tell = (tell_then.0, EachFrom-append (λ b d. NamesTell later (b ++ d ∷ [])) [] journal (entry_of k e) tell_then.1 tell_next);
-        brisk = (brisk.0, EachFrom-append (λ b d. AreFew (hostile_in setting) rows no_drops (b ++ d ∷ [])) [] journal (entry_of k e) brisk.1 (subst (λ cast. AreFew (hostiles cast) rows no_drops (journal ++ entry_of k e ∷ [])) cast_is (few_holds history rows ns v (slice_set actors k x') (journal ++ entry_of k e ∷ []) new)));
+        brisk = (brisk.0, EachFrom-append (λ b d. AreFew (hostile_in setting) rows (drops_in (map part_of actors)) (b ++ d ∷ [])) [] journal (entry_of k e) brisk.1 (subst (λ cast. AreFew (hostiles cast) rows (drops_in cast) (journal ++ entry_of k e ∷ [])) cast_is (few_holds history rows ns v (slice_set actors k x') (journal ++ entry_of k e ∷ []) new)));
         own = λ there placed. subst (λ c. EachMoment (IsKeptBeside history rows there c) (journal ++ entry_of k e ∷ [])) cast_is
             (kept_on history rows ns v (slice_set actors k x') journal (entry_of k e) new pools (subst (IsInPlace rows pools) (sym cast_is) in_place) flows there (subst (IsPlaced rows there) (sym cast_is) placed)
             (subst (λ c. EachMoment (IsKeptBeside history rows there c) journal) (sym cast_is) (owned there placed)));

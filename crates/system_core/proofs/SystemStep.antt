@@ -19,14 +19,14 @@ use Rattle.wire_core.proofs.Places.{slice_get_written, slice_get_beside}
 use Rattle.wire_core.proofs.Beside.{take_beside, put_beside}
 use Rattle.wire_core.proofs.Tracks.{EachFrom-append, track_from-append, shown_tells, shown_finds, shown_condition, shown_carries, shown_after}
 use Rattle.wire_core.specs.Ends.{waiting_role}
-use Rattle.wire_core.specs.Marks.{HasCalmQueues, no_drops, since}
+use Rattle.wire_core.specs.Marks.{Drops, HasCalmQueues, since}
 use Rattle.wire_core.proofs.Answering.{finds, tells, stays}
 use Rattle.client_programs.specs.declared.rogue.Rogue.{Rogue}
 use Rattle.turn_kit.specs.Turns.{Turned, is_at_rest}
 use Rattle.turn_kit.specs.Pace.{Paced, pendings, IsCalled}
 use Rattle.turn_kit.proofs.Playing.{pace_own, pace_beside}
 use Rattle.turn_kit.proofs.Plainness.{plain_next}
-use Rattle.actor_set.proofs.LawsLemmas.Paces.{post_end, post_waits}
+use Rattle.actor_set.proofs.LawsLemmas.Paces.{post_end}
 use Rattle.actor_set.specs.Actors.{FitsActor, ActorStandsFor, ActorEnd, ActorTurned, ActsAlike, IsActorCall, IsWhole, part_of, actor_round}
 use Rattle.actor_set.specs.Rogues.{KeepsActs}
 use Rattle.actor_set.proofs.LawsLemmas.Rounds.{acted_is, turned_is}
@@ -53,6 +53,8 @@ use Rattle.cast_law.proofs.BesideLemmas.Asking.{asks_on}
 use Rattle.cast_law.proofs.BesideLemmas.Carrying.{call_carries}
 use Rattle.cast_law.proofs.TurnsLemmas.{all_told, noted_tell, told_turns, wired_place}
 use Rattle.wired_law.proofs.Wiring.{sends_on}
+use Rattle.cast_bound.specs.Dropping.{drops_in}
+use Rattle.system_core.proofs.Dropping.{drops_own}
 use Rattle.system_core.proofs.Marking.{told_more}
 use Rattle.system_core.proofs.Hosts.{CallsAt, calls_at_end, calm_there, hostile_end, rogue_hostile, rogue_is, rogue_was, store_moves, store_puts, store_takes}
 use Rattle.play_core.proofs.Lists.{some_is, map_get}
@@ -211,6 +213,9 @@ module _ (history : History) (rows : List QueueRow) (names : List Noted) (w v : 
   abbrev wild : Wild
   wild = wild_in hostile rows
 
+  abbrev drops : Drops
+  drops = drops_in (map part_of actors)
+
   -- a calm actor makes no store
   plain : manner_of (part_of x) ≡ Calm → is_store e.op ≡ false
   plain calm =
@@ -270,18 +275,18 @@ module _ (history : History) (rows : List QueueRow) (names : List Noted) (w v : 
         };
       }
 
-  paced' : (j : ℕ) (y : Actor) → slice_get (slice_set actors k x') j ≡ Some y → HasCalmQueues hostile rows j → ((eqb j k ≡ true) × (j ≡ k)) ⊎ ((eqb j k ≡ false) × (j ≢ k)) → Paced (pendings history (journal ++ entry_of k e ∷ [])) (since no_drops j (journal ++ entry_of k e ∷ [])) (actor_round y)
+  paced' : (j : ℕ) (y : Actor) → slice_get (slice_set actors k x') j ≡ Some y → HasCalmQueues hostile rows j → ((eqb j k ≡ true) × (j ≡ k)) ⊎ ((eqb j k ≡ false) × (j ≢ k)) → Paced (pendings history (journal ++ entry_of k e ∷ [])) (since drops j (journal ++ entry_of k e ∷ [])) (actor_round y)
   paced' j y at calm (inl same) =
       let is : x' ≡ y = some_is (sym (slice_get_written actors k x x' here) ∙ (ap (slice_get (slice_set actors k x')) (sym same.1) ∙ at)) in
       let has : HasCalmQueues hostile rows k = subst (HasCalmQueues hostile rows) same.1 calm in
       let manner : manner_of (part_of x) ≡ Calm = calm_there (map part_of actors) k x cast_here has.calm in
       let turn : Turned (actor_round x) e (actor_round x') = turned_is x x' e manner turned in
       let was = old.paced k x here has in
-      let now = pace_own hostile no_drops history rows journal (entry_of k e) legal' has (actor_round x) (actor_round x') was turn (post_waits x e turn.place turn.posted.post turn.posted.there) (runs manner) in
-      subst (λ i. Paced (pendings history (journal ++ entry_of k e ∷ [])) (since no_drops i (journal ++ entry_of k e ∷ [])) (actor_round y)) (sym same.1) (subst (λ a. Paced (pendings history (journal ++ entry_of k e ∷ [])) (since no_drops k (journal ++ entry_of k e ∷ [])) (actor_round a)) is now)
+      let now = pace_own hostile drops history rows journal (entry_of k e) legal' has (actor_round x) (actor_round x') was turn (drops_own (map part_of actors) k (end_at w) x e (actor_round x') cast_here (old.fits k x here) turn) (runs manner) in
+      subst (λ i. Paced (pendings history (journal ++ entry_of k e ∷ [])) (since drops i (journal ++ entry_of k e ∷ [])) (actor_round y)) (sym same.1) (subst (λ a. Paced (pendings history (journal ++ entry_of k e ∷ [])) (since drops k (journal ++ entry_of k e ∷ [])) (actor_round a)) is now)
   paced' j y at calm (inr away) =
       let was : slice_get actors j ≡ Some y = sym (slice_get_beside actors k j x' away.1) ∙ at in
-      pace_beside hostile no_drops history rows journal (entry_of k e) legal' j calm (actor_round y) (λ h. away.1 (sym h)) (λ i p pat row rat. old.owners j y was (waiting_role p.side) p.queue (post_end y i p pat) row rat) (old.paced j y was calm)
+      pace_beside hostile drops history rows journal (entry_of k e) legal' j calm (actor_round y) (λ h. away.1 (sym h)) (λ i p pat row rat. old.owners j y was (waiting_role p.side) p.queue (post_end y i p pat) row rat) (old.paced j y was calm)
 
   -- a hostile client goes on to have made the calls of its acts
   acts_own : (after : Rogue) → x' ≡ Kinds.Rogue after → (r : Rogue) → x ≡ Kinds.Rogue r → KeepsActs k after (journal ++ entry_of k e ∷ [])
@@ -401,7 +406,7 @@ module _ (history : History) (rows : List QueueRow) (names : List Noted) (w v : 
       acts = λ j r at. acts' part j r at (eqb_tells j k);
       owners = λ j y at. owners' part (fits_whole (end_at v) x' new) j y at (eqb_tells j k);
       unstored = λ n row at calm. unstored' n row at (subst (λ c. is_calm (hostiles c) row ≡ true) parts calm) (eqb_tells e.queue.0 n);
-      paced = λ j y at calm. paced' j y at (subst (λ c. HasCalmQueues (hostiles c) rows j) parts calm) (eqb_tells j k);
+      paced = λ j y at calm. subst (λ c. Paced (pendings history after_) (since (drops_in c) j after_) (actor_round y)) (sym parts) (paced' j y at (subst (λ c. HasCalmQueues (hostiles c) rows j) parts calm) (eqb_tells j k));
       peers = λ n row at r. rw length-set (old.peers n row at r);
       few = rw length-set old.few;
       legal = subst (λ c. LegalJournal (hostiles c) history rows after_) (sym parts) (EachFrom-append (LegalEntry hostile history rows) [] journal (entry_of k e) old.legal legal');

@@ -1,9 +1,10 @@
 -- What a system keeps: its view, and the invariant that each of its calls needs and keeps.
 use Rattle.std.specs.Prelude.{◌≡◌, ◌≤◌, ◌++◌, ℕ, None, length}
 use Rattle.wire_core.specs.Journal.{EachMoment}
-use Rattle.wire_core.specs.Marks.{no_drops, Brisk}
+use Rattle.wire_core.specs.Marks.{Brisk}
 use Rattle.noted_wires.specs.Noting.{kept_at}
 use Rattle.play_core.specs.Names.{wild_in}
+use Rattle.cast_bound.specs.Dropping.{drops_in}
 use Rattle.system_core.specs.Shows.{Setting, Shown, hostile_in, runs, NamesTell, RowsStand}
 use Rattle.system_core.specs.States.{state_of, history_of, begun, names_left}
 use Rattle.system_core.specs.Lawful.{IsFitted}
@@ -35,7 +36,8 @@ pub record IsSystem (a : Inside) : Type 0 where
       a.actors.items a.journal.items
   pub rows_hold : EachMoment (RowsStand (setting_of a)) a.journal.items
   pub names_tell : EachMoment (NamesTell (setting_of a)) a.journal.items
-  pub brisk : Brisk (hostile_in (setting_of a)) (setting_of a).rows no_drops a.journal.items
+  pub brisk : Brisk (hostile_in (setting_of a)) (setting_of a).rows (drops_in (setting_of a).cast)
+      a.journal.items
   pub own : PutTheirOwn (setting_of a) a.journal.items
   -- of which queues names are kept is kept, and each name that was put is among those that are
   pub kept : (n : ℕ) → kept_at a.wires.kept.items n

@@ -7,7 +7,7 @@ use Rattle.wire_core.specs.declared.names.QueueRow.{QueueRow}
 use Rattle.wire_core.specs.declared.names.Entry.{Entry}
 use Rattle.wire_core.specs.Journal.{LegalJournal, EachMoment, BellsHold, QueuesFlow, start_history}
 use Rattle.wire_core.specs.Lists.{Passed}
-use Rattle.wire_core.specs.Marks.{no_drops, Brisk}
+use Rattle.wire_core.specs.Marks.{Brisk}
 use Rattle.cargo_core.specs.Capacities.{IsCapacity}
 use Rattle.cargo_core.specs.Lists.{IsPrefix, PrefixMerge}
 use Rattle.cargo_core.specs.declared.item.Ask.{Ask}
@@ -38,6 +38,7 @@ use Rattle.cast_law.specs.Pools.Places.{place_sizes}
 use Rattle.cast_law.specs.Pools.Beside.{is_rogues}
 use Rattle.cast_law.specs.Pools.Owning.{BeginsBeside, HasOwnersBeside, owner_keepers, owner_naming}
 use Rattle.cast_law.specs.Pools.Pooling.{AreKindly}
+use Rattle.cast_bound.specs.Dropping.{drops_in}
 use Rattle.system_core.specs.BadOnes.{bad_among}
 use Rattle.system_core.specs.Dropped.{HaveTold}
 use Rattle.system_core.specs.PoolLines.{AllAdd, AreLinesOf, AreUnlent, CountStanding}
@@ -86,7 +87,7 @@ pub record IsLawful (s : Setting) (journal : List Entry) : Type 0 where
   pub rows_hold : EachMoment (RowsStand s) journal
   pub names_tell : EachMoment (NamesTell s) journal
   pub kinds : EachMoment (AreKindly s.history s.rows) journal
-  pub brisk : Brisk (hostile_in s) s.rows no_drops journal
+  pub brisk : Brisk (hostile_in s) s.rows (drops_in s.cast) journal
   pub owners : (place : PoolPlace) → IsPlaced s.rows place s.cast → (start : Table)
       → BeginsBeside s.history s.rows place s.cast start
       → EachMoment (OneOwner (owner_naming s.rows place s.cast) s.history start) journal

@@ -9,7 +9,7 @@ use Rattle.wire_core.specs.Lists.{Passed}
 use Rattle.wire_core.specs.Queues.{Queue, queue_at, end_at, items_of}
 use Rattle.wire_core.specs.Journal.{History, track, IsShown, LegalJournal, BellsHold, QueuesFlow}
 use Rattle.wire_core.specs.Journal.{EachMoment, owner_of, is_calm}
-use Rattle.wire_core.specs.Marks.{HasCalmQueues, no_drops, since}
+use Rattle.wire_core.specs.Marks.{HasCalmQueues, since}
 use Rattle.play_core.specs.Moved.{moved, noes_of}
 use Rattle.play_core.specs.Names.{AreNoted, Noted, told_by, wild_in}
 use Rattle.turn_kit.specs.Pace.{Paced, pendings}
@@ -22,6 +22,7 @@ use Rattle.wired_law.specs.Wiring.{AreOfKind, ClientsSend}
 use Rattle.cast_law.specs.Pools.Beside.{CastCarries, RoguesAsk}
 use Rattle.cast_law.specs.Pools.Owning.{IsKeptBeside}
 use Rattle.cast_law.specs.Pools.Places.{PoolPlace, IsPlaced}
+use Rattle.cast_bound.specs.Dropping.{drops_in}
 use Rattle.system_core.specs.Shows.{Setting, hostile_in}
 use Rattle.system_core.specs.Dropped.{HaveTold}
 use Rattle.system_core.specs.Lawful.{IsFitted}
@@ -79,7 +80,8 @@ pub record Holds (history : History) (rows : List QueueRow) (names : List Noted)
   -- what each actor did since its last mark that isn't hostile and has no queue with a hostile end
   pub paced : (k : ℕ) (x : Actor) → slice_get actors k ≡ Some x
       → HasCalmQueues (hostiles (map part_of actors)) rows k
-      → Paced (pendings history journal) (since no_drops k journal) (actor_round x)
+      → Paced (pendings history journal) (since (drops_in (map part_of actors)) k
+      journal) (actor_round x)
   pub peers : (n : ℕ) (row : QueueRow) → slice_get rows n ≡ Some row → (r : Role)
       → owner_of row r < length actors
   pub few : length actors ≤ 65536

@@ -3,6 +3,7 @@ use Rattle.std.proofs.Common.{◌≡◌, ◌+◌, ◌<◌, ℕ, zero, suc, Optio
 use Rattle.std.proofs.lemmas.Option.{slice_get-get_or}
 use Rattle.wire_core.specs.declared.names.QueueId.{QueueId}
 use Rattle.wire_core.specs.Deeds.{Cargo}
+use Rattle.wire_core.specs.Fates.{without}
 use Rattle.wire_core.specs.Lists.{Lists, Passed}
 use Rattle.turn_kit.specs.ManyEnds.{intake_queues, outlet_queues}
 use Rattle.turn_kit.specs.Hands.{bodies_at}
@@ -12,7 +13,8 @@ use Rattle.serial_switch.specs.Carried.{byte_cargo, bytes_carried}
 use Rattle.serial_switch.specs.Switching.{input_of}
 use Rattle.serial_virt.specs.declared.rx.SerialVirtRx.{SerialVirtRx}
 use Rattle.serial_virt.specs.declared.tx.SerialVirtTx.{SerialVirtTx}
-use Rattle.serial_virt.specs.Receiving.{HoldingRxStands, owed_to, clients_of, rx_hand}
+use Rattle.serial_virt.specs.Receiving.{RxStandsFor, owed_to, clients_of, taker_of, rx_hand}
+use Rattle.serial_virt.specs.Shares.{byte_fate}
 use Rattle.serial_virt.specs.Sending.{TxStandsFor, taken_from, tx_hand}
 use Rattle.device_model.specs.declared.serial_terminal.Terminal.{Terminal}
 use Rattle.device_model.specs.SerialTerminal.Terminals.{TerminalStandsFor, terminal_hand}
@@ -37,9 +39,9 @@ none_at f lists (q ∷ qs) h =
     let rest = none_at f lists qs (λ k r at. h (suc k) r at) in
     omega (arith, more, here, rest)
 
-module _ (v : SerialVirtRx) (passed : Passed) (h : HoldingRxStands v passed) (f : Count) where
+module _ (v : SerialVirtRx) (passed : Passed) (h : RxStandsFor v passed) (f : Count) where
   given_none : (k : ℕ) (q : QueueId) → slice_get (outlet_queues v.outputs) k ≡ Some q → weighed f (passed.sent q.0) + weighed f (owed_to v.load v.to k) ≡ 0
-  given_none k q at = sym (weighed-append f (passed.sent q.0) (owed_to v.load v.to k)) ∙ (ap (weighed f) (h.given k q at) ∙ bytes_none f (input_of (clients_of v) k (bytes_carried (passed.taken v.input.queue.0))))
+  given_none k q at = sym (weighed-append f (passed.sent q.0) (owed_to v.load v.to k)) ∙ (ap (weighed f) (h.clients k q at).given ∙ bytes_none f (without (byte_fate v.input.queue.0 (taker_of v k q) passed.calls).dropped (input_of (clients_of v) k (bytes_carried (passed.taken v.input.queue.0)))))
 
   none_of : (load : Option Cargo) → load ≡ v.load → weighed f (option_to_list load) ≡ 0
   none_of None is = refl
@@ -50,7 +52,7 @@ module _ (v : SerialVirtRx) (passed : Passed) (h : HoldingRxStands v passed) (f 
       let owed : weighed f (owed_to v.load v.to v.to) ≡ weighed f (option_to_list (Some c)) = ap (weighed f) (mine ∙ ap option_to_list (sym is)) in
       omega (arith, none, owed)
 
-pub receiver_conserves : (v : SerialVirtRx) (passed : Passed) → HoldingRxStands v passed → Conserves [] (bodies_at passed.taken (v.input.queue.0 ∷ [])) (bodies_at passed.sent (map (λ q. q.0) (outlet_queues v.outputs))) (rx_hand v) (bodies_at passed.taken (v.input.queue.0 ∷ []))
+pub receiver_conserves : (v : SerialVirtRx) (passed : Passed) → RxStandsFor v passed → Conserves [] (bodies_at passed.taken (v.input.queue.0 ∷ [])) (bodies_at passed.sent (map (λ q. q.0) (outlet_queues v.outputs))) (rx_hand v) (bodies_at passed.taken (v.input.queue.0 ∷ []))
 receiver_conserves v passed h f =
     let went = none_at f passed.sent (outlet_queues v.outputs) (λ k q at. let none = given_none v passed h f k q at in omega (arith, none)) in
     let hand = none_of v passed h f v.load refl in

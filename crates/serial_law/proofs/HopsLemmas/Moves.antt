@@ -1,10 +1,10 @@
-use Rattle.std.proofs.Common.{◌≡◌, ◌==◌, ◌≤◌, ◌+◌, ◌*◌, ◌++◌, ℕ, zero, suc, Bool, if◌then◌else◌, Some, List, [], ◌∷◌, length, length-append, map, slice_get, refl, sym, ap, ◌∙◌, subst, arith}
+use Rattle.std.proofs.Common.{◌≡◌, ◌≤◌, ◌+◌, ◌*◌, ◌++◌, ℕ, suc, Bool, Some, List, [], ◌∷◌, length, length-append, map, slice_get, refl, ap, subst, arith}
 use Rattle.std.proofs.lemmas.List.{length-map}
 use Rattle.wire_core.specs.Fates.{without}
 use Rattle.wire_core.proofs.Fating.{without_length}
 use Rattle.wire_core.specs.Ends.{Producer}
 use Rattle.serial_virt.specs.Shares.{policy_at}
-use Rattle.cargo_core.specs.Lists.{IsPrefix, Merge}
+use Rattle.cargo_core.specs.Lists.{IsPrefix}
 use Rattle.cargo_core.specs.declared.item.Item.{Item}
 use Rattle.cargo_core.specs.declared.item.Item.TheVariants as ItemOf
 use Rattle.serial_switch.specs.Carried.{byte_of}
@@ -13,7 +13,7 @@ use Rattle.wire_core.specs.declared.names.Entry.{Entry}
 use Rattle.wire_core.specs.Journal.{History, Hostiles, QueuesFlow}
 use Rattle.wire_core.specs.Marks.{sum_below}
 use Rattle.serial_switch.specs.Switching.{input_of}
-use Rattle.play_core.specs.Moved.{Moved, moved, sent, taken, gone_at}
+use Rattle.play_core.specs.Moved.{Moved, moved, gone_at}
 use Rattle.play_core.specs.Totals.{total}
 use Rattle.play_core.specs.Still.{Holds}
 use Rattle.play_core.proofs.Lists.{there_is, there_below}

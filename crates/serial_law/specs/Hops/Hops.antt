@@ -1,5 +1,5 @@
 -- How much is put to the queues of the serial class, and how many bytes it has to move.
-use Rattle.std.specs.Prelude.{◌+◌, ℕ, Bool, List, [], ◌∷◌, ◌++◌, length}
+use Rattle.std.specs.Prelude.{◌+◌, ℕ, Bool, List, [], ◌∷◌, length}
 use Rattle.wire_core.specs.Ends.{Producer}
 use Rattle.serial_virt.specs.Shares.{policy_at}
 use Rattle.play_core.specs.Moved.{Moved, gone_at}

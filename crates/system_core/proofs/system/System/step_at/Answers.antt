@@ -2,11 +2,12 @@ use Rattle.std.proofs.Common.{◌≡◌, ◌<◌, ◌++◌, ℕ, [], ◌∷◌, 
 use Rattle.std.specs.Vec.{vec_len}
 use Rattle.std.proofs.lemmas.Option.{slice_get_read, slice_get_within}
 use Rattle.wire_core.specs.Journal.{EachMoment}
-use Rattle.wire_core.specs.Marks.{no_drops, Brisk}
+use Rattle.wire_core.specs.Marks.{Brisk}
 use Rattle.play_core.specs.Names.{Noted, notes_of, wild_in}
 use Rattle.actor_set.specs.Actors.{part_of}
 use Rattle.actor_set.specs.Laws.Kinds.{hostiles, scene_of}
 use Rattle.noted_wires.specs.Noting.{kept_at, notes_in}
+use Rattle.cast_bound.specs.Dropping.{drops_in}
 use Rattle.system_core.specs.Shows.{Setting, Shown, KeepsSetting, hostile_in, runs, NamesTell, RowsStand}
 use Rattle.system_core.specs.States.{history_of, begun, names_left}
 use Rattle.system_core.specs.Lawful.{IsFitted}
@@ -76,7 +77,7 @@ invariant_of-self-in_err-step c =
       holds = rw (c.in_err-step.ensures.no_call, c.in_ok-make_room.ensures.journal, c.in_ok-make_room.ensures.names) (subst (λ xs. Holds (history_of c.self.inside.rows.items c.self.inside.past.value.items) c.self.inside.rows.items (setting_of c.self.inside).names c.self.inside.wires.world xs c.self.inside.journal.items) (sym set) c.self.invariant.holds);
       rows_hold = rw (c.in_ok-make_room.ensures.journal, c.in_ok-make_room.ensures.names) (subst (λ z. EachMoment (RowsStand z) c.self.inside.journal.items) (sym same) c.self.invariant.rows_hold);
       names_tell = rw (c.in_ok-make_room.ensures.journal, c.in_ok-make_room.ensures.names) (subst (λ z. EachMoment (NamesTell z) c.self.inside.journal.items) (sym same) c.self.invariant.names_tell);
-      brisk = rw c.in_ok-make_room.ensures.journal (subst (λ z. Brisk (hostile_in z) z.rows no_drops c.self.inside.journal.items) (sym same) c.self.invariant.brisk);
+      brisk = rw c.in_ok-make_room.ensures.journal (subst (λ z. Brisk (hostile_in z) z.rows (drops_in z.cast) c.self.inside.journal.items) (sym same) c.self.invariant.brisk);
       own = rw c.in_ok-make_room.ensures.journal (subst (λ z. PutTheirOwn z c.self.inside.journal.items) (sym same) c.self.invariant.own);
       kept = rw c.in_err-step.ensures.no_call (subst (λ z. (n : ℕ) → kept_at c.self.inside.wires.kept.items n ≡ wild_in (hostile_in z) z.rows n) (sym same) c.self.invariant.kept);
       none_last = rw c.in_err-step.ensures.no_call c.self.invariant.none_last;
@@ -120,7 +121,7 @@ invariant_of-self-2 c =
       holds = rw (c.push_reserved.ensures.items, c.in_ok-make_room.ensures.journal, nm) s.holds;
       rows_hold = rw (c.push_reserved.ensures.items, c.in_ok-make_room.ensures.journal, nm) (subst (λ z. EachMoment (RowsStand z) (c.self.inside.journal.items ++ entry_of c.at-number.result c.step.new.event ∷ [])) (sym same) s.rows_hold);
       names_tell = rw (c.push_reserved.ensures.items, c.in_ok-make_room.ensures.journal, nm) (subst (λ z. EachMoment (NamesTell z) (c.self.inside.journal.items ++ entry_of c.at-number.result c.step.new.event ∷ [])) (sym same) s.names_tell);
-      brisk = rw (c.push_reserved.ensures.items, c.in_ok-make_room.ensures.journal) (subst (λ z. Brisk (hostile_in z) z.rows no_drops (c.self.inside.journal.items ++ entry_of c.at-number.result c.step.new.event ∷ [])) (sym same) s.brisk);
+      brisk = rw (c.push_reserved.ensures.items, c.in_ok-make_room.ensures.journal) (subst (λ z. Brisk (hostile_in z) z.rows (drops_in z.cast) (c.self.inside.journal.items ++ entry_of c.at-number.result c.step.new.event ∷ [])) (sym same) s.brisk);
       own = rw (c.push_reserved.ensures.items, c.in_ok-make_room.ensures.journal) (subst (λ z. PutTheirOwn z (c.self.inside.journal.items ++ entry_of c.at-number.result c.step.new.event ∷ [])) (sym same) s.own);
       kept = subst (λ z. (n : ℕ) → kept_at c.step.new.wires.kept.items n ≡ wild_in (hostile_in z) z.rows n) (sym same) (λ n. ap (λ k. kept_at k.items n) st.happened.kept ∙ c.self.invariant.kept n);
       none_last = c.keep_name.ensures.none;
