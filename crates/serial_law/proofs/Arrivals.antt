@@ -1,4 +1,4 @@
-use Rattle.std.proofs.Common.{◌≡◌, ◌++◌, ◌+◌, ℕ, zero, suc, Bool, true, false, Some, List, [], ◌∷◌, length, map, slice_get, refl, sym, ap, ◌∙◌, subst, arith}
+use Rattle.std.proofs.Common.{◌≡◌, ◌++◌, ◌+◌, ◌≤◌, ℕ, zero, suc, Bool, true, false, Some, List, [], ◌∷◌, length, length-append, map, slice_get, refl, sym, ap, ◌∙◌, subst, arith}
 use Rattle.std.proofs.lemmas.List.{append-nil, length-map}
 use Rattle.cargo_core.specs.Lists.{IsPrefix, PrefixMerge}
 use Rattle.cargo_core.specs.declared.item.Item.{Item}
@@ -142,6 +142,15 @@ module _ (history : History) (rows : List QueueRow) (j : List Entry) (rogues : R
   part_begins k q at =
       let more = input_begins (length c.client_rx) k (bytes_in (got c.rx)) c.input reached in
       (more.0, sym (without_more (marks k) (heard_part k) more.0 (shares.settled k q at)) ∙ ap (without (marks k)) more.1)
+
+  -- and no more is marked than comes
+  pub marks_fit : (k q : ℕ) → slice_get c.client_rx k ≡ Some q → length (marks k) ≤ length (whole_part k)
+  marks_fit k q at =
+      let more = input_begins (length c.client_rx) k (bytes_in (got c.rx)) c.input reached in
+      let long = ap length more.1 in
+      let parts = length-append (heard_part k) more.0 in
+      let few = shares.settled k q at in
+      omega (arith, long, parts, few)
 
   records_at : (k q : ℕ) → slice_get c.client_rx k ≡ Some q → IsPrefix (bytes_in (got q)) (without (marks k) (whole_part k))
   records_at k q at =
