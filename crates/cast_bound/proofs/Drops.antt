@@ -43,11 +43,11 @@ at_seats : (seats : List Seat) (e : Entry) → is_vain_look e.event.op e.event.a
 at_seats [] e vain has = has
 at_seats (s ∷ seats) e vain has = elim (or_split (is_role s.role (role_of e.event.op) && (s.queue == e.event.queue.0)) (has_seat seats (role_of e.event.op) e.event.queue.0) has) [
   | inl here ↦
-    let parts = and_parts (is_role s.role (role_of e.event.op)) (s.queue == e.event.queue.0) here in
-    let queue : (e.event.queue.0 == s.queue) ≡ true = eq-eqb e.event.queue.0 s.queue (sym (eqb-true s.queue e.event.queue.0 parts.1)) in
-    or_left (is_vain_at s.role s.queue e.event) (drops_at seats e)
-    (both (is_vain_look e.event.op e.event.answer) (is_role (role_of e.event.op) s.role && (e.event.queue.0 == s.queue)) vain
-    (both (is_role (role_of e.event.op) s.role) (e.event.queue.0 == s.queue) (same_role s.role (role_of e.event.op) parts.0) queue))
+      let parts = and_parts (is_role s.role (role_of e.event.op)) (s.queue == e.event.queue.0) here in
+      let queue : (e.event.queue.0 == s.queue) ≡ true = eq-eqb e.event.queue.0 s.queue (sym (eqb-true s.queue e.event.queue.0 parts.1)) in
+      or_left (is_vain_at s.role s.queue e.event) (drops_at seats e)
+      (both (is_vain_look e.event.op e.event.answer) (is_role (role_of e.event.op) s.role && (e.event.queue.0 == s.queue)) vain
+      (both (is_role (role_of e.event.op) s.role) (e.event.queue.0 == s.queue) (same_role s.role (role_of e.event.op) parts.0) queue))
   | inr there ↦ or_right (is_vain_at s.role s.queue e.event) (drops_at seats e) (at_seats seats e vain there)
 ]
 

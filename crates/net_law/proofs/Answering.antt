@@ -1,10 +1,8 @@
 use Rattle.std.proofs.Common.{◌≡◌, ◌&&◌, ◌++◌, ℕ, Bool, true, false, cond, nat_le, if◌then◌else◌, List, [], ◌∷◌, length, map, refl, sym, ap, ◌∙◌, subst}
-use Rattle.std.specs.List.{filter}
 use Rattle.std.proofs.lemmas.List.{append-nil}
 use Rattle.cargo_core.specs.Lists.{IsPrefix}
 use Rattle.frame_core.specs.declared.mac.Mac.{Mac}
 use Rattle.frame_core.specs.Frames.{turned_round, is_frame_for}
-use Rattle.wire_core.specs.Deeds.{Cargo}
 use Rattle.wire_core.specs.Lists.{Passed}
 use Rattle.net_expect.specs.Expecting.{frames_for, answers_for, is_for_client, sends_of}
 use Rattle.buffer_kit.specs.Entries.{frame_of, all_filled}
@@ -14,7 +12,6 @@ use Rattle.client_programs.specs.declared.net.program.NetProgram.TheVariants as 
 use Rattle.client_programs.specs.declared.net.NetClient.{NetClient}
 use Rattle.client_programs.specs.Net.Programs.{program_with, program_of, sent_for, frames_out, answer_to}
 use Rattle.client_programs.specs.Net.Clients.{rx_active, tx_active, tx_free}
-use Rattle.net_law.specs.Receiving.{AreRoomy}
 use Rattle.net_law.specs.Sending.{IsSending}
 use Rattle.net_law.proofs.Beginnings.{begins_on, begins_map}
 use Rattle.net_law.proofs.Filled.{frames_are}

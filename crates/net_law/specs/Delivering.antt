@@ -1,7 +1,6 @@
 -- What a network client must get, and what it sends, where the device or its copier may drop: told
 -- by the calls that were made.
 use Rattle.std.specs.Prelude.{◌≡◌, ℕ, Bool, cond, Some, List, [], ◌++◌, map, slice_get}
-use Rattle.cargo_core.specs.Lists.{IsPrefix}
 use Rattle.frame_core.specs.declared.mac.Mac.{Mac}
 use Rattle.frame_core.specs.Frames.{turned_round}
 use Rattle.wire_core.specs.declared.names.Event.{Event}

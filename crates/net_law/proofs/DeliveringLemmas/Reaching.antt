@@ -1,17 +1,16 @@
-use Rattle.std.proofs.Common.{◌≡◌, ◌==◌, ℕ, Bool, true, false, cond, List, [], map, take, length, refl, sym, ap, ◌∙◌, subst}
+use Rattle.std.proofs.Common.{◌≡◌, ℕ, Bool, true, false, cond, List, [], map, take, length, refl, sym, ap, ◌∙◌, subst}
 use Rattle.std.proofs.lemmas.List.{append-nil}
 use Rattle.cargo_core.specs.Lists.{IsPrefix}
 use Rattle.frame_core.specs.declared.mac.Mac.{Mac}
 use Rattle.frame_core.specs.Frames.{turned_round}
 use Rattle.wire_core.specs.declared.names.Event.{Event}
-use Rattle.wire_core.specs.Deeds.{Cargo}
 use Rattle.wire_core.specs.Fates.{without}
 use Rattle.wire_core.specs.Lists.{Passed}
 use Rattle.wire_core.proofs.Fating.{without-map}
 use Rattle.turn_kit.specs.declared.pipe.Pipe.{Pipe}
 use Rattle.pipe_driver.specs.declared.pipes.Pipes.{Pipes}
 use Rattle.buffer_kit.specs.Entries.{frame_of}
-use Rattle.net_expect.specs.Expecting.{Program, Sink, Source, Echo, frames_for, answers_for, is_for_client, sends_of}
+use Rattle.net_expect.specs.Expecting.{Program, Sink, Source, Echo, frames_for, is_for_client, sends_of}
 use Rattle.device_model.specs.Ethernet.Devices.{accepted, frames_dropped}
 use Rattle.device_model.specs.declared.ethernet.EthDevice.{EthDevice}
 use Rattle.net_copier.specs.Copying.{leased_bytes, leases_dropped}

@@ -93,7 +93,7 @@ module _ (scene : Scene) (ways : List Way) where
 
   pub driver_own : IsOwn Driver
   driver_own = record {
-    row = λ a b alike h k w at. way_row a b alike k w at (h k w at);
+    row = λ a b alike look h k w at. way_row a b alike k w at (h k w at);
     wants = λ a b alike look. flat_alike (way_wants a) (way_wants b) ways (way_same a b alike);
     ends = λ m. pair_seats (λ (w : Way). intake_want w.input (Rattle.std.specs.Prelude.not (is_short (m.sent w.output) (m.taken w.input)))) (λ w. outlet_want w.output (is_short (m.sent w.output) (m.taken w.input))) ways;
   }
