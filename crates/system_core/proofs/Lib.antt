@@ -2,6 +2,7 @@
 pub mod Telling
 pub mod Growing
 pub mod Hosts
+pub mod Anew
 pub mod Marking
 pub mod Dropping
 pub mod SystemStep
