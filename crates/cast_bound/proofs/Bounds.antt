@@ -1,8 +1,8 @@
 -- The serial class puts no more than it has to move, and a play is shorter than the budget.
-use Rattle.std.proofs.Common.{◌≡◌, ◌<◌, None, Some, Option, List, [], length, refl, subst}
+use Rattle.std.proofs.Common.{◌≡◌, ◌<◌, ◌≤◌, ◌+◌, ◌*◌, None, Some, Option, List, [], length, refl, subst, arith}
 use Rattle.wire_core.specs.declared.names.Entry.{Entry}
 use Rattle.wire_core.specs.Journal.{History, LegalJournal, BellsHold, QueuesFlow}
-use Rattle.wire_core.specs.Marks.{no_drops, Brisk}
+use Rattle.wire_core.specs.Marks.{Brisk, dropped}
 use Rattle.play_core.specs.Moved.{moved}
 use Rattle.play_core.specs.Still.{IsPeopled}
 use Rattle.sdf_plan.specs.declared.plan.Plan.{Plan}
@@ -17,23 +17,30 @@ use Rattle.serial_law.proofs.HopsLemmas.Moves.{serial_moves}
 use Rattle.actor_set.specs.Parts.{Part}
 use Rattle.actor_set.specs.Laws.Kinds.{AllCalm, hostiles}
 use Rattle.actor_set.proofs.LawsLemmas.Calm.{calm_row}
+use Rattle.serial_law.specs.Hops.Hops.{serial_put, serial_bytes}
+use Rattle.cast_bound.specs.Dropping.{drops_in, serial_seats, DropOnlyAt}
 use Rattle.cast_bound.specs.PlayBound.Standing.{StandsFrom, Carries, serial_first, NetMoves, SerialMoves, without_serial, with_serial, BlkMoves}
 use Rattle.cast_bound.proofs.PlayBound.Bounding.{within_budget}
 use Rattle.cast_bound.proofs.PlayBound.Classes.{classes_within}
+use Rattle.cast_bound.proofs.Drops.{serial_dropped, none_dropped}
 
 pub serial_within : (plan : Plan) (trace : Trace) (cast : List Part) (history : History) (journal : List Entry) → QueuesFlow history (queues_of plan) journal
-    → ((serial : Serial) → plan.serial ≡ Some serial → (class : SerialClass) × StandsFrom (serial_first plan.net) (length serial.client) class × Carries trace class × IsSerial (λ p. (serial_sheet p).row (moved history journal)) (hostiles cast) (queues_of plan) class)
-    → SerialMoves plan trace (moved history journal)
-serial_within plan trace cast history journal flows has = by plan.serial refl
+    → ((serial : Serial) → plan.serial ≡ Some serial → (class : SerialClass) × StandsFrom (serial_first plan.net) (length serial.client) class × Carries trace class × IsSerial (λ p. (serial_sheet p).row (moved history journal)) (hostiles cast) (queues_of plan) class × DropOnlyAt (serial_seats class) cast)
+    → (plan.serial ≡ None → DropOnlyAt [] cast)
+    → SerialMoves plan trace (dropped (drops_in cast) journal) (moved history journal)
+serial_within plan trace cast history journal flows has nowhere = by plan.serial refl
   where
-    by : (o : Option Serial) → plan.serial ≡ o → SerialMoves plan trace (moved history journal)
-    by None is = without_serial is
+    by : (o : Option Serial) → plan.serial ≡ o → SerialMoves plan trace (dropped (drops_in cast) journal) (moved history journal)
+    by None is = without_serial is (none_dropped cast history journal (nowhere is))
     by (Some serial) is =
         let h = has serial is in
-        with_serial serial h.0 is h.1 h.2 (serial_moves (hostiles cast) history (queues_of plan) journal h.0 flows h.3)
+        let few = serial_moves (hostiles cast) history (queues_of plan) journal h.0 flows h.3 in
+        let gone = serial_dropped cast h.0 history journal h.4 in
+        let all : serial_put h.0 (moved history journal) + dropped (drops_in cast) journal ≤ 3 * serial_bytes h.0 = omega (arith, few, gone) in
+        with_serial serial h.0 is h.1 h.2 all
 
 pub short : (plan : Plan) (trace : Trace) (cast : List Part) (history : History) (journal : List Entry) → Valid plan → AllCalm cast → length cast ≡ length (actors_of plan) → IsPeopled (queues_of plan) (length cast)
-    → BellsHold (hostiles cast) history (queues_of plan) [] → QueuesFlow history (queues_of plan) [] → LegalJournal (hostiles cast) history (queues_of plan) journal → Brisk (hostiles cast) (queues_of plan) no_drops journal
-    → NetMoves plan trace (moved history journal) → SerialMoves plan trace (moved history journal) → BlkMoves plan trace (moved history journal) → length journal < budget_of plan trace
+    → BellsHold (hostiles cast) history (queues_of plan) [] → QueuesFlow history (queues_of plan) [] → LegalJournal (hostiles cast) history (queues_of plan) journal → Brisk (hostiles cast) (queues_of plan) (drops_in cast) journal
+    → NetMoves plan trace (moved history journal) → SerialMoves plan trace (dropped (drops_in cast) journal) (moved history journal) → BlkMoves plan trace (moved history journal) → length journal < budget_of plan trace
 short plan trace cast history journal valid calm count peopled bells flows legal brisk net serial blk =
-    within_budget plan trace (hostiles cast) history journal valid (λ n row at. calm_row cast calm row) bells flows legal brisk (subst (IsPeopled (queues_of plan)) count peopled) (classes_within plan trace history journal net serial blk)
+    within_budget plan trace (hostiles cast) history journal (drops_in cast) valid (λ n row at. calm_row cast calm row) bells flows legal brisk (subst (IsPeopled (queues_of plan)) count peopled) (classes_within plan trace history journal (dropped (drops_in cast) journal) net serial blk)

@@ -2,5 +2,6 @@
 pub mod Sources
 pub mod Networks
 pub mod Blocks
+pub mod Drops
 pub mod Bounds
 pub mod PlayBound

@@ -1,2 +1,3 @@
--- What the laws on the length of a play say (PlayBound).
+-- Which entries are drops (Dropping), and what the laws on the length of a play say (PlayBound).
+pub mod Dropping
 pub mod PlayBound

@@ -322,9 +322,12 @@ module _ (rows : List QueueRow) (news : List Seated) (peers : (n : ℕ) (row : Q
   order zero sits rest calls none u = let same = at_end sits rest u none in ([], calls, (ap actors_of (sym same), ap (λ (z : List Seated). passed_by rows z calls) (sym same)), λ r n. ap (λ (z : List Seated). looked rows z r n + noes_at r n calls) (sym same))
   order (suc m) sits rest calls some u = let l = least rest (omega (arith, some)) in let u' = next sits rest u l in
       let fewer : total (rest' sits rest u l) ≡ m = omega (arith, total_set rest l.place l.call l.calls l.there, some) in
-      let go = order m (sits' sits rest u l) (rest' sits rest u l) (calls ++ l.call.deed.event ∷ []) fewer u' in
-      (turn sits rest u l ∷ go.0, go.1, (is_turn sits rest u l calls (hands (sits' sits rest u l) (rest' sits rest u l) u'), subst (λ (z : List Actor × Passed). InOrder z.0 z.1 go.0 (actors_of news) (passed_by rows news go.1)) (λ i. (actors_next sits rest u l i, passed_next sits rest u l calls i)) go.2),
-          λ r n. (let later = go.3 r n in let one = looked_next sits rest u l calls r n in let more = noes_more r n calls l.call.deed.event in omega (arith, later, one, more)))
+      let go = order m (sits' sits rest u l) (rest' sits rest u l) (calls ++ l.call.deed.event ∷ []) fewer u' in (
+        turn sits rest u l ∷ go.0,
+        go.1,
+        (is_turn sits rest u l calls (hands (sits' sits rest u l) (rest' sits rest u l) u'), subst (λ (z : List Actor × Passed). InOrder z.0 z.1 go.0 (actors_of news) (passed_by rows news go.1)) (λ i. (actors_next sits rest u l i, passed_next sits rest u l calls i)) go.2),
+        λ r n. (let later = go.3 r n in let one = looked_next sits rest u l calls r n in let more = noes_more r n calls l.call.deed.event in omega (arith, later, one, more)),
+      )
 
 -- at the start
 listed_by : (rows : List QueueRow) (olds : List Seated) (r : Role) (n : ℕ) (row : QueueRow) → slice_get rows n ≡ Some row → listed rows olds r n ≡ option_map_or (λ (y : Seated). entries_at y.seats r n) (slice_get olds (owner_of row r)) []

@@ -31,7 +31,6 @@ pub mod Crewing
 pub mod Built
 pub mod Quieting
 pub mod PoolsLemmas
-pub mod DropSeats
 pub mod Together
 pub mod Parting
 pub mod PastNames

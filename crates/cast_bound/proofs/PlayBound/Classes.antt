@@ -147,12 +147,12 @@ net_within plan trace m (with_net net place is stands few) =
     let b = stands.buffers in
     omega (arith, size, many, few, product, pool, buffers, s, p, b)
 
--- nor to the serial class's
-serial_within : (plan : Plan) (trace : Trace) (m : Moved) → SerialMoves plan trace m → sum_below (λ n. put_at m (serial_first plan.net + n)) (serial_many plan.serial) ≤ 3 * (length trace.input + sum_by length trace.says)
-serial_within plan trace m (without_serial none) =
+-- nor to the serial class's, with what is dropped there
+serial_within : (plan : Plan) (trace : Trace) (gone : ℕ) (m : Moved) → SerialMoves plan trace gone m → sum_below (λ n. put_at m (serial_first plan.net + n)) (serial_many plan.serial) + gone ≤ 3 * (length trace.input + sum_by length trace.says)
+serial_within plan trace gone m (without_serial none nothing) =
     let e : sum_below (λ n. put_at m (serial_first plan.net + n)) (serial_many plan.serial) ≡ 0 = ap (λ s. sum_below (λ n. put_at m (serial_first plan.net + n)) (serial_many s)) none in
-    omega (arith, e)
-serial_within plan trace m (with_serial serial class is stands has few) =
+    omega (arith, e, nothing)
+serial_within plan trace gone m (with_serial serial class is stands has few) =
     let size : sum_below (λ n. put_at m (serial_first plan.net + n)) (serial_many plan.serial) ≡ sum_below (λ n. put_at m (serial_first plan.net + n)) (4 + 2 * length serial.client) = ap (λ s. sum_below (λ n. put_at m (serial_first plan.net + n)) (serial_many s)) is in
     let all = put_all m (serial_first plan.net) (length serial.client) class stands in
     let i : length class.input ≡ length trace.input = ap length has.input in
@@ -171,14 +171,14 @@ blk_within plan trace m (with_blk blk is few) =
     let read : first_read_hops (option_map (λ (b : Blk). length b.client) plan.blk) ≡ 4 = ap (λ b. first_read_hops (option_map (λ (x : Blk). length x.client) b)) is in
     omega (arith, size, few, read)
 
-pub classes_within : (plan : Plan) (trace : Trace) (history : History) (journal : List Entry) → NetMoves plan trace (moved history journal) → SerialMoves plan trace (moved history journal) → BlkMoves plan trace (moved history journal) → all_sent history (queues_of plan) journal ≤ hops_of (counts_of plan trace)
-classes_within plan trace history journal net serial blk =
+pub classes_within : (plan : Plan) (trace : Trace) (history : History) (journal : List Entry) (gone : ℕ) → NetMoves plan trace (moved history journal) → SerialMoves plan trace gone (moved history journal) → BlkMoves plan trace (moved history journal) → all_sent history (queues_of plan) journal + gone ≤ hops_of (counts_of plan trace)
+classes_within plan trace history journal gone net serial blk =
     let f = put_at (moved history journal) in
     let many = length (option_map_or (blk_queues plan) plan.blk []) in
     let size : all_sent history (queues_of plan) journal ≡ sum_below f (blk_first plan + many) = ap (sum_below f) (rows_count plan) in
     let parts = sum_parts f (blk_first plan) many in
     let fronts = sum_parts f (serial_first plan.net) (serial_many plan.serial) in
     let a = net_within plan trace (moved history journal) net in
-    let b = serial_within plan trace (moved history journal) serial in
+    let b = serial_within plan trace gone (moved history journal) serial in
     let c = blk_within plan trace (moved history journal) blk in
     omega (arith, size, parts, fronts, a, b, c)

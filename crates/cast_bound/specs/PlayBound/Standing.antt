@@ -54,12 +54,12 @@ pub data NetMoves (plan : Plan) (trace : Trace) (m : Moved) : Type 0 where
       → net_put place.first (length place.macs) m ≤ net_moves place trace.frames
       → NetMoves plan trace m
 
--- and so of the serial class
-pub data SerialMoves (plan : Plan) (trace : Trace) (m : Moved) : Type 0 where
-  without_serial : plan.serial ≡ None → SerialMoves plan trace m
+-- and so of the serial class, with those entries that were dropped there
+pub data SerialMoves (plan : Plan) (trace : Trace) (gone : ℕ) (m : Moved) : Type 0 where
+  without_serial : plan.serial ≡ None → gone ≡ 0 → SerialMoves plan trace gone m
   with_serial : (serial : Serial) (class : SerialClass) → plan.serial ≡ Some serial
       → StandsFrom (serial_first plan.net) (length serial.client) class → Carries trace class
-      → serial_put class m ≤ 3 * serial_bytes class → SerialMoves plan trace m
+      → serial_put class m + gone ≤ 3 * serial_bytes class → SerialMoves plan trace gone m
 
 -- how many queues the serial class of a plan has
 abbrev pub serial_many : Option Serial → ℕ

@@ -211,9 +211,12 @@ module _ (rows : List QueueRow) (rings : List RingIs) (olds news : List Apart) (
     now_are = maps_same after (λ (x : Seated). x.actor) (λ (w : Way). w.other.actor) ws (λ w. refl) ∙ (sym (maps_same (λ (w : Way). w.other) (λ (p : Apart). p.actor) (λ (w : Way). w.other.actor) ws (λ w. refl)) ∙ (ap actors_apart news_are ∙ sym done.actors_are))
 
     in_order : (turns : List Turn) × (calls : List Event) × InOrder (actors_apart olds) nothing_passed turns actors (passed_of ended calls) × HaveLooked rows olds ended calls
-    in_order = let o = ordered rows begun now run in
-        (o.0, o.1, subst (λ (z : List Actor × List Actor × Passed). InOrder z.0 nothing_passed o.0 z.1 z.2) (λ i. (begun_are i, now_are i, passed_is o.1 i)) o.2,
-            λ r n. sym (looked_now r n) ∙ (o.3 r n ∙ ap (λ (m : ℕ). m + noes_at r n o.1) (looked_then r n)))
+    in_order = let o = ordered rows begun now run in (
+      o.0,
+      o.1,
+      subst (λ (z : List Actor × List Actor × Passed). InOrder z.0 nothing_passed o.0 z.1 z.2) (λ i. (begun_are i, now_are i, passed_is o.1 i)) o.2,
+      λ r n. sym (looked_now r n) ∙ (o.3 r n ∙ ap (λ (m : ℕ). m + noes_at r n o.1) (looked_then r n)),
+    )
 
   abbrev no_ends : Role → ℕ → End
   no_ends r n = no_end

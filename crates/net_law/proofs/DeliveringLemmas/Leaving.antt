@@ -8,24 +8,25 @@ use Rattle.net_law.specs.Delivering.{IsSubsequence}
 
 -- marks of what the first marks leave
 together : List Bool → List Bool → List Bool
-together [] as = as
-together (true ∷ bs) as = true ∷ together bs as
+together [] cs = cs
+together (true ∷ bs) cs = true ∷ together bs cs
 together (false ∷ bs) [] = false ∷ together bs []
-together (false ∷ bs) (a ∷ as) = a ∷ together bs as
+together (false ∷ bs) (a ∷ cs) = a ∷ together bs cs
 
-without-nil : {T : Type 0} (bs : List Bool) → without bs ([] : List T) ≡ []
+without-nil : {T : Type 0} (bs : List Bool) → without {X = T} bs [] ≡ []
 without-nil [] = refl
 without-nil (b ∷ bs) = refl
 
-twice_without : {T : Type 0} (as bs : List Bool) (zs : List T) → without (together bs as) zs ≡ without as (without bs zs)
-twice_without as [] zs = refl
-twice_without as (true ∷ bs) [] = sym (without-nil as)
-twice_without as (true ∷ bs) (z ∷ zs) = twice_without as bs zs
+twice_without : {T : Type 0} (cs bs : List Bool) (zs : List T) → without (together bs cs) zs ≡ without cs (without bs zs)
+unfolding together
+twice_without cs [] zs = refl
+twice_without cs (true ∷ bs) [] = sym (without-nil cs)
+twice_without cs (true ∷ bs) (z ∷ zs) = twice_without cs bs zs
 twice_without [] (false ∷ bs) [] = refl
-twice_without (a ∷ as) (false ∷ bs) [] = refl
+twice_without (a ∷ cs) (false ∷ bs) [] = refl
 twice_without [] (false ∷ bs) (z ∷ zs) = ap (λ l. z ∷ l) (twice_without [] bs zs)
-twice_without (true ∷ as) (false ∷ bs) (z ∷ zs) = twice_without as bs zs
-twice_without (false ∷ as) (false ∷ bs) (z ∷ zs) = ap (λ l. z ∷ l) (twice_without as bs zs)
+twice_without (true ∷ cs) (false ∷ bs) (z ∷ zs) = twice_without cs bs zs
+twice_without (false ∷ cs) (false ∷ bs) (z ∷ zs) = ap (λ l. z ∷ l) (twice_without cs bs zs)
 
 pub part_same : {T : Type 0} (xs : List T) → IsSubsequence xs xs
 part_same xs = ([], refl)
@@ -39,6 +40,7 @@ all_marked [] = []
 all_marked (x ∷ xs) = true ∷ all_marked xs
 
 none_left : {T : Type 0} (xs : List T) → without (all_marked xs) xs ≡ []
+unfolding all_marked
 none_left [] = refl
 none_left (x ∷ xs) = none_left xs
 
@@ -48,6 +50,7 @@ front_marks [] rest = all_marked rest
 front_marks (x ∷ xs) rest = false ∷ front_marks xs rest
 
 front_left : {T : Type 0} (xs rest : List T) → without (front_marks xs rest) (xs ++ rest) ≡ xs
+unfolding front_marks
 front_left [] rest = none_left rest
 front_left (x ∷ xs) rest = ap (λ l. x ∷ l) (front_left xs rest)
 
@@ -66,19 +69,18 @@ chosen_marks p [] ys = []
 chosen_marks p (b ∷ bs) [] = []
 chosen_marks p (b ∷ bs) (y ∷ ys) = cond (p y) (b ∷ chosen_marks p bs ys) (chosen_marks p bs ys)
 
+-- one element more
+one : {T : Type 0} (p : T → Bool) (b : Bool) (bs rest : List Bool) (y : T) (ys : List T) (q : Bool) → p y ≡ q → without rest (filter p ys) ≡ filter p (without bs ys) → without (cond q (b ∷ rest) rest) (cond q (y ∷ filter p ys) (filter p ys)) ≡ filter p (without (b ∷ bs) (y ∷ ys))
+one p true bs rest y ys true is all = all
+one p true bs rest y ys false is all = all
+one p false bs rest y ys true is all = rw is (ap (λ l. y ∷ l) all)
+one p false bs rest y ys false is all = rw is all
+
 chosen_left : {T : Type 0} (p : T → Bool) (bs : List Bool) (ys : List T) → without (chosen_marks p bs ys) (filter p ys) ≡ filter p (without bs ys)
+unfolding chosen_marks
 chosen_left p [] ys = refl
 chosen_left p (b ∷ bs) [] = refl
-chosen_left p (b ∷ bs) (y ∷ ys) = by b (p y) refl
-  where
-    rest : List Bool
-    rest = chosen_marks p bs ys
-
-    by : (c q : Bool) → p y ≡ q → without (cond q (c ∷ rest) rest) (cond q (y ∷ filter p ys) (filter p ys)) ≡ filter p (without (c ∷ bs) (y ∷ ys))
-    by true true is = chosen_left p bs ys
-    by true false is = chosen_left p bs ys
-    by false true is = rw is (ap (λ l. y ∷ l) (chosen_left p bs ys))
-    by false false is = rw is (chosen_left p bs ys)
+chosen_left p (b ∷ bs) (y ∷ ys) = one p b bs (chosen_marks p bs ys) y ys (p y) refl (chosen_left p bs ys)
 
 pub part_filter : {T : Type 0} (p : T → Bool) (xs ys : List T) → IsSubsequence xs ys → IsSubsequence (filter p xs) (filter p ys)
 part_filter p xs ys a = (chosen_marks p a.0 ys, chosen_left p a.0 ys ∙ ap (filter p) a.1)
