@@ -1,6 +1,6 @@
-use Rattle.std.proofs.Common.{ap, ◌≡◌, ℕ, refl, sym, ◌∙◌, subst}
+use Rattle.std.proofs.Common.{ap, ◌≡◌, ℕ, [], refl, sym, ◌∙◌, subst}
 use Rattle.wire_core.specs.Ends.{Role, Consumer, Producer, End}
-use Rattle.wire_core.specs.Lists.{Passed}
+use Rattle.wire_core.specs.Lists.{Passed, nothing_passed}
 use Rattle.turn_kit.specs.Table.{Agrees}
 use Rattle.pipe_driver.specs.Lengths.{two_pipes}
 use Rattle.eth_driver.specs.Four.{four_pipes}
@@ -10,7 +10,7 @@ use Rattle.wire_core.specs.declared.names.QueueId.{QueueId}
 use Rattle.turn_kit.specs.ManyEnds.{intake_queues}
 use Rattle.turn_kit.specs.declared.ends.Intake.{Intake}
 use Rattle.turn_kit.specs.declared.ends.Outlet.{Outlet}
-use Rattle.serial_virt.specs.Receiving.{FitsRx, RxEnd}
+use Rattle.serial_virt.specs.Receiving.{FitsRx, RxStandsFor, RxEnd}
 use Rattle.serial_virt.specs.declared.rx.SerialVirtRx.{SerialVirtRx}
 use Rattle.serial_virt.specs.Sending.{FitsTx, TxStandsFor, TxEnd}
 use Rattle.serial_virt.specs.declared.tx.SerialVirtTx.{SerialVirtTx}
@@ -19,7 +19,7 @@ use Rattle.actor_set.specs.Actors.{FitsActor, ActorStandsFor, ActorEnd, ActsAlik
 use Rattle.actor_set.specs.declared.actor.Actor.{Actor}
 use Rattle.actor_set.specs.declared.actor.Actor.TheVariants as Kinds
 use Rattle.actor_set.proofs.LawsLemmas.NetBeside.{fits_pipes, fits_device, fits_receiver, fits_copier, fits_client, stands_pipes, stands_device, stands_receiver, stands_copier, stands_client}
-use Rattle.actor_set.proofs.LawsLemmas.RxBeside.{stands_rx}
+use Rattle.actor_set.proofs.LawsLemmas.RxBeside.{stands_rx, rx_anew}
 use Rattle.actor_set.proofs.LawsLemmas.TxBeside.{fits_sender, stands_sender}
 use Rattle.actor_set.proofs.RogueLemmas.Ends.{fits_rogue, stands_rogue}
 use Rattle.actor_set.proofs.LawsLemmas.BlkBeside.{fits_disk, fits_server, fits_asker, stands_disk, stands_server, stands_asker}
@@ -86,20 +86,28 @@ module _ (passed passed' : Passed) where
   stands_tx : (v : SerialVirtTx) → ((n : ℕ) → TxEnd v Consumer n → passed'.taken n ≡ passed.taken n) → ((n : ℕ) → TxEnd v Producer n → passed'.sent n ≡ passed.sent n) → TxStandsFor v passed → TxStandsFor v passed'
   stands_tx v ins outs f = rw (outs v.output.queue.0 refl, map_alike (λ (q : QueueId). passed'.taken q.0) (λ (q : QueueId). passed.taken q.0) (intake_queues v.inputs) (λ k q at. ins q.0 (k, q, at, refl))) f
 
+  -- a receiving virtualiser of the serial class by itself, since it tells its calls
+  stands_by : (x : Actor) → IsWhole x → ((v : SerialVirtRx) → x ≡ Kinds.SerialVirtRx v → RxStandsFor v passed → RxStandsFor v passed') → ((n : ℕ) → ActorEnd x Consumer n → passed'.taken n ≡ passed.taken n) → ((n : ℕ) → ActorEnd x Producer n → passed'.sent n ≡ passed.sent n) → ActorStandsFor x passed → ActorStandsFor x passed'
+  stands_by (Kinds.UartDevice x) whole rx ins outs f = stands_terminal x.terminal (ins x.terminal.input.queue.0 refl) (outs x.terminal.output.queue.0 refl) f
+  stands_by (Kinds.SerialClient x) whole rx ins outs f = stands_terminal x.terminal (ins x.terminal.input.queue.0 refl) (outs x.terminal.output.queue.0 refl) f
+  stands_by (Kinds.SerialVirtRx x) whole rx ins outs f = rx x refl f
+  stands_by (Kinds.SerialVirtTx x) whole rx ins outs f = stands_tx x ins outs f
+  stands_by (Kinds.UartDriver x) whole rx ins outs f = stands_pipes passed passed' (two_pipes x.driver.pipes) ins outs f
+  stands_by (Kinds.EthDevice x) whole rx ins outs f = stands_device passed passed' x ins outs f
+  stands_by (Kinds.EthDriver x) whole rx ins outs f = stands_pipes passed passed' (four_pipes x.driver.pipes) ins outs f
+  stands_by (Kinds.NetVirtRx x) whole rx ins outs f = stands_receiver passed passed' x whole.from_each whole.to_each ins outs f
+  stands_by (Kinds.NetCopier x) whole rx ins outs f = stands_copier passed passed' x ins outs f
+  stands_by (Kinds.NetClient x) whole rx ins outs f = stands_client passed passed' x ins outs f
+  stands_by (Kinds.NetVirtTx x) whole rx ins outs f = stands_sender passed passed' x whole.from_each whole.to_each ins outs f
+  stands_by (Kinds.DiskDevice x) whole rx ins outs f = stands_disk passed passed' x.start.value x.device ins outs f
+  stands_by (Kinds.BlkDriver x) whole rx ins outs f = stands_pipes passed passed' (two_pipes x.driver.pipes) ins outs f
+  stands_by (Kinds.BlkVirt x) whole rx ins outs f = stands_server passed passed' x whole.from_each whole.to_each ins outs f
+  stands_by (Kinds.BlkClient x) whole rx ins outs f = stands_asker passed passed' x ins outs f
+  stands_by (Kinds.Rogue x) whole rx ins outs f = stands_rogue passed passed' x ins outs f
+
   pub stands_beside : (x : Actor) → IsWhole x → ActsAlike x passed.calls passed'.calls → ((n : ℕ) → ActorEnd x Consumer n → passed'.taken n ≡ passed.taken n) → ((n : ℕ) → ActorEnd x Producer n → passed'.sent n ≡ passed.sent n) → ActorStandsFor x passed → ActorStandsFor x passed'
-  stands_beside (Kinds.UartDevice x) whole same ins outs f = stands_terminal x.terminal (ins x.terminal.input.queue.0 refl) (outs x.terminal.output.queue.0 refl) f
-  stands_beside (Kinds.SerialClient x) whole same ins outs f = stands_terminal x.terminal (ins x.terminal.input.queue.0 refl) (outs x.terminal.output.queue.0 refl) f
-  stands_beside (Kinds.SerialVirtRx x) whole same ins outs f = stands_rx passed passed' x same ins outs f
-  stands_beside (Kinds.SerialVirtTx x) whole same ins outs f = stands_tx x ins outs f
-  stands_beside (Kinds.UartDriver x) whole same ins outs f = stands_pipes passed passed' (two_pipes x.driver.pipes) ins outs f
-  stands_beside (Kinds.EthDevice x) whole same ins outs f = stands_device passed passed' x ins outs f
-  stands_beside (Kinds.EthDriver x) whole same ins outs f = stands_pipes passed passed' (four_pipes x.driver.pipes) ins outs f
-  stands_beside (Kinds.NetVirtRx x) whole same ins outs f = stands_receiver passed passed' x whole.from_each whole.to_each ins outs f
-  stands_beside (Kinds.NetCopier x) whole same ins outs f = stands_copier passed passed' x ins outs f
-  stands_beside (Kinds.NetClient x) whole same ins outs f = stands_client passed passed' x ins outs f
-  stands_beside (Kinds.NetVirtTx x) whole same ins outs f = stands_sender passed passed' x whole.from_each whole.to_each ins outs f
-  stands_beside (Kinds.DiskDevice x) whole same ins outs f = stands_disk passed passed' x.start.value x.device ins outs f
-  stands_beside (Kinds.BlkDriver x) whole same ins outs f = stands_pipes passed passed' (two_pipes x.driver.pipes) ins outs f
-  stands_beside (Kinds.BlkVirt x) whole same ins outs f = stands_server passed passed' x whole.from_each whole.to_each ins outs f
-  stands_beside (Kinds.BlkClient x) whole same ins outs f = stands_asker passed passed' x ins outs f
-  stands_beside (Kinds.Rogue x) whole same ins outs f = stands_rogue passed passed' x ins outs f
+  stands_beside x whole same ins outs f = stands_by x whole (λ v is st. stands_rx passed passed' v (subst (λ y. ActsAlike y passed.calls passed'.calls) is same) (λ n own. ins n (subst (λ y. ActorEnd y Consumer n) (sym is) own)) (λ n own. outs n (subst (λ y. ActorEnd y Producer n) (sym is) own)) st) ins outs f
+
+-- where nothing passed at an actor's ends, by whichever calls, it stands for nothing
+pub stands_anew : (passed : Passed) (x : Actor) → IsWhole x → ((n : ℕ) → ActorEnd x Consumer n → passed.taken n ≡ []) → ((n : ℕ) → ActorEnd x Producer n → passed.sent n ≡ []) → ActorStandsFor x passed → ActorStandsFor x nothing_passed
+stands_anew passed x whole ins outs f = stands_by passed nothing_passed x whole (λ v is st. rx_anew passed v (λ n own. ins n (subst (λ y. ActorEnd y Consumer n) (sym is) own)) (λ n own. outs n (subst (λ y. ActorEnd y Producer n) (sym is) own)) st) (λ n own. sym (ins n own)) (λ n own. sym (outs n own)) f

@@ -1,5 +1,5 @@
 -- What the calls of others are to a receiving virtualiser of the serial class: nothing.
-use Rattle.std.proofs.Common.{◌≡◌, ◌==◌, ◌&&◌, ◌+◌, nat_lt, ℕ, Bool, true, false, cond, Some, List, [], ◌∷◌, ◌++◌, flat_map, length, slice_get, refl, sym, ap, ◌∙◌, subst}
+use Rattle.std.proofs.Common.{◌≡◌, ◌==◌, ◌&&◌, ◌+◌, nat_lt, ℕ, Bool, true, false, cond, Some, List, [], ◌∷◌, ◌++◌, flat_map, length, map, slice_get, refl, sym, ap, ◌∙◌, subst}
 use Rattle.std.specs.List.{filter}
 use Rattle.std.proofs.lemmas.Bool.{and_parts, eqb-true}
 use Rattle.std.proofs.lemmas.List.Concat.{flat_map-append}
@@ -12,13 +12,14 @@ use Rattle.wire_core.specs.declared.names.QueueId.{QueueId}
 use Rattle.wire_core.specs.Bells.{bit}
 use Rattle.wire_core.specs.Deeds.{Cargo}
 use Rattle.wire_core.specs.Ends.{Role, Consumer, Producer, role_of}
-use Rattle.wire_core.specs.Fates.{Word, Came, Served, Refused, Other, Fate, is_take, is_take_at, is_vain_at, noes_at}
-use Rattle.wire_core.specs.Lists.{Passed}
+use Rattle.wire_core.specs.Fates.{Word, Came, Served, Refused, Other, Fate, is_take, is_take_at, is_vain_at, noes_at, without}
+use Rattle.wire_core.specs.Lists.{Passed, nothing_passed}
 use Rattle.wire_core.specs.Marks.{is_role, is_vain_look}
 use Rattle.wire_core.specs.Queues.{is_store}
 use Rattle.wire_core.proofs.Reasons.{fate_own}
 use Rattle.turn_kit.specs.ManyEnds.{outlet_queues}
-use Rattle.serial_switch.specs.Carried.{bytes_carried}
+use Rattle.serial_switch.specs.Carried.{byte_cargo, bytes_carried}
+use Rattle.serial_switch.specs.Standing.{StandsAfter}
 use Rattle.serial_switch.specs.Switching.{input_of}
 use Rattle.serial_virt.specs.Shares.{Taker, is_put, is_put_at, byte_told, heard, serial_word, byte_fate, ClientStands}
 use Rattle.serial_virt.specs.Receiving.{RxStandsFor, RxEnd, clients_of, policy_of, taker_of, owed_to}
@@ -175,3 +176,22 @@ module _ (passed passed' : Passed) where
     where
       sounds : heard v.input.queue.0 passed'.calls ≡ heard v.input.queue.0 passed.calls
       sounds = heard_own v same.own same.others passed'.calls ∙ (ap (heard v.input.queue.0) same.same ∙ sym (heard_own v same.own same.others passed.calls))
+
+-- nothing is left of nothing
+none_left : (bs : List Bool) → without {X = ℕ} bs [] ≡ []
+none_left [] = refl
+none_left (b ∷ bs) = refl
+
+-- where nothing passed at its ends, nothing is owed, by whichever calls
+pub rx_anew : (passed : Passed) (v : SerialVirtRx) → ((n : ℕ) → RxEnd v Consumer n → passed.taken n ≡ []) → ((n : ℕ) → RxEnd v Producer n → passed.sent n ≡ []) → RxStandsFor v passed → RxStandsFor v nothing_passed
+rx_anew passed v ins outs f = record {
+  switched = subst (λ cs. StandsAfter (clients_of v) (bytes_carried cs) v.switch) (ins v.input.queue.0 refl) f.switched;
+  to = f.to;
+  told = λ k drops. refl;
+  clients = λ k q at.
+      let gone = (byte_fate v.input.queue.0 (taker_of v k q) passed.calls).dropped in
+      let given = (f.clients k q at).given in
+      let none : passed.sent q.0 ++ owed_to v.load v.to k ≡ [] = given ∙ (ap (λ cs. map byte_cargo (without gone (input_of (clients_of v) k (bytes_carried cs)))) (ins v.input.queue.0 refl) ∙ ap (map byte_cargo) (none_left gone)) in
+      let owed : owed_to v.load v.to k ≡ [] = sym (ap (λ cs. cs ++ owed_to v.load v.to k) (outs q.0 (k, q, at, refl))) ∙ none in
+      record { given = owed; tells = λ drops. record { came = refl; waits = sym (ap length owed); each = refl } };
+}
