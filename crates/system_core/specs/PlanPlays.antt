@@ -49,8 +49,8 @@ use Rattle.system_core.specs.declared.system.Ending.TheVariants as Ends
 -- what the serial clients of a plan say: each its script, but a hostile one all the bytes that the
 -- sending virtualiser took of it
 abbrev pub serial_says : Plan → Trace → Serial → Moved → List (List ℕ)
-serial_says plan trace serial m =
-    said_beside (is_serial_rogue plan) (class_of plan trace serial) m
+serial_says plan trace serial m = said_beside (is_serial_rogue plan)
+    (class_of plan trace serial) m
 
 -- each serial client of a plan recorded a beginning of its part of the input without what is marked
 -- of it as dropped, and a hostile one nothing; and what was sent on the line is a merge of
