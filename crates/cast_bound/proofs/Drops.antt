@@ -78,12 +78,13 @@ gone_is : (m : Moved) (all ds : List Bool) (c : ℕ) (qs : List ℕ) → ((k : �
 gone_is m all ds c [] same = omega arith
 gone_is m all [] c (q ∷ qs) same = omega arith
 gone_is m all (true ∷ ds) c (q ∷ qs) same =
-    let rest = gone_is m all ds (c + 1) qs (λ k. ap (policy_at all) (omega arith) ∙ same (suc k)) in
-    let policy : policy_at all c ≡ true = ap (policy_at all) (omega arith) ∙ same 0 in
+    let rest = gone_is m all ds (c + 1) qs (λ k. let n : c + 1 + k ≡ c + suc k = omega arith in ap (policy_at all) n ∙ same (suc k)) in
+    let n : c ≡ c + 0 = omega arith in
+    let policy : policy_at all c ≡ true = ap (policy_at all) n ∙ same 0 in
     let first : gone_at (policy_at all c) m Producer q ≡ m.noes Producer q = ap (λ b. cond b (m.noes Producer q) 0) policy in
     omega (arith, rest, first)
 gone_is m all (false ∷ ds) c (q ∷ qs) same =
-    let rest = gone_is m all ds (c + 1) qs (λ k. ap (policy_at all) (omega arith) ∙ same (suc k)) in
+    let rest = gone_is m all ds (c + 1) qs (λ k. let n : c + 1 + k ≡ c + suc k = omega arith in ap (policy_at all) n ∙ same (suc k)) in
     omega (arith, rest)
 
 -- a cast that drops at the ends of the serial class alone drops no more than that class
@@ -91,7 +92,7 @@ pub serial_dropped : (cast : List Part) (c : SerialClass) (history : History) (j
 serial_dropped cast c history journal only =
     let a = dropped_less (drops_in cast) (drops_at (serial_seats c)) journal (in_seats cast (serial_seats c) only) in
     let b = drops_within (serial_seats c) history journal in
-    let d = gone_is (moved history journal) c.drops c.drops 0 c.client_rx (λ k. ap (policy_at c.drops) (omega arith)) in
+    let d = gone_is (moved history journal) c.drops c.drops 0 c.client_rx (λ k. let n : 0 + k ≡ k = omega arith in ap (policy_at c.drops) n) in
     omega (arith, a, b, d)
 
 -- a cast that drops nowhere drops nothing
