@@ -1,5 +1,5 @@
 -- What the calls of others are to a receiving virtualiser of the serial class: nothing.
-use Rattle.std.proofs.Common.{◌≡◌, ◌==◌, ◌&&◌, ◌+◌, nat_lt, ℕ, Bool, true, false, cond, Some, List, [], ◌∷◌, ◌++◌, flat_map, length, map, slice_get, refl, sym, ap, ◌∙◌, subst}
+use Rattle.std.proofs.Common.{◌≡◌, ◌==◌, ◌&&◌, ◌+◌, nat_lt, ℕ, Bool, true, false, cond, Some, List, [], ◌∷◌, ◌++◌, flat_map, length, map, slice_get, refl, sym, ap, ◌∙◌, subst, arith}
 use Rattle.std.specs.List.{filter}
 use Rattle.std.proofs.lemmas.Bool.{and_parts, eqb-true}
 use Rattle.std.proofs.lemmas.List.Concat.{flat_map-append}
@@ -117,13 +117,16 @@ module _ (v : SerialVirtRx) (own : Event → Bool) (others : (e : Event) → own
         let r = and_parts (is_role (role_of e.op) Producer) (e.queue.0 == q.0) p.1 in
         not_other Producer q.0 (k, q, at, refl) e not_own (role_same (role_of e.op) Producer r.0) (eqb-true e.queue.0 q.0 r.1) (vain_plain e.op e.answer p.0))
 
+    nothing : (n : ℕ) → bit false + n ≡ n
+    nothing n = omega arith
+
     noes_own : (es : List Event) → noes_at Producer q.0 es ≡ noes_at Producer q.0 (filter own es)
     noes_own [] = refl
     noes_own (e ∷ es) = by (own e) refl (noes_own es)
       where
         by : (b : Bool) → own e ≡ b → noes_at Producer q.0 es ≡ noes_at Producer q.0 (filter own es) → noes_at Producer q.0 (e ∷ es) ≡ noes_at Producer q.0 (filter own (e ∷ es))
         by true o h = ap (λ n. bit (is_vain_at Producer q.0 e) + n) h ∙ ap (λ b. noes_at Producer q.0 (cond b (e ∷ filter own es) (filter own es))) (sym o)
-        by false o h = ap (λ b. bit b + noes_at Producer q.0 es) (no_vain e o) ∙ (h ∙ ap (λ b. noes_at Producer q.0 (cond b (e ∷ filter own es) (filter own es))) (sym o))
+        by false o h = ap (λ b. bit b + noes_at Producer q.0 es) (no_vain e o) ∙ (nothing (noes_at Producer q.0 es) ∙ (h ∙ ap (λ b. noes_at Producer q.0 (cond b (e ∷ filter own es) (filter own es))) (sym o)))
 
     abbrev t : Taker
     t = taker_of v k q
