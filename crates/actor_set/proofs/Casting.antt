@@ -1,4 +1,4 @@
-use Rattle.std.proofs.Common.{◌-◌, ◌<◌, ◌≤◌, ◌^◌, ℕ, Option, Some, None, Result, Ok, Err, IfOk, List, length, ap, ◌∙◌, subst, ◌≡◌, arith}
+use Rattle.std.proofs.Common.{◌-◌, ◌<◌, ◌≤◌, ◌^◌, ℕ, Option, Some, None, Result, Ok, Err, IfOk, Bool, List, [], ◌∷◌, length, ap, ◌∙◌, subst, ◌≡◌, arith}
 use Rattle.std.proofs.lemmas.List.{length-map}
 use Rattle.cargo_core.specs.declared.memory.Memory.{Memory}
 use Rattle.wire_core.specs.declared.names.Event.{Event}
@@ -36,7 +36,9 @@ use Rattle.client_programs.specs.Blk.Clients.{BlkClientStandsFor, BlkClientRow, 
 use Rattle.client_programs.specs.declared.blk.BlkClient.{BlkClient}
 use Rattle.client_programs.specs.Rogue.Clients.{RogueStandsFor, RogueBalances}
 use Rattle.client_programs.specs.declared.rogue.Rogue.{Rogue}
-use Rattle.actor_set.specs.Actors.{ActorStandsFor, ActorRow, ActorBalances, HasFewClients, HasFirst}
+use Rattle.wire_core.specs.declared.names.QueueId.{QueueId}
+use Rattle.actor_set.specs.Parts.{Part, RxPart}
+use Rattle.actor_set.specs.Actors.{numbers, part_of, ActorStandsFor, ActorRow, ActorBalances, HasFewClients, HasFirst}
 use Rattle.actor_set.specs.declared.actor.Actor.{Actor}
 use Rattle.actor_set.specs.declared.actor.Actor.TheVariants as Kinds
 

@@ -1,9 +1,10 @@
 -- The serial class of a system: what arrives at its clients and on the line.
-use Rattle.std.proofs.Common.{◌≡◌, ◌≤◌, ◌+◌, ℕ, Some, List, [], length, slice_get, refl, sym, ◌∙◌, subst, arith}
+use Rattle.std.proofs.Common.{◌≡◌, ◌≤◌, ◌+◌, ℕ, Some, List, [], length, slice_get, refl, sym, ap, ◌∙◌, subst, arith}
 use Rattle.std.proofs.lemmas.List.{length-map}
 use Rattle.wire_core.specs.declared.names.QueueRow.{QueueRow}
 use Rattle.wire_core.specs.declared.names.Entry.{Entry}
-use Rattle.wire_core.specs.Journal.{History, Hostiles, EachMoment, BellsHold, QueuesFlow}
+use Rattle.wire_core.specs.Journal.{History, Hostiles, EachMoment, BellsHold, QueuesFlow, Track}
+use Rattle.wire_core.proofs.BellTheorem.{start_is}
 use Rattle.sdf_plan.specs.declared.plan.Plan.{Plan}
 use Rattle.sdf_plan.specs.declared.plan.Serial.{Serial}
 use Rattle.trace_text.specs.declared.trace.Trace.{Trace}
@@ -11,7 +12,8 @@ use Rattle.trace_text.specs.Traces.{IsReadFor}
 use Rattle.trace_text.specs.Events.{is_serial_rogue}
 use Rattle.serial_switch.specs.Switching.{input_of}
 use Rattle.cast_core.specs.Sources.{first_serial}
-use Rattle.play_core.specs.Moved.{Moved, moved}
+use Rattle.play_core.specs.Looks.{events_of}
+use Rattle.play_core.specs.Moved.{Moved, moved, taken}
 use Rattle.play_core.specs.Manners.{Calm}
 use Rattle.play_core.specs.Names.{Names, Wild, told_by, wild_in}
 use Rattle.play_core.specs.Wants.{Needful}
@@ -21,6 +23,7 @@ use Rattle.play_core.proofs.Moments.{last_moment, each_moment}
 use Rattle.play_core.proofs.Quieting.{quiet_still}
 use Rattle.play_core.proofs.Tables.{plays_there}
 use Rattle.serial_law.specs.Parts.{SerialPart, SerialDevice, SerialDriver, SerialReceiver, SerialSender, SerialClient}
+use Rattle.serial_law.specs.Bytes.{bytes_in}
 use Rattle.serial_law.specs.Table.{Marks, SharesOut, serial_sheet}
 use Rattle.serial_law.specs.Serial.{SerialClass, IsSerial, ArrivesWhole}
 use Rattle.serial_law.specs.Beside.{Rogues, IsSerialBeside, ArrivesBeside}
@@ -32,10 +35,11 @@ use Rattle.actor_set.proofs.LawsLemmas.Calm.{calm_at}
 use Rattle.system_core.specs.Shows.{Shown, hostile_in, manner_in, moved_in, sheet_in, RowsStand}
 use Rattle.system_core.specs.Plays.{runnable_now}
 use Rattle.system_core.specs.Lawful.{StandsLawful}
-use Rattle.system_core.specs.Builds.{IsCastOf, class_of}
+use Rattle.system_core.specs.Builds.{BeginsAnew, IsCastOf, class_of}
 use Rattle.system_core.specs.Dropped.{DropsAsMany, MarksStand, calls_by, dropped_by}
 use Rattle.system_core.specs.GivesBack.{SerialGivesBack}
 use Rattle.system_core.specs.PlanPlays.{ShowsInPart, ShowsWhole, serial_says}
+use Rattle.system_core.proofs.Anew.{marks_anew}
 use Rattle.system_core.proofs.Scripts.{scripts_length}
 use Rattle.system_core.proofs.Casting.{HasSerial, has_serial}
 use Rattle.system_core.proofs.Begun.{There, serial_beside, serial_there, shows_in_part, shows_whole}
@@ -172,6 +176,13 @@ module _ (plan : Plan) (trace : Trace) (read : IsReadFor plan trace) (s : Shown)
 
   pub serial_drops_so : LawBeside → EachMoment (λ j. DropsAsMany class (dropped j) (moved_in s.setting j)) s.journal
   serial_drops_so law = as_many s stands class (is_serial_rogue plan) class_beside law
+
+  -- where nothing happened before the journal begins, its own calls tell all that was dropped
+  pub serial_anew : BeginsAnew s.setting → (j : List Entry) (c : ℕ) → dropped j c ≡ dropped_by class (events_of j) c
+  serial_anew begins j c =
+      let receiver = class_beside.receiver in
+      let nothing : bytes_in (taken s.setting.history class.rx []) ≡ [] = ap (λ (h : History). bytes_in (taken h class.rx [])) begins ∙ ap (λ (t : Track). bytes_in t.taken) (start_is s.setting.rows class.rx) in
+      marks_anew class.rx class.client_rx class.drops stands.calls.past (events_of j) c (λ on. stands.calls.hears receiver.0 class.rx class.client_rx class.drops receiver.1 c on ∙ nothing)
 
   pub serial_shows : LawBeside → ShowsInPart plan trace serial (dropped s.journal) (moved_in s.setting s.journal) s.state
   serial_shows law = shows_in_part plan serial trace s class_is says stands.told (dropped s.journal) (arrives_now s stands class (is_serial_rogue plan) class_beside law)

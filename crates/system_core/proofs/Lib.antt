@@ -2,6 +2,7 @@
 pub mod Telling
 pub mod Growing
 pub mod Hosts
+pub mod Anew
 pub mod Marking
 pub mod Dropping
 pub mod SystemStep
@@ -30,7 +31,6 @@ pub mod Crewing
 pub mod Built
 pub mod Quieting
 pub mod PoolsLemmas
-pub mod DropSeats
 pub mod Together
 pub mod Parting
 pub mod PastNames

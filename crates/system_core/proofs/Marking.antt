@@ -1,12 +1,16 @@
 -- What was dropped of the bytes for serial clients is what the calls tell.
-use Rattle.std.proofs.Common.{◌≡◌, ◌+◌, ◌++◌, ℕ, Bool, Some, List, [], ◌∷◌, map, slice_get, refl, sym, ap, ◌∙◌, subst, append_assoc, arith}
+use Rattle.std.proofs.Common.{◌≡◌, ◌+◌, ◌++◌, ℕ, Bool, true, Some, List, [], ◌∷◌, map, slice_get, refl, sym, ap, ◌∙◌, subst, append_assoc, arith}
 use Rattle.std.proofs.lemmas.List.{append-nil, map-append}
 use Rattle.wire_core.specs.declared.names.Entry.{Entry}
 use Rattle.wire_core.specs.declared.names.Event.{Event}
 use Rattle.wire_core.specs.Ends.{Role, Producer}
 use Rattle.wire_core.specs.Fates.{noes_at}
 use Rattle.wire_core.specs.Journal.{EachMoment, History, history_at}
+use Rattle.wire_core.specs.Deeds.{Cargo}
 use Rattle.wire_core.specs.Lists.{Passed}
+use Rattle.wire_core.specs.Queues.{items_of}
+use Rattle.serial_switch.specs.Carried.{byte_of, bytes_carried}
+use Rattle.serial_virt.specs.Shares.{heard, policy_at}
 use Rattle.wire_core.proofs.Tracks.{EachFrom-append}
 use Rattle.serial_virt.specs.declared.rx.SerialVirtRx.{SerialVirtRx}
 use Rattle.serial_virt.specs.Receiving.{RxStandsFor}
@@ -16,6 +20,7 @@ use Rattle.play_core.specs.Moved.{Moved, moved, noes_of}
 use Rattle.play_core.proofs.Looking.{track_looks}
 use Rattle.play_core.specs.Rests.Showing.{HaveItems}
 use Rattle.play_core.proofs.Lists.{map_from}
+use Rattle.serial_law.specs.Bytes.{bytes_in}
 use Rattle.serial_law.specs.Table.{SharesOut}
 use Rattle.serial_law.specs.Dropped.{client_queues, told_marks}
 use Rattle.serial_law.proofs.Telling.{told_shares}
@@ -64,6 +69,35 @@ module _ (passed : Passed) (m : Moved) (items : HaveItems passed m) where
   pub marks_at : (actors : List Actor) → ((k : ℕ) (x : Actor) → slice_get actors k ≡ Some x → ActorStandsFor x passed) → (k rx : ℕ) (clients : List ℕ) (drops : List Bool) → slice_get (map part_of actors) k ≡ Some (RxPart rx clients drops) → SharesOut (told_marks rx clients drops passed.calls) drops rx clients m
   marks_at actors stands k rx clients drops at = let y = map_from part_of actors k (RxPart rx clients drops) at in by_part rx clients drops y.0 (stands k y.0 y.1) y.2
 
+-- the bytes that entries carry are those of their items
+carried : (cs : List Cargo) → bytes_carried cs ≡ bytes_in (items_of cs)
+carried [] = refl
+carried (c ∷ cs) = ap (λ bs. byte_of c.0 ++ bs) (carried cs)
+
+-- what was taken at a virtualiser's input the calls tell, where it may drop
+hears_at : (passed : Passed) (m : Moved) → HaveItems passed m → (rx : ℕ) (clients : List ℕ) (drops : List Bool) (x : Actor) → ActorStandsFor x passed → part_of x ≡ RxPart rx clients drops → (c : ℕ) → policy_at drops c ≡ true → heard rx passed.calls ≡ bytes_in (m.taken rx)
+hears_at passed m items rx clients drops (Kinds.SerialVirtRx v) st is c on =
+    subst (λ (z : ℕ × List Bool). policy_at z.1 c ≡ true → heard z.0 passed.calls ≡ bytes_in (m.taken z.0)) (two (v.input.queue.0, client_queues v, v.drops.items) (rx, clients, drops) is)
+    (λ drops_it. st.told c drops_it ∙ (carried (passed.taken v.input.queue.0) ∙ ap bytes_in (items.taken v.input.queue.0))) on
+  where
+    two : (a b : RxIs) → RxPart a.0 a.1 a.2 ≡ RxPart b.0 b.1 b.2 → (a.0, a.2) ≡ (b.0, b.2)
+    two a b e = cc
+hears_at passed m items rx clients drops (Kinds.UartDevice x) st is c on = cc
+hears_at passed m items rx clients drops (Kinds.UartDriver x) st is c on = cc
+hears_at passed m items rx clients drops (Kinds.SerialVirtTx x) st is c on = cc
+hears_at passed m items rx clients drops (Kinds.SerialClient x) st is c on = cc
+hears_at passed m items rx clients drops (Kinds.EthDevice x) st is c on = cc
+hears_at passed m items rx clients drops (Kinds.EthDriver x) st is c on = cc
+hears_at passed m items rx clients drops (Kinds.NetVirtRx x) st is c on = cc
+hears_at passed m items rx clients drops (Kinds.NetCopier x) st is c on = cc
+hears_at passed m items rx clients drops (Kinds.NetClient x) st is c on = cc
+hears_at passed m items rx clients drops (Kinds.NetVirtTx x) st is c on = cc
+hears_at passed m items rx clients drops (Kinds.DiskDevice x) st is c on = cc
+hears_at passed m items rx clients drops (Kinds.BlkDriver x) st is c on = cc
+hears_at passed m items rx clients drops (Kinds.BlkVirt x) st is c on = cc
+hears_at passed m items rx clients drops (Kinds.BlkClient x) st is c on = cc
+hears_at passed m items rx clients drops (Kinds.Rogue x) st is c on = cc
+
 -- where a journal begins all calls were made before it
 pub told_anew : (history : History) (actors : List Actor) (passed : Passed) → HaveItems passed (moved history []) → ((k : ℕ) (x : Actor) → slice_get actors k ≡ Some x → ActorStandsFor x passed) → HaveTold history (map part_of actors) [] passed.calls
 told_anew history actors passed items stands =
@@ -71,6 +105,7 @@ told_anew history actors passed items stands =
       past = passed.calls;
       calls_are = all;
       marks = (λ k rx clients drops at. subst (λ (es : List Event). SharesOut (told_marks rx clients drops es) drops rx clients (moved history [])) all (marks_at passed (moved history []) items actors stands k rx clients drops at), tt);
+      hears = λ k rx clients drops at. let y = map_from part_of actors k (RxPart rx clients drops) at in hears_at passed (moved history []) items rx clients drops y.0 (stands k y.0 y.1) y.2;
     }
 
 -- and each call is one of its own
@@ -87,6 +122,7 @@ told_more history cast journal calls e told actors same passed more items stands
             subst (λ (es : List Event). SharesOut (told_marks rx clients drops es) drops rx clients (moved history (journal ++ e ∷ []))) all
             (marks_at passed (moved history (journal ++ e ∷ [])) items actors stands k rx clients drops (ap (λ (c : List Part). slice_get c k) same ∙ at))),
       );
+      hears = λ k rx clients drops at. told.hears k rx clients drops (ap (λ (c : List Part). slice_get c k) (sym same) ∙ at);
     }
 
 -- two lists of calls looked in vain as often as each of them

@@ -23,7 +23,7 @@ use Rattle.client_programs.specs.Rogue.Acts.{Left}
 use Rattle.client_programs.specs.Rogue.Clients.{left_at_start, left_of}
 use Rattle.play_core.specs.Manners.{Calm}
 use Rattle.actor_set.proofs.LawsLemmas.Rounds.{anew_is, calm_or_rogue}
-use Rattle.actor_set.proofs.LawsLemmas.Beside.{stands_beside}
+use Rattle.actor_set.proofs.LawsLemmas.Beside.{stands_anew}
 use Rattle.actor_set.proofs.LawsLemmas.Starts.{fits_whole}
 use Rattle.actor_set.proofs.LawsLemmas.PartEnds.{to_part, end_seat}
 use Rattle.order_law.specs.ActorParts.Ready.{AreReady}
@@ -70,7 +70,7 @@ module _ (a : Inside) (i : IsSystem a) (anew : (setting_of a).history ≡ start_
   pub are_ready : AreReady a.rows.items a.actors.items
   are_ready = record {
     fits = λ k x at. subst (λ (e : Role → ℕ → End). FitsActor e x) (start_ends a.rows.items a.wires.world a.actors.items (setting_of a).names holds) (holds.fits k x at);
-    stands = λ k x at. stands_beside holds.passed nothing_passed x (whole k x at) (λ n e. sym (none_taken a.rows.items a.wires.world a.actors.items (setting_of a).names holds n)) (λ n e. sym (none_sent a.rows.items a.wires.world a.actors.items (setting_of a).names holds n)) (holds.stands k x at);
+    stands = λ k x at. stands_anew holds.passed x (whole k x at) (λ n e. none_taken a.rows.items a.wires.world a.actors.items (setting_of a).names holds n) (λ n e. none_sent a.rows.items a.wires.world a.actors.items (setting_of a).names holds n) (holds.stands k x at);
     owners = λ k x at r n own.
         let e = end_seat (scene_of (map part_of a.actors.items)) (part_of x) r n (to_part x r n (whole k x at) own) in
         i.fitted.seated k (part_of x) (map_get part_of a.actors.items k x at) e.0 (record { queue = n; role = r }) e.1;

@@ -43,7 +43,8 @@ use Rattle.actor_set.specs.Laws.Scenes.{ToldInTurn}
 use Rattle.system_core.specs.Systems.{Holds}
 use Rattle.actor_set.specs.declared.actor.Actor.{Actor}
 use Rattle.actor_set.specs.declared.actor.Actor.TheVariants as Kinds
-use Rattle.actor_set.proofs.LawsLemmas.Beside.{alike_more, fits_beside, stands_beside}
+use Rattle.actor_set.proofs.LawsLemmas.Alike.{alike_more}
+use Rattle.actor_set.proofs.LawsLemmas.Beside.{fits_beside, stands_beside}
 use Rattle.actor_set.proofs.LawsLemmas.PartEnds.{same_part}
 use Rattle.actor_set.proofs.LawsLemmas.Starts.{fits_whole}
 use Rattle.wired_law.specs.Wiring.{IsWired, AreAtWork, ClientsSend}

@@ -29,7 +29,7 @@ use Rattle.system_core.proofs.Bounded.{bounded}
 use Rattle.system_core.proofs.Replying.{shows_replies}
 use Rattle.system_core.proofs.PoolsLemmas.Placing.{cast_calm}
 use Rattle.system_core.proofs.PoolsLemmas.Showing.{tells_owners}
-use Rattle.system_core.proofs.Arriving.{LawBeside, LawWhole, class_there, serial_arrives, serial_drops_so, serial_scripts, serial_shows, serial_whole}
+use Rattle.system_core.proofs.Arriving.{LawBeside, LawWhole, class_there, serial_anew, serial_arrives, serial_drops_so, serial_scripts, serial_shows, serial_whole}
 use Rattle.system_core.proofs.Marking.{past_looks}
 
 -- a system of a plan and a trace, whatever its queues had before its journal begins
@@ -47,6 +47,7 @@ module _ (plan : Plan) (trace : Trace) (valid : Valid plan) (read : IsReadFor pl
     arrives = λ serial has. serial_arrives plan trace read s cast_is stands serial has beside;
     drops = λ serial has. serial_drops_so plan trace read s cast_is stands serial has beside;
     past = past_looks s stands;
+    anew = λ begins serial has. serial_anew plan trace read s cast_is stands serial has begins;
     shows = λ serial has. serial_shows plan trace read s cast_is stands serial has beside;
     scripts = λ gives serial has. serial_scripts plan trace read s cast_is stands serial has gives;
     shows_net = λ net has. shows_frames plan net trace s cast_is has stands.told;

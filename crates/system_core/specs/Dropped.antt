@@ -1,14 +1,15 @@
 -- What was dropped of the bytes for serial clients, as calls tell it: those that were made before
 -- the journal begins, and those of the journal.
-use Rattle.std.specs.Prelude.{◌≡◌, ◌++◌, ℕ, Bool, Some, List, slice_get}
+use Rattle.std.specs.Prelude.{◌≡◌, ◌++◌, ℕ, Bool, true, Some, List, [], slice_get}
 use Rattle.wire_core.specs.declared.names.Entry.{Entry}
 use Rattle.wire_core.specs.declared.names.Event.{Event}
 use Rattle.wire_core.specs.Ends.{Producer}
 use Rattle.wire_core.specs.Fates.{marked}
 use Rattle.wire_core.specs.Journal.{EachMoment, History}
-use Rattle.serial_virt.specs.Shares.{policy_at}
+use Rattle.serial_virt.specs.Shares.{heard, policy_at}
 use Rattle.play_core.specs.Looks.{events_of}
-use Rattle.play_core.specs.Moved.{Moved, gone_at, moved}
+use Rattle.play_core.specs.Moved.{Moved, gone_at, moved, taken}
+use Rattle.serial_law.specs.Bytes.{bytes_in}
 use Rattle.serial_law.specs.Table.{Marks, SharesOut}
 use Rattle.serial_law.specs.Dropped.{told_marks}
 use Rattle.serial_law.specs.Serial.{SerialClass}
@@ -33,6 +34,11 @@ pub record HaveTold (history : History) (cast : List Part) (journal : List Entry
   pub past : List Event
   pub calls_are : calls ≡ calls_by past journal
   pub marks : EachMoment (MarksStand history cast past) journal
+  -- where bytes for some client may be dropped, the calls before the journal begins took at its
+  -- virtualiser's input what the history tells
+  pub hears : (k rx : ℕ) (clients : List ℕ) (drops : List Bool)
+      → slice_get cast k ≡ Some (RxPart rx clients drops) → (c : ℕ) → policy_at drops c ≡ true
+      → heard rx past ≡ bytes_in (taken history rx [])
 
 -- of each client's part of the input, byte by byte, whether it was dropped, as these calls tell
 abbrev pub dropped_by : SerialClass → List Event → Marks

@@ -1,7 +1,8 @@
 -- The definitions of a system at play: what it shows (Shows, Reports, Crews, Pools), what holds of
--- it (Lawful, BadOnes, Dropped), how it is built and played (Builds, Plays, PlanPlays), in which classes all
--- arrives (GivesBack), how it takes over what threads left (Adopting), what two of them have to
--- agree in (Isolation), and inside, what it keeps (Asking, States, Starts, Systems, Inside).
+-- it (Lawful, BadOnes, Dropped), how it is built and played (Builds, Plays, PlanPlays), in which
+-- classes all arrives (GivesBack), how it takes over what threads left (Adopting), what two of them
+-- have to agree in (Isolation), and inside, what it keeps (Asking, States, Starts, Systems,
+-- Inside).
 pub mod Shows
 pub mod Plays
 pub mod Reports

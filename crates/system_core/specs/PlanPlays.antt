@@ -2,6 +2,7 @@
 -- all that a caller learns of it.
 use Rattle.std.specs.Prelude.{◌≡◌, ◌+◌, ◌<◌, ◌≤◌, ℕ, Bool, true, Some, List, [], length, slice_get}
 use Rattle.cargo_core.specs.Lists.{IsPrefix, Merge, PrefixMerge}
+use Rattle.wire_core.specs.declared.names.Entry.{Entry}
 use Rattle.wire_core.specs.Ends.{Role}
 use Rattle.wire_core.specs.Fates.{marked, noes_at, without}
 use Rattle.wire_core.specs.Picks.{PickedFrom}
@@ -15,6 +16,7 @@ use Rattle.net_law.specs.TxParts.Numbers.{NetPlace}
 use Rattle.net_quiet.specs.TxCast.Casting.{sends_at, sends_beside, wire_beside}
 use Rattle.cast_core.specs.Casts.{net_place, blk_place}
 use Rattle.cast_core.specs.Hostile.{HasNoRogue}
+use Rattle.play_core.specs.Looks.{events_of}
 use Rattle.play_core.specs.Moved.{Moved, noes_of}
 use Rattle.play_core.specs.Names.{Wild}
 use Rattle.serial_law.specs.Beside.{ArrivesBeside, said_beside}
@@ -47,8 +49,8 @@ use Rattle.system_core.specs.declared.system.Ending.TheVariants as Ends
 -- what the serial clients of a plan say: each its script, but a hostile one all the bytes that the
 -- sending virtualiser took of it
 abbrev pub serial_says : Plan → Trace → Serial → Moved → List (List ℕ)
-serial_says plan trace serial m =
-    said_beside (is_serial_rogue plan) (class_of plan trace serial) m
+serial_says plan trace serial m = said_beside (is_serial_rogue plan)
+    (class_of plan trace serial) m
 
 -- each serial client of a plan recorded a beginning of its part of the input without what is marked
 -- of it as dropped, and a hostile one nothing; and what was sent on the line is a merge of
@@ -135,6 +137,10 @@ pub record IsSystemOf (plan : Plan) (trace : Trace) (s : Shown) : Type 0 where
   -- the calls before the journal begins looked in vain as often as its history tells
   pub past : (r : Role) (n : ℕ)
       → noes_at r n stands.calls.past ≡ noes_of r (history_at s.setting.history n)
+  -- and where nothing happened before it begins, the journal's alone tell all that was dropped
+  pub anew : BeginsAnew s.setting → (serial : Serial) → plan.serial ≡ Some serial
+      → (j : List Entry) (c : ℕ) → dropped_by (class_of plan trace serial)
+      (calls_by stands.calls.past j) c ≡ dropped_by (class_of plan trace serial) (events_of j) c
   pub shows : (serial : Serial) → plan.serial ≡ Some serial → ShowsInPart plan trace serial
       (dropped_by (class_of plan trace serial) (calls_by stands.calls.past s.journal))
       (moved_in s.setting s.journal) s.state

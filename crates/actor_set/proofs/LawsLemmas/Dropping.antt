@@ -1,5 +1,5 @@
 -- The ends at which an actor drops are those at which its part does.
-use Rattle.std.proofs.Common.{◌≡◌, ◌==◌, ◌&&◌, ◌||◌, ◌⊎◌, ◌≢◌, ℕ, zero, suc, Bool, true, false, cond, Some, List, [], ◌∷◌, map, slice_get, slice_index_or, refl, sym, ap, ◌∙◌, subst, inl, inr}
+use Rattle.std.proofs.Common.{◌≡◌, ◌==◌, ◌&&◌, ◌||◌, ◌⊎◌, ◌≢◌, ℕ, zero, suc, Bool, true, false, cond, Some, List, [], ◌∷◌, map, slice_get, slice_index_or, refl, sym, ap, ◌∙◌, arith, inl, inr}
 use Rattle.std.proofs.Math.Dec.{eqb}
 use Rattle.std.proofs.lemmas.Bool.{and_parts, eqb-true}
 use Rattle.std.proofs.lemmas.Bool.Decides.{eqb_tells}
@@ -79,14 +79,14 @@ no_consumer (q ∷ qs) (false ∷ ds) n = no_consumer qs ds n
 
 -- nor one that is no client's
 none_there : (qs : List ℕ) (ds : List Bool) (n : ℕ) → ((j : ℕ) → slice_get qs j ≡ Some n → ⊥) → has_seat (dropping_ends qs ds) Producer n ≡ false
-none_there [] ds n no = refl
-none_there (q ∷ qs) [] n no = refl
-none_there (q ∷ qs) (true ∷ ds) n no = by (eqb_tells q n)
+none_there [] ds n absent = refl
+none_there (q ∷ qs) [] n absent = refl
+none_there (q ∷ qs) (true ∷ ds) n absent = or_no (q == n) (has_seat (dropping_ends qs ds) Producer n) (by (eqb_tells q n)) ∙ none_there qs ds n (λ j at. absent (suc j) at)
   where
-    by : ((eqb q n ≡ true) × (q ≡ n)) ⊎ ((eqb q n ≡ false) × (q ≢ n)) → has_seat (outlet q ∷ dropping_ends qs ds) Producer n ≡ false
-    by (inl t) = absurd (no 0 (ap Some t.1))
-    by (inr t) = or_no (q == n) (has_seat (dropping_ends qs ds) Producer n) t.0 ∙ none_there qs ds n (λ j at. no (suc j) at)
-none_there (q ∷ qs) (false ∷ ds) n no = none_there qs ds n (λ j at. no (suc j) at)
+    by : ((eqb q n ≡ true) × (q ≡ n)) ⊎ ((eqb q n ≡ false) × (q ≢ n)) → eqb q n ≡ false
+    by (inl t) = absurd (absent 0 (ap Some t.1))
+    by (inr t) = t.0
+none_there (q ∷ qs) (false ∷ ds) n absent = none_there qs ds n (λ j at. absent (suc j) at)
 
 -- a client's is among them where its bytes may be dropped
 pub client_there : (qs : List ℕ) (ds : List Bool) (k n : ℕ) → slice_get qs k ≡ Some n → ((j : ℕ) → slice_get qs j ≡ Some n → j ≡ k) → has_seat (dropping_ends qs ds) Producer n ≡ policy_at ds k
@@ -113,11 +113,10 @@ IsClients qs n = (k : ℕ) × (slice_get qs k ≡ Some n)
 is_clients : (qs : List ℕ) (ds : List Bool) (n : ℕ) → has_seat (dropping_ends qs ds) Producer n ≡ true → IsClients qs n
 is_clients [] ds n h = cc
 is_clients (q ∷ qs) [] n h = cc
-is_clients (q ∷ qs) (true ∷ ds) n h = by (or_parts (q == n) (has_seat (dropping_ends qs ds) Producer n) h)
-  where
-    by : ((q == n) ≡ true) ⊎ (has_seat (dropping_ends qs ds) Producer n ≡ true) → IsClients (q ∷ qs) n
-    by (inl e) = (0, ap Some (eqb-true q n e))
-    by (inr e) = let c = is_clients qs ds n e in (suc c.0, c.1)
+is_clients (q ∷ qs) (true ∷ ds) n h = elim (or_parts (q == n) (has_seat (dropping_ends qs ds) Producer n) h) [
+  | inl e ↦ (0, ap Some (eqb-true q n e))
+  | inr e ↦ let c = is_clients qs ds n e in (suc c.0, c.1)
+]
 is_clients (q ∷ qs) (false ∷ ds) n h = let c = is_clients qs ds n h in (suc c.0, c.1)
 
 -- where a part drops it has an end

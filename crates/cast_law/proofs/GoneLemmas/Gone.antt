@@ -17,7 +17,7 @@ use Rattle.seat_wires.specs.Times.{times_known, times_at, times_or}
 use Rattle.play_core.proofs.Lists.{map_get, map_from, there_is}
 use Rattle.actor_set.specs.Actors.{FitsActor, ActorStandsFor}
 use Rattle.actor_set.specs.declared.actor.Actor.{Actor}
-use Rattle.actor_set.proofs.LawsLemmas.Beside.{stands_beside}
+use Rattle.actor_set.proofs.LawsLemmas.Beside.{stands_anew}
 use Rattle.actor_set.proofs.LawsLemmas.Starts.{fits_whole}
 use Rattle.order_law.specs.Tales.{Goes}
 use Rattle.order_law.specs.Orders.{Seated, Turn, HaveRun, InOrder, actors_of, entries_at, listed, looked, noes_known, noes_seen, passed_by}
@@ -234,8 +234,8 @@ module _ (rows : List QueueRow) (rings : List RingIs) (olds news : List Apart) (
     stands = λ k x at. (
         let p = map_from (λ (q : Apart). q.actor) olds k x at in
         let stood = gone.stood.stand k p.0 p.1 in
-        subst (λ (y : Actor). ActorStandsFor y nothing_passed) p.2 (stands_beside (apart_passed p.0 stood.stands.0) nothing_passed p.0.actor (fits_whole (apart_end p.0) p.0.actor stood.fits)
-        (λ n e. sym (gone.nothing k p.0 p.1 Consumer n).0) (λ n e. sym (gone.nothing k p.0 p.1 Producer n).0) stood.stands.1)
+        subst (λ (y : Actor). ActorStandsFor y nothing_passed) p.2 (stands_anew (apart_passed p.0 stood.stands.0) p.0.actor (fits_whole (apart_end p.0) p.0.actor stood.fits)
+        (λ n e. (gone.nothing k p.0 p.1 Consumer n).0) (λ n e. (gone.nothing k p.0 p.1 Producer n).0) stood.stands.1)
         );
   }
 

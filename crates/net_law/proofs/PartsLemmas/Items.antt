@@ -33,7 +33,7 @@ use Rattle.net_law.specs.Owners.Ends.{AreItemsOf}
 use Rattle.net_law.proofs.Beginnings.{begins_map}
 use Rattle.net_law.proofs.Answering.{answers_are}
 use Rattle.net_law.specs.Parts.Parts.{Way}
-use Rattle.net_law.specs.Parts.Rows.{FillsFrames, CopiesLeases, ServesClient, SendsItems, sent_where, is_answering, sized_items, given_item, given_items}
+use Rattle.net_law.specs.Parts.Rows.{FillsFrames, CopiesLeases, ServesClient, sent_where, is_answering, sized_items, given_item, given_items}
 use Rattle.net_law.specs.Parts.Table.{net_sheet}
 use Rattle.net_law.specs.Parts.Playing.{device_part, driver_part, copier_part, client_part, stock_pool, AreLeases, HasBuffers, AnswersInTurn}
 use Rattle.net_law.proofs.PartsLemmas.Pairs.{carry}

@@ -36,7 +36,7 @@ use Rattle.net_law.specs.RxOwners.Virtualiser.{offset_window, rx_lender, borrowe
 use Rattle.net_law.proofs.RxOwners.Receivers.{rx_lends, leases_net}
 use Rattle.net_law.proofs.RxOwners.Virtualisers.{names_of, times_named, times_outside, leases_names}
 use Rattle.net_law.specs.Parts.Parts.{Lessee}
-use Rattle.net_law.specs.Parts.Rows.{IsIn, AreIn, frame_at, lease_item, but_last, leases_from, borrower_of, lender_of, SharesFrames}
+use Rattle.net_law.specs.Parts.Rows.{IsIn, AreIn, frame_at, lease_item, but_last, leases_from, borrower_of, lender_of}
 use Rattle.net_law.specs.Parts.Table.{net_sheet, lessee_ends}
 use Rattle.net_law.specs.Parts.Playing.{receiver_part, stock_pool, lessees, lessees_of}
 use Rattle.net_law.proofs.PartsLemmas.Pairs.{twice, pair_first, pair_second}

@@ -1,27 +1,24 @@
-use Rattle.std.proofs.Common.{◌≡◌, ◌⊎◌, ◌+◌, ◌++◌, ◌<◌, ◌≤◌, ◌&&◌, ◌||◌, ℕ, Bool, true, false, not, nat_lt, Option, Some, None, is_some, is_none, List, [], ◌∷◌, length, map, length-append, refl, sym, ap, ◌∙◌, subst, arith, inl, inr}
+use Rattle.std.proofs.Common.{◌≡◌, ◌⊎◌, ◌+◌, ◌++◌, ◌<◌, ◌≤◌, ◌&&◌, ◌||◌, ℕ, Bool, true, false, not, nat_lt, Option, Some, None, is_some, is_none, List, [], ◌∷◌, length, map, length-append, refl, sym, ap, ◌∙◌, arith, inl, inr}
 use Rattle.std.specs.Option.{option_to_list}
 use Rattle.std.proofs.lemmas.Bool.{lt-ltb, le-ltb}
 use Rattle.std.proofs.lemmas.List.{length-map}
-use Rattle.cargo_core.specs.Lists.{IsPrefix}
 use Rattle.cargo_core.specs.declared.item.Item.{Item}
 use Rattle.wire_core.specs.Deeds.{Cargo}
 use Rattle.wire_core.specs.Queues.{Queue, end_at}
 use Rattle.wire_core.specs.Lists.{Passed}
 use Rattle.play_core.specs.Moved.{Moved}
 use Rattle.play_core.specs.Sheets.{Scene}
-use Rattle.net_expect.specs.Expecting.{frames_for}
-use Rattle.buffer_kit.specs.Entries.{all_filled, frame_of}
+use Rattle.buffer_kit.specs.Entries.{frame_of}
 use Rattle.buffer_kit.specs.Pools.{given_entry}
-use Rattle.buffer_kit.specs.Stocks.{stock_list, IsStock}
+use Rattle.buffer_kit.specs.Stocks.{stock_list}
 use Rattle.buffer_kit.proofs.Filling.{filled_length}
-use Rattle.client_programs.specs.declared.net.outbox.Outbox.{Outbox}
 use Rattle.client_programs.specs.declared.net.NetClient.{NetClient}
-use Rattle.client_programs.specs.Net.Programs.{program_of, is_echo, frames_out}
-use Rattle.client_programs.specs.Net.Sending.{OutboxStandsFor, needs_buffer, is_sending, is_through}
+use Rattle.client_programs.specs.Net.Programs.{program_of, is_echo}
+use Rattle.client_programs.specs.Net.Sending.{needs_buffer, is_sending, is_through}
 use Rattle.client_programs.specs.Net.Clients.{FitsClient, ClientStandsFor, is_giving, needs_frame, client_round, client_owes, client_frames, rx_active, rx_free, tx_active, tx_free}
 use Rattle.client_programs.proofs.NetLemmas.Sending.{echo_long}
-use Rattle.net_law.specs.Parts.Rows.{sized_items, sent_where, sent_items, is_answering, given_item, given_items}
-use Rattle.net_law.specs.Parts.Table.{net_sheet, client_items}
+use Rattle.net_law.specs.Parts.Rows.{sized_items, sent_where, is_answering, given_item, given_items}
+use Rattle.net_law.specs.Parts.Table.{net_sheet}
 use Rattle.net_law.specs.Parts.Playing.{client_part, AnswersInTurn, stock_pool}
 use Rattle.owner_law.specs.Pools.Places.{by_offset, numbers_from}
 use Rattle.net_law.proofs.PartsLemmas.Items.{sent_by, echo_is}

@@ -1,5 +1,5 @@
 -- The ends of the network's actors, the items that passed there, and what these name.
-use Rattle.std.specs.Prelude.{◌≡◌, ◌⊎◌, ◌==◌, ◌+◌, ℕ, zero, suc, if◌then◌else◌, Some, List, [], ◌∷◌}
+use Rattle.std.specs.Prelude.{◌≡◌, ◌⊎◌, ◌==◌, ℕ, if◌then◌else◌, Some, List, [], ◌∷◌}
 use Rattle.std.specs.Prelude.{◌++◌, slice_get}
 use Rattle.wire_core.specs.Deeds.{Cargo}
 use Rattle.wire_core.specs.Ends.{Role, Consumer, Producer}

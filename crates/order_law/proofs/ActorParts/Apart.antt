@@ -19,6 +19,7 @@ use Rattle.actor_set.specs.Parts.{Part}
 use Rattle.actor_set.specs.declared.actor.Actor.{Actor}
 use Rattle.actor_set.specs.Laws.Kinds.{hostiles, manner_of}
 use Rattle.play_core.specs.Manners.{is_hostile}
+use Rattle.actor_set.proofs.LawsLemmas.Alike.{alike_same}
 use Rattle.actor_set.proofs.LawsLemmas.Beside.{stands_beside}
 use Rattle.actor_set.proofs.LawsLemmas.Starts.{fits_whole}
 use Rattle.actor_set.proofs.LawsLemmas.PartEnds.{PartEnd, to_part, from_anew}
@@ -147,7 +148,7 @@ module _ (rows : List QueueRow) (actors : List Actor) (rings : List RingIs) (par
       fits = fits_anew (end_at (starts rows)) (apart_end a) was.0 p.0.actor was.2.forgot
           (λ r n e. let o = owned r n e in let x = end_there r n o.0 o.1 o.2 in subst (λ (y : Option EndIs). SameButLook (end_at (starts rows) r n) (end_known y)) (sym x.1) (fresh_end rows n o.0 x.0 r o.1))
           (was.2.fits (end_at (starts rows)) (ready.fits k was.0 was.1));
-      stands = ([], stands_beside nothing_passed (apart_passed a []) p.0.actor whole (λ n e. nothing_known Consumer n e) (λ n e. nothing_known Producer n e) (was.2.stands nothing_passed (ready.stands k was.0 was.1)));
+      stands = ([], stands_beside nothing_passed (apart_passed a []) p.0.actor whole (alike_same p.0.actor []) (λ n e. nothing_known Consumer n e) (λ n e. nothing_known Producer n e) (was.2.stands nothing_passed (ready.stands k was.0 was.1)));
       fine = opened.fine k p at;
     }
 
