@@ -66,9 +66,10 @@ takers_more first k clients ts new t client below at more number policy queues d
     let flags : map (λ (c : QueueId × Bool). c.1) new ≡ map (λ (c : QueueId × Bool). c.1) ts ++ t.1 ∷ [] = ap (map (λ (c : QueueId × Bool). c.1)) more ∙ map-append (λ (c : QueueId × Bool). c.1) ts (t ∷ []) in
     let one : k + 1 ≡ suc k = omega arith in
     let taken : take (k + 1) clients ≡ take k clients ++ client ∷ [] = ap (λ n. take n clients) one ∙ (take-suc clients k client below ∙ ap (λ x. take k clients ++ x ∷ []) (sym at)) in
-    let all : drops_of (take (k + 1) clients) ≡ drops_of (take k clients) ++ is_dropping client.policy ∷ [] = ap drops_of taken ∙ map-append (λ (c : SerialClient). is_dropping c.policy) (take k clients) (client ∷ []) in
-    (second_more first k (map (λ (c : QueueId × Bool). c.0) ts) (map (λ (c : QueueId × Bool). c.0) new) t.0 places number queues,
-    flags ∙ (ap (λ bs. bs ++ t.1 ∷ []) drops ∙ (ap (λ b. drops_of (take k clients) ++ b ∷ []) policy ∙ sym all)))
+    let all : drops_of (take (k + 1) clients) ≡ drops_of (take k clients) ++ is_dropping client.policy ∷ [] = ap drops_of taken ∙ map-append (λ (c : SerialClient). is_dropping c.policy) (take k clients) (client ∷ []) in (
+      second_more first k (map (λ (c : QueueId × Bool). c.0) ts) (map (λ (c : QueueId × Bool). c.0) new) t.0 places number queues,
+      flags ∙ (ap (λ bs. bs ++ t.1 ∷ []) drops ∙ (ap (λ b. drops_of (take k clients) ++ b ∷ []) policy ∙ sym all)),
+    )
 
 pub tx_part : (tx : QueueId) (clients : List QueueId) (v : SerialVirtTx) (qs : List ℕ) → IsNewTx tx clients v → numbers clients ≡ qs → TxPart v.output.queue.0 (numbers (intake_queues v.inputs)) ≡ TxPart tx.0 qs
 tx_part tx clients v qs new is = ap (λ (q : QueueId). TxPart q.0 (numbers (intake_queues v.inputs))) new.output ∙ ap (TxPart tx.0) (ap numbers (tx_queues tx clients v new) ∙ is)

@@ -121,10 +121,12 @@ told_more history cast journal calls e told actors same passed more items stands
     ∙ (append_assoc told.past (events_of journal) (e.event ∷ []) ∙ ap (λ (es : List Event). told.past ++ es) (sym (map-append (λ (d : Entry). d.event) journal (e ∷ []))))) in record {
       past = told.past;
       calls_are = all;
-      marks = subst (λ (c : List Part). EachMoment (MarksStand history c told.past) (journal ++ e ∷ [])) (sym same)
-          (told.marks.0, EachFrom-append (λ b d. MarksStand history cast told.past (b ++ d ∷ [])) [] journal e told.marks.1 (λ k rx clients drops at.
-          subst (λ (es : List Event). SharesOut (told_marks rx clients drops es) drops rx clients (moved history (journal ++ e ∷ []))) all
-          (marks_at passed (moved history (journal ++ e ∷ [])) items actors stands k rx clients drops (ap (λ (c : List Part). slice_get c k) same ∙ at))));
+      marks = subst (λ (c : List Part). EachMoment (MarksStand history c told.past) (journal ++ e ∷ [])) (sym same) (
+        told.marks.0,
+        EachFrom-append (λ b d. MarksStand history cast told.past (b ++ d ∷ [])) [] journal e told.marks.1 (λ k rx clients drops at.
+            subst (λ (es : List Event). SharesOut (told_marks rx clients drops es) drops rx clients (moved history (journal ++ e ∷ []))) all
+            (marks_at passed (moved history (journal ++ e ∷ [])) items actors stands k rx clients drops (ap (λ (c : List Part). slice_get c k) same ∙ at))),
+      );
       hears = λ k rx clients drops at. told.hears k rx clients drops (ap (λ (c : List Part). slice_get c k) (sym same) ∙ at);
     }
 
