@@ -123,39 +123,38 @@ module _ (scene : Scene) (w : List Queue) (passed : Passed) (items : Moved) (h :
   free p st = none_is p.load ∙ ap not (loaded p st)
 
   -- what was put to a client, and what is owed to it, is what is due to it
-  rx_due : (v : SerialVirtRx) → RxStandsFor v passed → (k : ℕ) (q : QueueId) → slice_get (outlet_queues v.outputs) k ≡ Some q → length (items.sent q.0) + length (owed_to v.load v.to k) ≡ due_to (clients_of v) (bytes_carried (passed.taken v.input.queue.0)) v.drops.items k q.0 items
-  rx_due v st k q at = by (policy_of v k) refl
-    where
-      abbrev part : List ℕ
-      part = input_of (clients_of v) k (bytes_carried (passed.taken v.input.queue.0))
+  module _ (v : SerialVirtRx) (st : RxStandsFor v passed) (k : ℕ) (q : QueueId) (at : slice_get (outlet_queues v.outputs) k ≡ Some q) where
+    abbrev part : List ℕ
+    part = input_of (clients_of v) k (bytes_carried (passed.taken v.input.queue.0))
 
-      abbrev gone : List Bool
-      gone = (byte_fate v.input.queue.0 (taker_of v k q) passed.calls).dropped
+    abbrev gone : List Bool
+    gone = (byte_fate v.input.queue.0 (taker_of v k q) passed.calls).dropped
 
-      abbrev here : ClientStands (policy_of v k) (byte_fate v.input.queue.0 (taker_of v k q) passed.calls) (noes_at Producer q.0 passed.calls) part (passed.sent q.0) (owed_to v.load v.to k)
-      here = st.clients k q at
+    abbrev here : ClientStands (policy_of v k) (byte_fate v.input.queue.0 (taker_of v k q) passed.calls) (noes_at Producer q.0 passed.calls) part (passed.sent q.0) (owed_to v.load v.to k)
+    here = st.clients k q at
 
-      put : length (passed.sent q.0) ≡ length (items.sent q.0)
-      put = sym (length-map (passed.sent q.0) (λ (c : Cargo). c.0)) ∙ ap length (h.sent q.0)
+    long : (bs : List ℕ) → passed.sent q.0 ++ owed_to v.load v.to k ≡ map byte_cargo bs → length (items.sent q.0) + length (owed_to v.load v.to k) ≡ length bs
+    long bs e =
+        let put : length (passed.sent q.0) ≡ length (items.sent q.0) = sym (length-map (passed.sent q.0) (λ (c : Cargo). c.0)) ∙ ap length (h.sent q.0) in
+        let all = length-append (passed.sent q.0) (owed_to v.load v.to k) in
+        let same = ap length e ∙ length-map bs byte_cargo in
+        omega (arith, put, all, same)
 
-      long : (bs : List ℕ) → passed.sent q.0 ++ owed_to v.load v.to k ≡ map byte_cargo bs → length (items.sent q.0) + length (owed_to v.load v.to k) ≡ length bs
-      long bs e =
-          let all = length-append (passed.sent q.0) (owed_to v.load v.to k) in
-          let same = ap length e ∙ length-map bs byte_cargo in
-          omega (arith, put, all, same)
+    due_by : (b : Bool) → policy_of v k ≡ b → length (items.sent q.0) + length (owed_to v.load v.to k) ≡ length part - cond b (items.noes Producer q.0) 0
+    due_by false e =
+        let n = long part (held_client v.input.queue.0 (taker_of v k q) e passed.calls (noes_at Producer q.0 passed.calls) part (passed.sent q.0) (owed_to v.load v.to k) here) in
+        omega (arith, n)
+    due_by true e =
+        let tells = here.tells e in
+        let came = tells.came in
+        let few : length gone ≤ length part = omega (arith, came) in
+        let left = without_length gone part few in
+        let n = long (without gone part) here.given in
+        let each = sym (h.noes Producer q.0) ∙ tells.each in
+        omega (arith, left, n, each)
 
-      by : (b : Bool) → policy_of v k ≡ b → length (items.sent q.0) + length (owed_to v.load v.to k) ≡ length part - cond b (items.noes Producer q.0) 0
-      by false e =
-          let n = long part (held_client v.input.queue.0 (taker_of v k q) e passed.calls (noes_at Producer q.0 passed.calls) part (passed.sent q.0) (owed_to v.load v.to k) here) in
-          omega (arith, n)
-      by true e =
-          let tells = here.tells e in
-          let came = tells.came in
-          let few : length gone ≤ length part = omega (arith, came) in
-          let left = without_length gone part few in
-          let n = long (without gone part) here.given in
-          let each = sym (h.noes Producer q.0) ∙ tells.each in
-          omega (arith, left, n, each)
+    rx_due : length (items.sent q.0) + length (owed_to v.load v.to k) ≡ due_to (clients_of v) (bytes_carried (passed.taken v.input.queue.0)) v.drops.items k q.0 items
+    rx_due = due_by (policy_of v k) refl
 
   rx_owed : (v : SerialVirtRx) → RxStandsFor v passed → (k : ℕ) (q : QueueId) → slice_get (outlet_queues v.outputs) k ≡ Some q → is_here (place_loaded v) (0 + k) ≡ is_owed_to (clients_of v) (bytes_carried (passed.taken v.input.queue.0)) v.drops.items (0 + k) q.0 items
   rx_owed v st k q at =

@@ -1,5 +1,5 @@
 -- What the calls of others are to a receiving virtualiser of the serial class: nothing.
-use Rattle.std.proofs.Common.{◌≡◌, ◌==◌, ◌&&◌, ◌+◌, nat_lt, ℕ, Bool, true, false, cond, Some, List, [], ◌∷◌, ◌++◌, flat_map, length, map, slice_get, refl, sym, ap, ◌∙◌, subst}
+use Rattle.std.proofs.Common.{◌≡◌, ◌==◌, ◌&&◌, ◌+◌, nat_lt, ℕ, Bool, true, false, cond, Some, List, [], ◌∷◌, ◌++◌, flat_map, length, map, slice_get, refl, sym, ap, ◌∙◌, subst, arith}
 use Rattle.std.specs.List.{filter}
 use Rattle.std.proofs.lemmas.Bool.{and_parts, eqb-true}
 use Rattle.std.proofs.lemmas.List.Concat.{flat_map-append}
@@ -68,8 +68,8 @@ vain_plain (Do.Ring s) a h = refl
 vain_plain (Do.Store w v) a h = cc
 
 false_unless : (b : Bool) → (b ≡ true → ⊥) → b ≡ false
-false_unless true no = absurd (no refl)
-false_unless false no = refl
+false_unless true absent = absurd (absent refl)
+false_unless false absent = refl
 
 -- a client stands as before where what its calls tell, what came and what went stay
 same_client : (drops : Bool) (f g : Fate) (n m : ℕ) (xs ys : List ℕ) (s t owed : List Cargo) → g ≡ f → m ≡ n → ys ≡ xs → t ≡ s → ClientStands drops f n xs s owed → ClientStands drops g m ys t owed
@@ -85,45 +85,48 @@ module _ (v : SerialVirtRx) (own : Event → Bool) (others : (e : Event) → own
 
   -- no call at one of its ends is another's, but for a store
   not_other : (r : Role) (n : ℕ) → RxEnd v r n → (e : Event) → own e ≡ false → role_of e.op ≡ r → e.queue.0 ≡ n → is_store e.op ≡ false → ⊥
-  not_other r n end e no role queue plain =
-      let store : is_store e.op ≡ true = others e no (subst (λ z. RxEnd v z e.queue.0) (sym role) (subst (RxEnd v r) (sym queue) end)) in
+  not_other r n end e not_own role queue plain =
+      let store : is_store e.op ≡ true = others e not_own (subst (λ z. RxEnd v z e.queue.0) (sym role) (subst (RxEnd v r) (sym queue) end)) in
       let bad : true ≡ false = sym store ∙ plain in
       cc
 
   no_take : (e : Event) → own e ≡ false → is_take_at rx e ≡ false
-  no_take e no = false_unless (is_take_at rx e) (λ h.
+  no_take e not_own = false_unless (is_take_at rx e) (λ h.
       let p = and_parts (is_take e.op) (e.queue.0 == rx) h in
       let r = take_role e.op p.0 in
-      not_other Consumer rx refl e no r.0 (eqb-true e.queue.0 rx p.1) r.1)
+      not_other Consumer rx refl e not_own r.0 (eqb-true e.queue.0 rx p.1) r.1)
 
   heard_own : (es : List Event) → heard rx es ≡ heard rx (filter own es)
   heard_own [] = refl
-  heard_own (e ∷ es) = by (own e) refl
+  heard_own (e ∷ es) = by (own e) refl (heard_own es)
     where
-      by : (b : Bool) → own e ≡ b → heard rx (e ∷ es) ≡ heard rx (filter own (e ∷ es))
-      by true o = ap (λ bs. cond (is_take_at rx e) (byte_told e.item) [] ++ bs) (heard_own es) ∙ ap (λ b. heard rx (cond b (e ∷ filter own es) (filter own es))) (sym o)
-      by false o = ap (λ b. cond b (byte_told e.item) [] ++ heard rx es) (no_take e o) ∙ (heard_own es ∙ ap (λ b. heard rx (cond b (e ∷ filter own es) (filter own es))) (sym o))
+      by : (b : Bool) → own e ≡ b → heard rx es ≡ heard rx (filter own es) → heard rx (e ∷ es) ≡ heard rx (filter own (e ∷ es))
+      by true o h = ap (λ bs. cond (is_take_at rx e) (byte_told e.item) [] ++ bs) h ∙ ap (λ b. heard rx (cond b (e ∷ filter own es) (filter own es))) (sym o)
+      by false o h = ap (λ b. cond b (byte_told e.item) [] ++ heard rx es) (no_take e o) ∙ (h ∙ ap (λ b. heard rx (cond b (e ∷ filter own es) (filter own es))) (sym o))
 
   module _ (k : ℕ) (q : QueueId) (at : slice_get (outlet_queues v.outputs) k ≡ Some q) where
     no_put : (e : Event) → own e ≡ false → is_put_at q.0 e ≡ false
-    no_put e no = false_unless (is_put_at q.0 e) (λ h.
+    no_put e not_own = false_unless (is_put_at q.0 e) (λ h.
         let p = and_parts (is_put e.op) (e.queue.0 == q.0) h in
         let r = put_role e.op p.0 in
-        not_other Producer q.0 (k, q, at, refl) e no r.0 (eqb-true e.queue.0 q.0 p.1) r.1)
+        not_other Producer q.0 (k, q, at, refl) e not_own r.0 (eqb-true e.queue.0 q.0 p.1) r.1)
 
     no_vain : (e : Event) → own e ≡ false → is_vain_at Producer q.0 e ≡ false
-    no_vain e no = false_unless (is_vain_at Producer q.0 e) (λ h.
+    no_vain e not_own = false_unless (is_vain_at Producer q.0 e) (λ h.
         let p = and_parts (is_vain_look e.op e.answer) (is_role (role_of e.op) Producer && (e.queue.0 == q.0)) h in
         let r = and_parts (is_role (role_of e.op) Producer) (e.queue.0 == q.0) p.1 in
-        not_other Producer q.0 (k, q, at, refl) e no (role_same (role_of e.op) Producer r.0) (eqb-true e.queue.0 q.0 r.1) (vain_plain e.op e.answer p.0))
+        not_other Producer q.0 (k, q, at, refl) e not_own (role_same (role_of e.op) Producer r.0) (eqb-true e.queue.0 q.0 r.1) (vain_plain e.op e.answer p.0))
+
+    nothing : (n : ℕ) → bit false + n ≡ n
+    nothing n = omega arith
 
     noes_own : (es : List Event) → noes_at Producer q.0 es ≡ noes_at Producer q.0 (filter own es)
     noes_own [] = refl
-    noes_own (e ∷ es) = by (own e) refl
+    noes_own (e ∷ es) = by (own e) refl (noes_own es)
       where
-        by : (b : Bool) → own e ≡ b → noes_at Producer q.0 (e ∷ es) ≡ noes_at Producer q.0 (filter own (e ∷ es))
-        by true o = ap (λ n. bit (is_vain_at Producer q.0 e) + n) (noes_own es) ∙ ap (λ b. noes_at Producer q.0 (cond b (e ∷ filter own es) (filter own es))) (sym o)
-        by false o = ap (λ b. bit b + noes_at Producer q.0 es) (no_vain e o) ∙ (noes_own es ∙ ap (λ b. noes_at Producer q.0 (cond b (e ∷ filter own es) (filter own es))) (sym o))
+        by : (b : Bool) → own e ≡ b → noes_at Producer q.0 es ≡ noes_at Producer q.0 (filter own es) → noes_at Producer q.0 (e ∷ es) ≡ noes_at Producer q.0 (filter own (e ∷ es))
+        by true o h = ap (λ n. bit (is_vain_at Producer q.0 e) + n) h ∙ ap (λ b. noes_at Producer q.0 (cond b (e ∷ filter own es) (filter own es))) (sym o)
+        by false o h = ap (λ b. bit b + noes_at Producer q.0 es) (no_vain e o) ∙ (nothing (noes_at Producer q.0 es) ∙ (h ∙ ap (λ b. noes_at Producer q.0 (cond b (e ∷ filter own es) (filter own es))) (sym o)))
 
     abbrev t : Taker
     t = taker_of v k q
@@ -150,7 +153,7 @@ module _ (v : SerialVirtRx) (own : Event → Bool) (others : (e : Event) → own
     and_no false = refl
 
     silent : (before : List Event) (e : Event) → own e ≡ false → serial_word rx t before e ≡ Other
-    silent before e no = rw (no_take e no, no_put e no, no_vain e no, and_no t.drops) refl
+    silent before e not_own = rw (no_take e not_own, no_put e not_own, no_vain e not_own, and_no t.drops) refl
 
     fate_is : (es : List Event) → byte_fate rx t es ≡ byte_fate rx t (filter own es)
     fate_is es = fate_own (serial_word rx t) own silent word_own es
