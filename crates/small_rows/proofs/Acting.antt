@@ -1,4 +1,4 @@
-use Rattle.std.proofs.Common.{◌≡◌, List, Result, Ok, Err, IfOk}
+use Rattle.std.proofs.Common.{◌≡◌, List, Result, Ok, Err, OnOk}
 use Rattle.cargo_core.specs.declared.memory.Memory.{Memory}
 use Rattle.wire_core.specs.declared.names.Event.{Event}
 use Rattle.wire_core.specs.Lists.{Stepped}
@@ -14,10 +14,10 @@ use Rattle.small_rows.specs.Wrappings.{wrapped_means}
 
 -- A step of an actor in its wrapping is one that the player's trait asks for.
 
-pub wrapped_acts : (w v : List Queue) (x : Wrapped) (y : Actor) (r : Result Event Memory) → manner_of (part_of x.actor) ≡ Calm → IfOk r (Stepped ActorStandsFor Happens w v x.actor y) → IfOk r (λ e. ActorTurned x.actor e y) → part_of y ≡ part_of x.actor → IfOk r (Acts wrapped_means w v x (record { actor = y }))
-wrapped_acts w v x y (Ok e) calm st turned part = record {
+pub wrapped_acts : (w v : List Queue) (x : Wrapped) (y : Actor) (e : Event) (r : Result (Unit {0}) Memory) → manner_of (part_of x.actor) ≡ Calm → OnOk r (Stepped ActorStandsFor Happens w v x.actor y e) → OnOk r (ActorTurned x.actor e y) → part_of y ≡ part_of x.actor → OnOk r (Acts wrapped_means w v x (record { actor = y }) e)
+wrapped_acts w v x y e (Ok t) calm st turned part = record {
   body = st.body;
   happened = st.happened;
   steps = record { turned = turned_is x.actor y e calm turned; kept = st.kept; part = part };
 }
-wrapped_acts w v x y (Err m) calm st turned part = tt
+wrapped_acts w v x y e (Err m) calm st turned part = tt

@@ -14,4 +14,4 @@ pub returns-clause-fits : goal.returns-clause-fits
 returns-clause-fits c = (c.step.ensures.fits, ap manner_of c.step.ensures.part ∙ c.requires.1)
 
 pub returns-clause-acts : goal.returns-clause-acts
-returns-clause-acts c = wrapped_acts c.args.world.now c.step.new.wires c.args.self.now c.step.new.self c.step.result c.requires.1 c.step.ensures.stepped c.step.ensures.turned c.step.ensures.part
+returns-clause-acts c = wrapped_acts c.args.world.now c.step.new.wires c.args.self.now c.step.new.self c.step.new.event c.step.result c.requires.1 c.step.ensures.stepped c.step.ensures.turned c.step.ensures.part
