@@ -1,4 +1,5 @@
-use Rattle.std.proofs.Common.{◌≡◌, ◌<◌, ◌&&◌, ℕ, zero, suc, Bool, true, false, Some, List, [], ◌∷◌, map, slice_get, Result, Ok, Err, IfOk, refl, sym, ap, ◌∙◌, subst}
+use Rattle.std.proofs.Common.{◌≡◌, ◌&&◌, ◌||◌, ℕ, zero, suc, Bool, true, false, Some, List, [], ◌∷◌, map, slice_get, Result, Ok, Err, OnOk, refl, sym, ap, ◌∙◌, subst}
+use Rattle.std.specs.List.{list_any}
 use Rattle.cargo_core.specs.declared.memory.Memory.{Memory}
 use Rattle.wire_core.specs.declared.names.Event.{Event}
 use Rattle.wire_core.specs.Ends.{Role, End, waiting_role}
@@ -13,7 +14,7 @@ use Rattle.actor_set.specs.declared.actor.Actor.{Actor}
 use Rattle.actor_set.specs.StartStates.{HasApartEnds}
 use Rattle.actor_set.proofs.LawsLemmas.Paces.{post_drops}
 use Rattle.actor_set.proofs.LawsLemmas.Rounds.{turned_is}
-use Rattle.actor_set.specs.Laws.Kinds.{manner_of, has_seat}
+use Rattle.actor_set.specs.Laws.Kinds.{manner_of, dropping_ends, has_seat}
 use Rattle.order_law.proofs.EndedLemmas.Rounds.{fits_apart}
 use Rattle.play_core.specs.Manners.{Calm}
 use Rattle.small_system.specs.Meanings.{Acts}
@@ -42,8 +43,8 @@ waits_at x apart waits k p at = post_drops x k p apart at ∙ ap (λ (ss : List 
 pub round_waits : (ends : Role → ℕ → End) (x : Actor) → FitsActor ends x → IsWaiting x → waiting_round (actor_round x) ≡ actor_round x
 round_waits ends x fits waits = ap (λ (ps : List Post). record (actor_round x) { posts = ps }) (all_waiting (actor_round x).posts (waits_at x (fits_apart ends x fits) waits))
 
-pub wrapped_acts : (w v : List Queue) (before after : Role → ℕ → End) (x : Wrapped) (y : Actor) (e : Event) → wrapped_means.Fits before x → FitsActor after y → IsWaiting y → Stepped ActorStandsFor Happens w v x.actor y e → ActorTurned x.actor e y → part_of y ≡ part_of x.actor → Acts wrapped_means w v x (record { actor = y }) e
-wrapped_acts w v before after x y e fits fits' waits st turned part = record {
+acts_so : (w v : List Queue) (before after : Role → ℕ → End) (x : Wrapped) (y : Actor) (e : Event) → wrapped_means.Fits before x → FitsActor after y → IsWaiting y → Stepped ActorStandsFor Happens w v x.actor y e → ActorTurned x.actor e y → part_of y ≡ part_of x.actor → Acts wrapped_means w v x (record { actor = y }) e
+acts_so w v before after x y e fits fits' waits st turned part = record {
   body = st.body;
   happened = st.happened;
   steps = record {
@@ -52,3 +53,18 @@ wrapped_acts w v before after x y e fits fits' waits st turned part = record {
     part = part;
   };
 }
+
+pub wrapped_acts : {T : Type 0} (w v : List Queue) (before after : Role → ℕ → End) (x : Wrapped) (y : Actor) (e : Event) (r : Result T Memory) → wrapped_means.Fits before x → FitsActor after y → IsWaiting y → OnOk r (Stepped ActorStandsFor Happens w v x.actor y e) → OnOk r (ActorTurned x.actor e y) → part_of y ≡ part_of x.actor → OnOk r (Acts wrapped_means w v x (record { actor = y }) e)
+wrapped_acts w v before after x y e (Ok u) fits fits' waits st turned part = acts_so w v before after x y e fits fits' waits st turned part
+wrapped_acts w v before after x y e (Err m) fits fits' waits st turned part = tt
+
+or_none : (a b : Bool) → (a || b) ≡ false → (a ≡ false) × (b ≡ false)
+or_none true b h = cc
+or_none false b h = (refl, h)
+
+-- where no client's bytes may be dropped, no end drops
+pub none_drop : (is : Bool → Bool) → is true ≡ true → (ds : List Bool) (qs : List ℕ) → list_any is ds ≡ false → dropping_ends qs ds ≡ []
+none_drop is yes ds [] h = refl
+none_drop is yes [] (q ∷ qs) h = refl
+none_drop is yes (true ∷ ds) (q ∷ qs) h = let bad : true ≡ false = sym yes ∙ (or_none (is true) (list_any is ds) h).0 in cc
+none_drop is yes (false ∷ ds) (q ∷ qs) h = none_drop is yes ds qs (or_none (is false) (list_any is ds) h).1
