@@ -4,9 +4,9 @@
 
 use crate::scripts::Draws;
 use cargo_core::Memory;
-use sdf_plan::Plan;
+use sdf_plan::{Plan, SerialClient};
 use std::alloc::Global;
-use trace_text::{is_speaker, serial_client_count};
+use trace_text::runs;
 
 /// The capacities of queues.
 const CAPACITIES: [u64; 5] = [1, 2, 4, 8, 16];
@@ -184,22 +184,36 @@ fn add_selection(to: &mut String, draws: &mut Draws, clients: u64) -> Result<(),
     Ok(())
 }
 
-/// The trace of a number for a plan, but for the acts of hostile clients. No two clients say the
-/// same byte.
+// What each client says that may speak. No two of them say the same byte.
+fn add_says(
+    to: &mut String,
+    draws: &mut Draws,
+    plan: &Plan,
+    clients: &[SerialClient],
+) -> Result<(), Memory> {
+    let mut number = 0u64;
+    for client in clients {
+        if runs(plan.protection_domain.as_slice(), &client.pd, "serial_speaker") {
+            let times = draws.below(24).saturating_add(1);
+            let byte = number.saturating_add(97);
+            write!(to, "say {number} {times}*{byte:02x}\n")?;
+        }
+        number = number.saturating_add(1);
+    }
+    Ok(())
+}
+
+/// The trace of a number for a plan, but for the acts of hostile clients.
 pub fn script(alloc: Global, plan: &Plan, number: u64) -> Result<String, Memory> {
-    let clients = serial_client_count(plan) as u64;
-    let mut draws = Draws::new(number.wrapping_add(1_000_000));
     let mut text = String::new(alloc);
+    let Some(serial) = &plan.serial else {
+        return Ok(text);
+    };
+    let mut draws = Draws::new(number.wrapping_add(1_000_000));
     for _ in 0..draws.below(8) {
-        add_selection(&mut text, &mut draws, clients)?;
+        add_selection(&mut text, &mut draws, serial.client.len() as u64)?;
         add_bytes(&mut text, &mut draws)?;
     }
-    for client in 0..clients {
-        if is_speaker(plan, client) {
-            let times = draws.below(24).saturating_add(1);
-            let byte = client.saturating_add(97);
-            write!(text, "say {client} {times}*{byte:02x}\n")?;
-        }
-    }
+    add_says(&mut text, &mut draws, plan, serial.client.as_slice())?;
     Ok(text)
 }
