@@ -1,12 +1,10 @@
-use Rattle.std.proofs.Common.{◌-◌, ◌<◌, ◌≤◌, ◌^◌, ℕ, Option, Some, None, Result, Ok, Err, IfOk, Bool, List, [], ◌∷◌, length, ap, ◌∙◌, subst, ◌≡◌, arith}
+use Rattle.std.proofs.Common.{◌-◌, ◌<◌, ◌≤◌, ◌^◌, ℕ, Option, Some, None, Bool, List, [], ◌∷◌, length, ap, ◌∙◌, ◌≡◌, arith}
 use Rattle.std.proofs.lemmas.List.{length-map}
-use Rattle.cargo_core.specs.declared.memory.Memory.{Memory}
 use Rattle.wire_core.specs.declared.names.Event.{Event}
 use Rattle.wire_core.specs.Deeds.{Cargo, Deed}
 use Rattle.wire_core.specs.Lists.{Passed, Stepped}
 use Rattle.device_model.specs.declared.serial_terminal.Terminal.{Terminal}
 use Rattle.device_model.specs.SerialTerminal.Terminals.{TerminalStandsFor, TerminalRow, TerminalBalances}
-use Rattle.turn_kit.specs.Turns.{Round, Turned}
 use Rattle.turn_kit.specs.declared.pipe.Pipe.{Pipe}
 use Rattle.pipe_driver.specs.Drivers.{PipesStandFor, PipesRow, PipesBalance}
 use Rattle.pipe_driver.specs.Lengths.{two_pipes}
@@ -45,10 +43,6 @@ use Rattle.actor_set.specs.declared.actor.Actor.TheVariants as Kinds
 -- a step of one kind is one of an actor
 pub as_actor : {A W : Type 0} (S : A → Passed → Type 0) (did : W → Deed → W → Type 0) (w v : W) (old new : Actor) (a a' : A) (e : Event) → ((passed : Passed) → ActorStandsFor old passed → S a passed) → ((passed : Passed) → S a' passed → ActorStandsFor new passed) → Stepped S did w v a a' e → Stepped ActorStandsFor did w v old new e
 as_actor S did w v old new a a' e was is st = record { body = st.body; happened = st.happened; kept = λ passed h. is _ (st.kept passed (was passed h)) }
-
-pub ok_actor : {A W : Type 0} (S : A → Passed → Type 0) (did : W → Deed → W → Type 0) (w v : W) (old new : Actor) (a a' : A) (r : Result Event Memory) → ((passed : Passed) → ActorStandsFor old passed → S a passed) → ((passed : Passed) → S a' passed → ActorStandsFor new passed) → IfOk r (λ e. Stepped S did w v a a' e) → IfOk r (λ e. Stepped ActorStandsFor did w v old new e)
-ok_actor S did w v old new a a' (Ok e) was is st = as_actor S did w v old new a a' e was is st
-ok_actor S did w v old new a a' (Err m) was is st = st
 
 -- the row of each kind is that of an actor
 pub rows : ((x : Terminal) (p : Passed) → TerminalStandsFor x p → TerminalRow x p) → ((ps : List Pipe) (p : Passed) → PipesStandFor ps p → PipesRow ps p) → ((x : SerialVirtRx) (p : Passed) → RxStandsFor x p → RxRow x p) → ((x : SerialVirtTx) (p : Passed) → TxStandsFor x p → TxRow x p)
@@ -121,11 +115,3 @@ rx_part old new queues drops = ap (λ qs. as_part qs new.drops.items) queues ∙
     as_part : List QueueId → List Bool → Part
     as_part [] ds = RxPart 0 [] ds
     as_part (q ∷ qs) ds = RxPart q.0 (numbers qs) ds
-
--- a turn of an actor that waits everywhere is one of its rounds where nothing is dropped
-pub turned_held : (r r' n n' : Round) (e : Event) → r ≡ r' → n ≡ n' → Turned r e n → Turned r' e n'
-turned_held r r' n n' e before after t = subst (λ x. Turned x e n') before (subst (λ x. Turned r e x) after t)
-
-pub ok_turned_held : (r r' n n' : Round) (o : Result Event Memory) → r ≡ r' → n ≡ n' → IfOk o (λ e. Turned r e n) → IfOk o (λ e. Turned r' e n')
-ok_turned_held r r' n n' (Ok e) before after t = turned_held r r' n n' e before after t
-ok_turned_held r r' n n' (Err m) before after t = t

@@ -70,7 +70,7 @@ BlkApart (BlkClientPart req resp asks pool) = Unit {0}
 abbrev ApartIn : Part → Type 0
 ApartIn (UartPart rx tx input) = Unit {0}
 ApartIn (DriverPart device_rx device_tx rx tx) = (device_rx ≡ tx → ⊥) × (rx ≡ device_tx → ⊥)
-ApartIn (RxPart rx clients) = (k j m : ℕ) → slice_get clients k ≡ Some m → slice_get clients j ≡ Some m → k ≡ j
+ApartIn (RxPart rx clients drops) = (k j m : ℕ) → slice_get clients k ≡ Some m → slice_get clients j ≡ Some m → k ≡ j
 ApartIn (TxPart tx clients) = (k j m : ℕ) → slice_get clients k ≡ Some m → slice_get clients j ≡ Some m → k ≡ j
 ApartIn (ClientPart rx tx script) = Unit {0}
 ApartIn (NetworkPart p) = NetApart p

@@ -30,7 +30,7 @@ use Rattle.cast_law.specs.Restarting.{AreAlike, disarmed}
 hostile_same : (p : Part) → is_hostile (manner_of (disarmed p)) ≡ is_hostile (manner_of p)
 hostile_same (UartPart rx tx input) = refl
 hostile_same (DriverPart device_rx device_tx rx tx) = refl
-hostile_same (RxPart rx clients) = refl
+hostile_same (RxPart rx clients drops) = refl
 hostile_same (TxPart tx clients) = refl
 hostile_same (ClientPart rx tx script) = refl
 hostile_same (NetworkPart p) = refl
@@ -41,7 +41,7 @@ hostile_same (HostilePart p) = refl
 frames_same : (p : Part) → frames_of (disarmed p) ≡ frames_of p
 frames_same (UartPart rx tx input) = refl
 frames_same (DriverPart device_rx device_tx rx tx) = refl
-frames_same (RxPart rx clients) = refl
+frames_same (RxPart rx clients drops) = refl
 frames_same (TxPart tx clients) = refl
 frames_same (ClientPart rx tx script) = refl
 frames_same (NetworkPart p) = refl
@@ -52,7 +52,7 @@ frames_same (HostilePart p) = refl
 image_same : (p : Part) → image_of (disarmed p) ≡ image_of p
 image_same (UartPart rx tx input) = refl
 image_same (DriverPart device_rx device_tx rx tx) = refl
-image_same (RxPart rx clients) = refl
+image_same (RxPart rx clients drops) = refl
 image_same (TxPart tx clients) = refl
 image_same (ClientPart rx tx script) = refl
 image_same (NetworkPart p) = refl
@@ -63,7 +63,7 @@ image_same (HostilePart p) = refl
 sheet_same : (scene : Scene) (p : Part) → sheet scene (disarmed p) ≡ sheet scene p
 sheet_same scene (UartPart rx tx input) = refl
 sheet_same scene (DriverPart device_rx device_tx rx tx) = refl
-sheet_same scene (RxPart rx clients) = refl
+sheet_same scene (RxPart rx clients drops) = refl
 sheet_same scene (TxPart tx clients) = refl
 sheet_same scene (ClientPart rx tx script) = refl
 sheet_same scene (NetworkPart p) = refl
@@ -74,7 +74,7 @@ sheet_same scene (HostilePart p) = refl
 calm_stays : (p : Part) → is_hostile (manner_of p) ≡ false → disarmed p ≡ p
 calm_stays (UartPart rx tx input) calm = refl
 calm_stays (DriverPart device_rx device_tx rx tx) calm = refl
-calm_stays (RxPart rx clients) calm = refl
+calm_stays (RxPart rx clients drops) calm = refl
 calm_stays (TxPart tx clients) calm = refl
 calm_stays (ClientPart rx tx script) calm = refl
 calm_stays (NetworkPart p) calm = refl
@@ -98,7 +98,7 @@ rogue_or : RoguePart → Part → RoguePart
 rogue_or r (HostilePart p) = p
 rogue_or r (UartPart rx tx input) = r
 rogue_or r (DriverPart device_rx device_tx rx tx) = r
-rogue_or r (RxPart rx clients) = r
+rogue_or r (RxPart rx clients drops) = r
 rogue_or r (TxPart tx clients) = r
 rogue_or r (ClientPart rx tx script) = r
 rogue_or r (NetworkPart p) = r
@@ -118,7 +118,7 @@ rogue_same p (HostilePart q) same = (
 )
 rogue_same p (UartPart rx tx input) same = cc
 rogue_same p (DriverPart device_rx device_tx rx tx) same = cc
-rogue_same p (RxPart rx clients) same = cc
+rogue_same p (RxPart rx clients drops) same = cc
 rogue_same p (TxPart tx clients) same = cc
 rogue_same p (ClientPart rx tx script) same = cc
 rogue_same p (NetworkPart q) same = cc

@@ -7,7 +7,7 @@ use Rattle.actor_set.specs.Parts.{NetworkPart, SendingPart, BlockPart, HostilePa
 abbrev pub disarmed : Part → Part
 disarmed (UartPart rx tx input) = UartPart rx tx input
 disarmed (DriverPart device_rx device_tx rx tx) = DriverPart device_rx device_tx rx tx
-disarmed (RxPart rx clients) = RxPart rx clients
+disarmed (RxPart rx clients drops) = RxPart rx clients drops
 disarmed (TxPart tx clients) = TxPart tx clients
 disarmed (ClientPart rx tx script) = ClientPart rx tx script
 disarmed (NetworkPart p) = NetworkPart p

@@ -13,7 +13,7 @@ use Rattle.wire_core.specs.declared.names.QueueRow.{QueueRow}
 use Rattle.wire_core.specs.Deeds.{Cargo}
 use Rattle.wire_core.specs.Ends.{Role, Consumer, Producer, End}
 use Rattle.wire_core.specs.Fates.{noes_at}
-use Rattle.wire_core.specs.Journal.{History, Hostiles, history_at, is_calm, owner_of, start_track}
+use Rattle.wire_core.specs.Journal.{History, Hostiles, history_at, is_calm, owner_of}
 use Rattle.wire_core.specs.Lists.{Passed}
 use Rattle.wire_core.specs.Queues.{Queue, queue_at, end_at, items_of}
 use Rattle.wire_core.specs.Sizes.{AreSized}
@@ -97,10 +97,6 @@ sent_shown (e ∷ ended) zero = refl
 sent_shown (e ∷ ended) (suc n) = sent_shown ended n
 
 -- how often the ends of ended rings looked in vain is what their history tells
-none_told : (r : Role) → 0 ≡ noes_of r start_track
-none_told Consumer = refl
-none_told Producer = refl
-
 noes_shown : (ended : List EndedIs) (r : Role) (n : ℕ) → noes_left ended r n ≡ noes_of r (history_at (history_left ended) n)
 noes_shown [] Consumer n = refl
 noes_shown [] Producer n = refl

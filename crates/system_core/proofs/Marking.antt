@@ -25,7 +25,7 @@ use Rattle.serial_law.specs.Table.{SharesOut}
 use Rattle.serial_law.specs.Dropped.{client_queues, told_marks}
 use Rattle.serial_law.proofs.Telling.{told_shares}
 use Rattle.actor_set.specs.Actors.{ActorStandsFor, part_of}
-use Rattle.actor_set.specs.Parts.{Part, RxPart}
+use Rattle.actor_set.specs.Parts.{Part, UartPart, DriverPart, RxPart, TxPart, ClientPart, NetworkPart, SendingPart, BlockPart, HostilePart}
 use Rattle.actor_set.specs.declared.actor.Actor.{Actor}
 use Rattle.actor_set.specs.declared.actor.Actor.TheVariants as Kinds
 use Rattle.system_core.specs.Shows.{Shown}
@@ -41,15 +41,23 @@ shares_told v passed m items st = told_shares v passed m (record { taken = items
 abbrev RxIs : Type 0
 RxIs = ℕ × List ℕ × List Bool
 
+rx_is : Part → RxIs
+rx_is (RxPart rx clients drops) = (rx, clients, drops)
+rx_is (UartPart rx tx input) = (0, [], [])
+rx_is (DriverPart device_rx device_tx rx tx) = (0, [], [])
+rx_is (TxPart tx clients) = (0, [], [])
+rx_is (ClientPart rx tx script) = (0, [], [])
+rx_is (NetworkPart p) = (0, [], [])
+rx_is (SendingPart p) = (0, [], [])
+rx_is (BlockPart p) = (0, [], [])
+rx_is (HostilePart p) = (0, [], [])
+
 module _ (passed : Passed) (m : Moved) (items : HaveItems passed m) where
   abbrev Shares : RxIs → Type 0
   Shares z = SharesOut (told_marks z.0 z.1 z.2 passed.calls) z.2 z.0 z.1 m
 
   by_part : (rx : ℕ) (clients : List ℕ) (drops : List Bool) (x : Actor) → ActorStandsFor x passed → part_of x ≡ RxPart rx clients drops → Shares (rx, clients, drops)
-  by_part rx clients drops (Kinds.SerialVirtRx v) st is = subst Shares (triple (v.input.queue.0, client_queues v, v.drops.items) (rx, clients, drops) is) (shares_told v passed m items st)
-    where
-      triple : (a b : RxIs) → RxPart a.0 a.1 a.2 ≡ RxPart b.0 b.1 b.2 → a ≡ b
-      triple a b e = cc
+  by_part rx clients drops (Kinds.SerialVirtRx v) st is = subst Shares (ap rx_is is) (shares_told v passed m items st)
   by_part rx clients drops (Kinds.UartDevice x) st is = cc
   by_part rx clients drops (Kinds.UartDriver x) st is = cc
   by_part rx clients drops (Kinds.SerialVirtTx x) st is = cc
@@ -77,11 +85,8 @@ carried (c ∷ cs) = ap (λ bs. byte_of c.0 ++ bs) (carried cs)
 -- what was taken at a virtualiser's input the calls tell, where it may drop
 hears_at : (passed : Passed) (m : Moved) → HaveItems passed m → (rx : ℕ) (clients : List ℕ) (drops : List Bool) (x : Actor) → ActorStandsFor x passed → part_of x ≡ RxPart rx clients drops → (c : ℕ) → policy_at drops c ≡ true → heard rx passed.calls ≡ bytes_in (m.taken rx)
 hears_at passed m items rx clients drops (Kinds.SerialVirtRx v) st is c on =
-    subst (λ (z : ℕ × List Bool). policy_at z.1 c ≡ true → heard z.0 passed.calls ≡ bytes_in (m.taken z.0)) (two (v.input.queue.0, client_queues v, v.drops.items) (rx, clients, drops) is)
+    subst (λ (z : RxIs). policy_at z.2 c ≡ true → heard z.0 passed.calls ≡ bytes_in (m.taken z.0)) (ap rx_is is)
     (λ drops_it. st.told c drops_it ∙ (carried (passed.taken v.input.queue.0) ∙ ap bytes_in (items.taken v.input.queue.0))) on
-  where
-    two : (a b : RxIs) → RxPart a.0 a.1 a.2 ≡ RxPart b.0 b.1 b.2 → (a.0, a.2) ≡ (b.0, b.2)
-    two a b e = cc
 hears_at passed m items rx clients drops (Kinds.UartDevice x) st is c on = cc
 hears_at passed m items rx clients drops (Kinds.UartDriver x) st is c on = cc
 hears_at passed m items rx clients drops (Kinds.SerialVirtTx x) st is c on = cc

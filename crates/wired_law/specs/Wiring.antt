@@ -18,7 +18,7 @@ use Rattle.net_law.specs.Receiving.{HandsOver}
 use Rattle.net_expect.specs.Expecting.{Program, Source}
 use Rattle.net_law.specs.Owners.Names.{ClientPools}
 use Rattle.owner_law.specs.Pools.Places.{PoolAt}
-use Rattle.net_law.specs.Parts.Parts.{NetPart, NetClient}
+use Rattle.net_law.specs.Parts.Parts.{NetPart}
 use Rattle.net_law.specs.Parts.Numbers.{client_first, device_at, driver_at, receiver_at}
 use Rattle.net_law.specs.Parts.Numbers.{copier_at, client_at}
 use Rattle.net_law.specs.TxParts.Parts.{SendPart}

@@ -11,12 +11,10 @@ use Rattle.device_model.specs.SerialTerminal.Terminals.{TerminalStandsFor}
 use Rattle.device_model.specs.declared.serial_terminal.Terminal.{Terminal}
 use Rattle.turn_kit.specs.Pipes.{PipeStandsFor}
 use Rattle.turn_kit.specs.declared.pipe.Pipe.{Pipe}
-use Rattle.std.proofs.Common.{◌==◌, ◌≤◌, Bool, true, false, if◌then◌else◌, Option, None, length, arith}
-use Rattle.std.proofs.lemmas.List.{length-map}
+use Rattle.std.proofs.Common.{◌≤◌, Option, None, length, arith}
 use Rattle.wire_core.specs.declared.names.QueueId.{QueueId}
-use Rattle.turn_kit.specs.ManyEnds.{intake_queues, outlet_queues}
+use Rattle.turn_kit.specs.ManyEnds.{intake_queues}
 use Rattle.serial_switch.specs.Carried.{bytes_carried, byte_of}
-use Rattle.serial_switch.specs.Switching.{input_of}
 use Rattle.serial_virt.specs.Receiving.{RxStandsFor}
 use Rattle.serial_virt.proofs.Sharing.{rx_row as rx_row_of}
 use Rattle.serial_law.specs.Dropped.{told_marks, client_queues}
@@ -26,7 +24,6 @@ use Rattle.serial_virt.specs.declared.rx.SerialVirtRx.{SerialVirtRx}
 use Rattle.serial_virt.specs.Sending.{TxStandsFor}
 use Rattle.serial_virt.specs.declared.tx.SerialVirtTx.{SerialVirtTx}
 use Rattle.serial_law.specs.Bytes.{bytes_in, byte_items}
-use Rattle.actor_set.proofs.LawsLemmas.PartEnds.{queue_there}
 use Rattle.play_core.proofs.Merges.{merge_map}
 use Rattle.play_core.specs.Moved.{Moved}
 use Rattle.play_core.specs.Sheets.{Scene}

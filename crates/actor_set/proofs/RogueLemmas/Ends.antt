@@ -1,6 +1,6 @@
 -- A hostile client among the actors: its ends are its sheet's, and where nothing changes at them it
 -- fits them as before and stands for the same lists; and its start state.
-use Rattle.std.proofs.Common.{◌≡◌, ◌==◌, ◌<◌, ◌≤◌, ◌+◌, ◌++◌, ℕ, zero, suc, Bool, true, false, cond, Some, List, [], ◌∷◌, length, map, drop, All, get_or, slice_get, inl, inr, refl, sym, ap, ◌∙◌, subst, arith}
+use Rattle.std.proofs.Common.{◌≡◌, ◌==◌, ◌<◌, ◌+◌, ◌++◌, ℕ, zero, suc, Bool, true, false, cond, Some, List, [], ◌∷◌, length, map, drop, All, get_or, slice_get, refl, sym, ap, ◌∙◌, subst, arith}
 use Rattle.std.proofs.lemmas.Option.{slice_get-get_or}
 use Rattle.std.proofs.lemmas.List.Sums.{sum_by-cons}
 use Rattle.cargo_core.specs.Bodies.{buffers_of}
@@ -9,7 +9,6 @@ use Rattle.cargo_core.specs.declared.act.Act.{Act}
 use Rattle.cargo_core.specs.declared.act.Act.TheVariants as Acts
 use Rattle.cargo_core.specs.declared.item.Body.TheVariants as Carried
 use Rattle.cargo_core.specs.declared.item.PoolId.{PoolId}
-use Rattle.cargo_core.specs.declared.item.QueueKind.{QueueKind}
 use Rattle.wire_core.specs.declared.names.QueueId.{QueueId}
 use Rattle.wire_core.specs.Deeds.{Cargo}
 use Rattle.wire_core.specs.Ends.{Role, Consumer, Producer, End}

@@ -70,7 +70,7 @@ hostile_there cast k h = by (slice_get cast k) refl h
     part : (p : Part) → is_hostile (manner_of p) ≡ true → (r : RoguePart) × (p ≡ HostilePart r)
     part (UartPart rx tx input) e = cc
     part (DriverPart device_rx device_tx rx tx) e = cc
-    part (RxPart rx clients) e = cc
+    part (RxPart rx clients drops) e = cc
     part (TxPart tx clients) e = cc
     part (ClientPart rx tx script) e = cc
     part (NetworkPart p) e = cc

@@ -73,7 +73,7 @@ module _ (pool number : ℕ) where
   pub part_count : (scene : Scene) (p : Part) → part_weighs the p ≡ at_start (sheet scene p).hand buffer
   part_count scene (UartPart rx tx input) = refl
   part_count scene (DriverPart device_rx device_tx rx tx) = refl
-  part_count scene (RxPart rx clients) = refl
+  part_count scene (RxPart rx clients drops) = refl
   part_count scene (TxPart tx clients) = refl
   part_count scene (ClientPart rx tx script) = refl
   part_count scene (NetworkPart (NetDevice rx_free rx_active tx_active tx_free frames)) = refl
@@ -105,7 +105,7 @@ module _ (pool number : ℕ) where
 no_pages : (p : Part) → manner_of p ≡ Calm → part_pages p ≡ []
 no_pages (UartPart rx tx input) calm = refl
 no_pages (DriverPart device_rx device_tx rx tx) calm = refl
-no_pages (RxPart rx clients) calm = refl
+no_pages (RxPart rx clients drops) calm = refl
 no_pages (TxPart tx clients) calm = refl
 no_pages (ClientPart rx tx script) calm = refl
 no_pages (NetworkPart p) calm = refl

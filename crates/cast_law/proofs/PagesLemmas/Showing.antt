@@ -92,7 +92,7 @@ one_many pool q = omega (arith, sum_by-cons (pool_weighs (of_pool (record { 0 = 
 pub part_many : (pool : ℕ) (scene : Scene) (p : Part) → manner_of p ≡ Calm → part_weighs (of_pool (record { 0 = pool })) p ≡ length ((sheet scene p).hand pool)
 part_many pool scene (UartPart rx tx input) calm = refl
 part_many pool scene (DriverPart device_rx device_tx rx tx) calm = refl
-part_many pool scene (RxPart rx clients) calm = refl
+part_many pool scene (RxPart rx clients drops) calm = refl
 part_many pool scene (TxPart tx clients) calm = refl
 part_many pool scene (ClientPart rx tx script) calm = refl
 part_many pool scene (NetworkPart (NetDevice rx_free rx_active tx_active tx_free frames)) calm = refl

@@ -16,12 +16,12 @@ use Rattle.eth_driver.specs.Four.{four_pipes}
 use Rattle.device_model.specs.SerialTerminal.Terminals.{terminal_hand}
 use Rattle.device_model.proofs.SerialTerminal.Speech.{row_of as terminal_row}
 use Rattle.device_model.proofs.SerialTerminal.Holding.{balance_of as terminal_balance}
-use Rattle.serial_virt.specs.Receiving.{HoldingRxStands, rx_hand}
+use Rattle.serial_virt.specs.Receiving.{RxStandsFor, rx_hand}
 use Rattle.serial_virt.specs.declared.rx.SerialVirtRx.{SerialVirtRx}
 use Rattle.serial_virt.specs.Sending.{TxStandsFor, TxRow, tx_hand}
 use Rattle.serial_virt.specs.declared.tx.SerialVirtTx.{SerialVirtTx}
-use Rattle.serial_virt.proofs.Dropping.{held_row as rx_row}
-use Rattle.serial_virt.proofs.Holding.{held_balance as rx_balance, tx_balance}
+use Rattle.serial_virt.proofs.Sharing.{rx_row}
+use Rattle.serial_virt.proofs.Holding.{rx_balance, tx_balance}
 use Rattle.device_model.proofs.EthernetLemmas.Holding.{held_balance as device_balance}
 use Rattle.net_virt_rx.specs.declared.NetVirtRx.{NetVirtRx}
 use Rattle.net_virt_rx.specs.Receiving.{RxStandsFor as NetRxStandsFor}
@@ -95,7 +95,7 @@ module _ (passed : Passed) where
   both_went [] outs = outs_went outs
   both_went (q ∷ ins) outs = both_went ins outs
 
-  rx_balances : (v : SerialVirtRx) → HoldingRxStands v passed → Balances [] (came passed (rx_ends v)) (went passed (rx_ends v)) (rx_hand v) (bodies_at passed.taken (v.input.queue.0 ∷ []))
+  rx_balances : (v : SerialVirtRx) → RxStandsFor v passed → Balances [] (came passed (rx_ends v)) (went passed (rx_ends v)) (rx_hand v) (bodies_at passed.taken (v.input.queue.0 ∷ []))
   rx_balances v st pool =
       let qs : List ℕ = numbers (outlet_queues v.outputs) in
       omega (arith, rx_balance v passed st pool, ap (λ xs. buffers_of pool (bodies_of (passed.taken v.input.queue.0) ++ xs)) (outs_came qs), ap (buffers_of pool) (outs_went qs))

@@ -310,7 +310,7 @@ ends_apart ends scene (Kinds.UartDevice x) fits = one_each x.terminal.input.queu
 ends_apart ends scene (Kinds.UartDriver x) fits = ways_apart (two_pipes x.driver.pipes) fits.inputs fits.outputs
 ends_apart ends scene (Kinds.SerialVirtRx x) fits =
     let qs : List ℕ = numbers (outlet_queues x.outputs) in
-    apart_more (intake x.input.queue.0) (map outlet qs) (in_of_outs x.input.queue.0 qs) (outs_apart qs (queues_distinct (outlet_queues x.outputs) fits.0.outputs.apart))
+    apart_more (intake x.input.queue.0) (map outlet qs) (in_of_outs x.input.queue.0 qs) (outs_apart qs (queues_distinct (outlet_queues x.outputs) fits.outputs.apart))
 ends_apart ends scene (Kinds.SerialVirtTx x) fits =
     let qs : List ℕ = numbers (intake_queues x.inputs) in
     apart_more (outlet x.output.queue.0) (map intake qs) (out_of_ins x.output.queue.0 qs) (ins_apart qs (queues_distinct (intake_queues x.inputs) fits.inputs.apart))

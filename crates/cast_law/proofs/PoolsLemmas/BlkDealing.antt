@@ -208,7 +208,7 @@ module _ (rows : List QueueRow) (blk : BlkPlace) (cast : List Part) (calm : AllC
   part_shares : (k : ℕ) (p : Part) → slice_get cast k ≡ Some p → IsBlock p → Shares k p
   part_shares k (UartPart rx tx input) at is = absurd is
   part_shares k (DriverPart device_rx device_tx rx tx) at is = absurd is
-  part_shares k (RxPart rx clients) at is = absurd is
+  part_shares k (RxPart rx clients drops) at is = absurd is
   part_shares k (TxPart tx clients) at is = absurd is
   part_shares k (ClientPart rx tx script) at is = absurd is
   part_shares k (NetworkPart p) at is = absurd is

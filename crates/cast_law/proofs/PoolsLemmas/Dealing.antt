@@ -25,7 +25,7 @@ module _ (rows : List QueueRow) (cast : List Part) (calm : AllCalm cast) (seated
   no_network : (k : ℕ) (p : Part) → HasNetAt rows None cast → slice_get cast k ≡ Some p → IsNetwork p → ⊥
   no_network k (UartPart rx tx input) none at is = is
   no_network k (DriverPart device_rx device_tx rx tx) none at is = is
-  no_network k (RxPart rx clients) none at is = is
+  no_network k (RxPart rx clients drops) none at is = is
   no_network k (TxPart tx clients) none at is = is
   no_network k (ClientPart rx tx script) none at is = is
   no_network k (NetworkPart p) none at is = none.none k p at
@@ -36,7 +36,7 @@ module _ (rows : List QueueRow) (cast : List Part) (calm : AllCalm cast) (seated
   no_block : (k : ℕ) (p : Part) → HasBlkAt rows None cast → slice_get cast k ≡ Some p → IsBlock p → ⊥
   no_block k (UartPart rx tx input) none at is = is
   no_block k (DriverPart device_rx device_tx rx tx) none at is = is
-  no_block k (RxPart rx clients) none at is = is
+  no_block k (RxPart rx clients drops) none at is = is
   no_block k (TxPart tx clients) none at is = is
   no_block k (ClientPart rx tx script) none at is = is
   no_block k (NetworkPart p) none at is = is
@@ -55,7 +55,7 @@ module _ (rows : List QueueRow) (cast : List Part) (calm : AllCalm cast) (seated
   differ : (p : Part) → IsNetwork p → IsBlock p → ⊥
   differ (UartPart rx tx input) one two = one
   differ (DriverPart device_rx device_tx rx tx) one two = one
-  differ (RxPart rx clients) one two = one
+  differ (RxPart rx clients drops) one two = one
   differ (TxPart tx clients) one two = one
   differ (ClientPart rx tx script) one two = one
   differ (NetworkPart p) one two = two
@@ -81,7 +81,7 @@ module _ (rows : List QueueRow) (cast : List Part) (calm : AllCalm cast) (seated
     unfolding owner
     all_share k (UartPart rx tx input) at = no_share scene cast IsNetwork IsBlock (pools_first n) (pools_behind b) one.0 two.0 one.1 two.1 apart differ k (UartPart rx tx input) at (λ h. h) (λ h. h)
     all_share k (DriverPart device_rx device_tx rx tx) at = no_share scene cast IsNetwork IsBlock (pools_first n) (pools_behind b) one.0 two.0 one.1 two.1 apart differ k (DriverPart device_rx device_tx rx tx) at (λ h. h) (λ h. h)
-    all_share k (RxPart rx clients) at = no_share scene cast IsNetwork IsBlock (pools_first n) (pools_behind b) one.0 two.0 one.1 two.1 apart differ k (RxPart rx clients) at (λ h. h) (λ h. h)
+    all_share k (RxPart rx clients drops) at = no_share scene cast IsNetwork IsBlock (pools_first n) (pools_behind b) one.0 two.0 one.1 two.1 apart differ k (RxPart rx clients drops) at (λ h. h) (λ h. h)
     all_share k (TxPart tx clients) at = no_share scene cast IsNetwork IsBlock (pools_first n) (pools_behind b) one.0 two.0 one.1 two.1 apart differ k (TxPart tx clients) at (λ h. h) (λ h. h)
     all_share k (ClientPart rx tx script) at = no_share scene cast IsNetwork IsBlock (pools_first n) (pools_behind b) one.0 two.0 one.1 two.1 apart differ k (ClientPart rx tx script) at (λ h. h) (λ h. h)
     all_share k (NetworkPart p) at = first_share scene cast IsNetwork IsBlock (pools_first n) (pools_behind b) one.0 two.0 one.1 two.1 apart differ k (NetworkPart p) at tt

@@ -67,7 +67,7 @@ same_end scene rows cast seated j k p q p_at q_at h i s here there =
 abbrev pub IsBlock : Part → Type 0
 IsBlock (UartPart rx tx input) = ⊥
 IsBlock (DriverPart device_rx device_tx rx tx) = ⊥
-IsBlock (RxPart rx clients) = ⊥
+IsBlock (RxPart rx clients drops) = ⊥
 IsBlock (TxPart tx clients) = ⊥
 IsBlock (ClientPart rx tx script) = ⊥
 IsBlock (NetworkPart p) = ⊥
@@ -187,7 +187,7 @@ module _ (rows : List QueueRow) (cast : List Part) (calm : AllCalm cast) (seated
     pub names_at : (k : ℕ) (p : Part) → slice_get cast k ≡ Some p → NamesAt naming scene p
     names_at k (UartPart rx tx input) at = nothing_at k (UartPart rx tx input) at (λ h. h) (λ h. h)
     names_at k (DriverPart device_rx device_tx rx tx) at = nothing_at k (DriverPart device_rx device_tx rx tx) at (λ h. h) (λ h. h)
-    names_at k (RxPart rx clients) at = nothing_at k (RxPart rx clients) at (λ h. h) (λ h. h)
+    names_at k (RxPart rx clients drops) at = nothing_at k (RxPart rx clients drops) at (λ h. h) (λ h. h)
     names_at k (TxPart tx clients) at = nothing_at k (TxPart tx clients) at (λ h. h) (λ h. h)
     names_at k (ClientPart rx tx script) at = nothing_at k (ClientPart rx tx script) at (λ h. h) (λ h. h)
     names_at k (NetworkPart p) at = net_names_at n has_net k p at
@@ -211,7 +211,7 @@ module _ (rows : List QueueRow) (cast : List Part) (calm : AllCalm cast) (seated
     pub sized_at : AreNumbered (pools_first n ++ pools_behind b) → (k : ℕ) (p : Part) → slice_get cast k ≡ Some p → IsSized (sizes_of (pools_first n ++ pools_behind b)) p
     sized_at apart k (UartPart rx tx input) at = tt
     sized_at apart k (DriverPart device_rx device_tx rx tx) at = tt
-    sized_at apart k (RxPart rx clients) at = tt
+    sized_at apart k (RxPart rx clients drops) at = tt
     sized_at apart k (TxPart tx clients) at = tt
     sized_at apart k (ClientPart rx tx script) at = tt
     sized_at apart k (NetworkPart p) at = net_sized_at n has_net apart k p at

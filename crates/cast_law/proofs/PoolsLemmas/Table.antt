@@ -51,7 +51,7 @@ place_of (suc count) m lt = by (cases_lt m 6) (λ j le. place_of count j le)
 abbrev pub IsNetwork : Part → Type 0
 IsNetwork (UartPart rx tx input) = ⊥
 IsNetwork (DriverPart device_rx device_tx rx tx) = ⊥
-IsNetwork (RxPart rx clients) = ⊥
+IsNetwork (RxPart rx clients drops) = ⊥
 IsNetwork (TxPart tx clients) = ⊥
 IsNetwork (ClientPart rx tx script) = ⊥
 IsNetwork (NetworkPart p) = Unit {0}

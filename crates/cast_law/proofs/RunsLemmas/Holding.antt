@@ -13,6 +13,7 @@ use Rattle.wire_core.specs.declared.names.Op.{Op}
 use Rattle.wire_core.specs.declared.names.Op.TheVariants as Do
 use Rattle.wire_core.specs.Deeds.{Cargo, Deed, cargo_of}
 use Rattle.wire_core.specs.Ends.{Role, Consumer, Producer, End, role_of}
+use Rattle.wire_core.specs.Fates.{noes_at}
 use Rattle.wire_core.specs.Journal.{owner_of}
 use Rattle.wire_core.specs.Lists.{Passed, if_put, if_taken, if_there, nothing_passed, put_by, with_deed}
 use Rattle.wire_core.specs.Queues.{is_store, items_of}
@@ -27,6 +28,7 @@ use Rattle.actor_set.specs.declared.actor.Actor.{Actor}
 use Rattle.actor_set.specs.declared.actor.Actor.TheVariants as Kinds
 use Rattle.actor_set.specs.Laws.Kinds.{sheet, scene_of, hostiles}
 use Rattle.actor_set.specs.Laws.Scenes.{ToldInTurn}
+use Rattle.actor_set.proofs.LawsLemmas.Alike.{alike_more}
 use Rattle.actor_set.proofs.LawsLemmas.Beside.{fits_beside, stands_beside}
 use Rattle.actor_set.proofs.LawsLemmas.PartEnds.{to_part, end_seat, same_part}
 use Rattle.actor_set.proofs.LawsLemmas.Starts.{fits_whole}
@@ -45,10 +47,10 @@ use Rattle.cast_law.specs.Runs.Running.{AreReady, HaveHeld}
 
 -- the items of what passed
 abbrev moved_of : Passed → Moved
-moved_of passed = record { sent = λ n. items_of (passed.sent n); taken = λ n. items_of (passed.taken n) }
+moved_of passed = record { sent = λ n. items_of (passed.sent n); taken = λ n. items_of (passed.taken n); noes = λ r n. noes_at r n passed.calls }
 
 have_items : (passed : Passed) → HaveItems passed (moved_of passed)
-have_items passed = record { taken = λ n. refl; sent = λ n. refl }
+have_items passed = record { taken = λ n. refl; sent = λ n. refl; noes = λ r n. refl }
 
 -- where one actor's part stays, all parts stay
 map_same : (xs : List Actor) (k : ℕ) (x y : Actor) → slice_get xs k ≡ Some x → part_of y ≡ part_of x → map part_of (slice_set xs k y) ≡ map part_of xs
@@ -195,10 +197,14 @@ module _ (rows : List QueueRow) (pools : List PoolRow) (cast : List Part) (in_pl
         by (inl there_own) = moved_else t.deed r n (λ same there. apart actors passed st j k y x at turn.there ne r n own (subst (λ (z : Role × ℕ). ActorEnd x z.0 z.1) (λ i. (sym same i, sym there i)) there_own))
         by (inr stores) = store_moves t.deed r n stores
 
+    -- the call is at no end of another, but for a store
+    aloof : (j : ℕ) (y : Actor) → j ≢ k → slice_get actors j ≡ Some y → ActorEnd y (role_of t.deed.event.op) t.deed.event.queue.0 → is_store t.deed.event.op ≡ true
+    aloof j y ne at own = ⊎_elim (λ there. absurd (apart actors passed st j k y x at turn.there ne (role_of t.deed.event.op) t.deed.event.queue.0 own there)) (λ stores. stores) own_moves
+
     stands' : (j : ℕ) (y : Actor) → slice_get actors' j ≡ Some y → ActorStandsFor y passed'
     stands' j y at = dite (ℕ_discrete j k)
         (λ same. subst (λ (a : Actor). ActorStandsFor a passed') (sym (here j y same at)) (turn.kept passed (st.stands k x turn.there)))
-        (λ ne. let at' = was j y ne at in stands_beside passed passed' y (fits_whole (st.each j) y (st.fits j y at'))
+        (λ ne. let at' = was j y ne at in stands_beside passed passed' y (fits_whole (st.each j) y (st.fits j y at')) (alike_more y passed.calls t.deed.event (aloof j y ne at'))
         (λ n own. ap (λ (c : List Cargo). passed.taken n ++ c) (beside j y ne at' Consumer n own) ∙ append-nil (passed.taken n))
         (λ n own. ap (λ (c : List Cargo). passed.sent n ++ c) (beside j y ne at' Producer n own) ∙ append-nil (passed.sent n))
         (st.stands j y at'))
@@ -289,7 +295,7 @@ have_held rows olds news turns passed ready order kinds =
       asks = λ place placed. subst (λ (c : List Part). RoguesAsk (wild_in (hostiles c) rows) place passed) (sym st.parts) (st.asks place (subst (IsPlaced rows place) st.parts placed));
       carry = λ place placed m items. (
           let has = st.carry place (subst (IsPlaced rows place) st.parts placed) in
-          let same : moved_of passed ≡ m = (λ i. record { sent = λ n. items.sent n i; taken = λ n. items.taken n i }) in
+          let same : moved_of passed ≡ m = (λ i. record { sent = λ n. items.sent n i; taken = λ n. items.taken n i; noes = λ r n. items.noes r n i }) in
           subst (λ (z : Moved). CastCarries rows place news z passed) same has
           );
     }

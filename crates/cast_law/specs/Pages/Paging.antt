@@ -125,7 +125,7 @@ blk_part_pools (BlkClient req resp asks pool) = pool ∷ []
 abbrev pub part_pools : Part → List PoolAt
 part_pools (UartPart rx tx input) = []
 part_pools (DriverPart device_rx device_tx rx tx) = []
-part_pools (RxPart rx clients) = []
+part_pools (RxPart rx clients drops) = []
 part_pools (TxPart tx clients) = []
 part_pools (ClientPart rx tx script) = []
 part_pools (NetworkPart p) = net_part_pools p
@@ -137,7 +137,7 @@ part_pools (HostilePart p) = []
 abbrev pub part_pages : Part → List PageAt
 part_pages (UartPart rx tx input) = []
 part_pages (DriverPart device_rx device_tx rx tx) = []
-part_pages (RxPart rx clients) = []
+part_pages (RxPart rx clients drops) = []
 part_pages (TxPart tx clients) = []
 part_pages (ClientPart rx tx script) = []
 part_pages (NetworkPart p) = []

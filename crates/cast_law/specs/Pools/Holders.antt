@@ -37,7 +37,7 @@ abbrev pub NamesAt : Naming → Scene → Part → Type 0
 NamesAt naming scene (UartPart rx tx input) = NothingAt naming scene (UartPart rx tx input)
 NamesAt naming scene (DriverPart device_rx device_tx rx tx) =
     NothingAt naming scene (DriverPart device_rx device_tx rx tx)
-NamesAt naming scene (RxPart rx clients) = NothingAt naming scene (RxPart rx clients)
+NamesAt naming scene (RxPart rx clients drops) = NothingAt naming scene (RxPart rx clients drops)
 NamesAt naming scene (TxPart tx clients) = NothingAt naming scene (TxPart tx clients)
 NamesAt naming scene (ClientPart rx tx script) = NothingAt naming scene (ClientPart rx tx script)
 NamesAt naming scene (NetworkPart p) = NamesPart naming scene p
@@ -57,7 +57,7 @@ LendsSized sizes (NetClient program mac rx_active rx_free tx_active tx_free rx t
 abbrev pub IsSized : (ℕ → ℕ) → Part → Type 0
 IsSized sizes (UartPart rx tx input) = Unit {0}
 IsSized sizes (DriverPart device_rx device_tx rx tx) = Unit {0}
-IsSized sizes (RxPart rx clients) = Unit {0}
+IsSized sizes (RxPart rx clients drops) = Unit {0}
 IsSized sizes (TxPart tx clients) = Unit {0}
 IsSized sizes (ClientPart rx tx script) = Unit {0}
 IsSized sizes (NetworkPart p) = LendsSized sizes p

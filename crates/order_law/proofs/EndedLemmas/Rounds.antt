@@ -19,7 +19,7 @@ pub fits_apart : (ends : Role → ℕ → End) (x : Actor) → FitsActor ends x 
 fits_apart ends (Kinds.UartDevice x) f = tt
 fits_apart ends (Kinds.SerialClient x) f = tt
 fits_apart ends (Kinds.UartDriver x) f = (f.inputs.0.0, f.outputs.0.0)
-fits_apart ends (Kinds.SerialVirtRx x) f = f.0.outputs.apart
+fits_apart ends (Kinds.SerialVirtRx x) f = f.outputs.apart
 fits_apart ends (Kinds.SerialVirtTx x) f = f.inputs.apart
 fits_apart ends (Kinds.EthDevice x) f = (f.0.inputs_apart, f.0.outputs_apart)
 fits_apart ends (Kinds.EthDriver x) f = (f.inputs, f.outputs)

@@ -5,7 +5,7 @@ use Rattle.cargo_core.specs.declared.item.Ask.{Ask}
 use Rattle.wire_core.specs.declared.names.QueueRow.{QueueRow}
 use Rattle.wire_core.specs.Ends.{Role, End}
 use Rattle.wire_core.specs.Lists.{Passed}
-use Rattle.play_core.proofs.Lists.{some_is, map_get, map_from, there_is, there_below}
+use Rattle.play_core.proofs.Lists.{some_is, map_get, map_from}
 use Rattle.pipe_driver.proofs.Holding.{row_of as driver_row}
 use Rattle.pipe_driver.specs.Drivers.{PipesRow}
 use Rattle.pipe_driver.specs.Lengths.{two_pipes}
