@@ -7,7 +7,7 @@ use i2c_virt::i2c_client::BusClient;
 use i2c_virt::{BusDevice, BusDriver, I2cVirt};
 use plain_wires::World;
 use small_system::SmallActor;
-use wire_core::{Answer, Event, Op, QueueId};
+use wire_core::Event;
 
 /// An actor of the bus.
 #[derive(Drop)]
@@ -21,21 +21,15 @@ pub enum Member {
 impl SmallActor for Member {
     ghost means = { member_means };
 
-    fn step(&mut self, world: &mut World) -> Result<Event, Memory> {
-        // Each of them writes the call that it makes in the one place.
-        let mut event = Event {
-            op: Op::See,
-            queue: QueueId(0),
-            answer: Answer::No,
-            item: None,
-        };
+    #[inline(always)]
+    fn step(&mut self, world: &mut World, event: &mut Event) -> Result<(), Memory> {
         match self {
-            Member::Client(client) => client.step(world, &mut event)?,
-            Member::Virt(virt) => virt.step(world, &mut event),
-            Member::Driver(driver) => driver.step(world, &mut event),
-            Member::Bus(bus) => bus.step(world, &mut event),
+            Member::Client(client) => client.step(world, event)?,
+            Member::Virt(virt) => virt.step(world, event),
+            Member::Driver(driver) => driver.step(world, event),
+            Member::Bus(bus) => bus.step(world, event),
         }
-        Ok(event)
+        Ok(())
     }
 
     fn at_rest(&self) -> bool {

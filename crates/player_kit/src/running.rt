@@ -47,6 +47,7 @@ impl Running {
     }
 
     /// Removes the number at a place.
+    #[inline(never)]
     pub fn remove(&mut self, place: usize)
         requires { place < length self.old.list }
         ensures { self.new ≡ record self.old { list = remove self.old.list place } }
@@ -55,6 +56,7 @@ impl Running {
     }
 
     /// Takes a number out, where it is there.
+    #[inline(never)]
     pub fn take_out(&mut self, number: u16)
         ensures { self.new ≡ record self.old { list = without number self.old.list } }
     {
@@ -64,6 +66,7 @@ impl Running {
     }
 
     /// Adds a number, where it isn't there yet.
+    #[inline(never)]
     pub fn add(&mut self, number: u16)
         requires { length (with_number number self.old.list) ≤ self.old.room }
         ensures { self.new ≡ record self.old { list = with_number number self.old.list } }
@@ -75,6 +78,7 @@ impl Running {
 
     /// Takes out the number at a place where that actor is idle, and keeps the other actor that a
     /// call reaches, if there is one, where it is runnable.
+    #[inline(always)]
     pub fn note(&mut self, place: usize, idle: bool, other: Option<u16>, runs: bool)
         requires there { place < length self.old.list }
         requires room { length (with_option other runs (removed_if idle self.old.list place))

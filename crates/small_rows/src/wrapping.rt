@@ -8,7 +8,6 @@ use cargo_core::Memory;
 use plain_wires::World;
 use small_system::SmallActor;
 use std::alloc::Global;
-use turn_kit::event_place;
 use wire_core::Event;
 
 /// An actor in its wrapping.
@@ -21,10 +20,8 @@ impl SmallActor for Wrapped {
     ghost means = { wrapped_means };
 
     #[inline(always)]
-    fn step(&mut self, world: &mut World) -> Result<Event, Memory> {
-        let mut event = event_place();
-        self.actor.step(world, &mut event)?;
-        Ok(event)
+    fn step(&mut self, world: &mut World, event: &mut Event) -> Result<(), Memory> {
+        self.actor.step(world, event)
     }
 
     #[inline(always)]

@@ -1,5 +1,5 @@
 //! An actor of any kind.
-ghost use Rattle.std.specs.Prelude.{◌≡◌, ℕ, IfOk, OnErr};
+ghost use Rattle.std.specs.Prelude.{◌≡◌, ℕ, OnOk, OnErr};
 ghost use Rattle.wire_core.specs.Queues.{end_at};
 ghost use Rattle.turn_kit.specs.Turns.{is_at_rest};
 ghost use Rattle.small_system.specs.Meanings.{Means, IsFit, Acts, Lawful};
@@ -14,12 +14,12 @@ pub trait SmallActor: Drop {
     /// What the actor means.
     ghost means: { Means Self };
 
-    /// One call on one of its ends, which is its next turn. After want of memory no call was made,
-    /// and nothing changed.
-    fn step(&mut self, world: &mut World) -> Result<Event, Memory>
+    /// One call on one of its ends, which is its next turn, and which `event` tells then. After
+    /// want of memory no call was made, and nothing else changed.
+    fn step(&mut self, world: &mut World, event: &mut Event) -> Result<(), Memory>
         requires { means.Fits (end_at world.old) self.old }
         ensures fits { means.Fits (end_at world.new) self.new }
-        ensures acts { IfOk result (Acts means world.old world.new self.old self.new) }
+        ensures acts { OnOk result (Acts means world.old world.new self.old self.new event.new) }
         ensures no_call { OnErr result (world.new ≡ world.old) }
         ensures unchanged { OnErr result (self.new ≡ self.old) };
 

@@ -17,6 +17,7 @@ use player_kit::Running;
 use std::alloc::Global;
 use std::marker::Model;
 use std::snapshot::Snapshot;
+use turn_kit::event_place;
 use wire_core::{ActorId, Entry, Op, QueueRow, Side, next_seed, place_of};
 
 /// Actors of any kind at play: the queues of its rows with what stands in them, the actors, and the
@@ -174,16 +175,19 @@ impl<A: SmallActor> Small<A> {
     {
         self.journal.reserve(1)?;
         let number = self.running.at(place);
-        let actor = &mut self.actors[number as usize];
-        let event = actor.step(&mut self.world)?;
-        self.journal.push_reserved(Entry {
+        // The actor writes its event into the entry that the journal gets.
+        let mut entry = Entry {
             actor: ActorId(number),
-            event,
-        });
+            event: event_place(),
+        };
+        let actor = &mut self.actors[number as usize];
+        actor.step(&mut self.world, &mut entry.event)?;
+        let (op, queue) = (entry.event.op, entry.event.queue);
+        self.journal.push_reserved(entry);
         let actor = &self.actors[number as usize];
         let idle = is_idle(actor, &self.world, ActorId(number));
-        let row = &self.rows[event.queue.0 as usize];
-        let rung = rung_at(event.op, row);
+        let row = &self.rows[queue.0 as usize];
+        let rung = rung_at(op, row);
         let woken = is_woken(&self.actors, &self.world, rung);
         self.running.note(place, idle, rung, woken);
         Ok(())

@@ -19,11 +19,12 @@ pub enum Member {
 impl SmallActor for Member {
     ghost means = { member_means };
 
-    fn step(&mut self, world: &mut World) -> Result<Event, Memory> {
-        match self {
-            Member::Client(client) => client.step(world),
-            Member::Switch(switch) => Ok(switch.step(world)),
-        }
+    fn step(&mut self, world: &mut World, event: &mut Event) -> Result<(), Memory> {
+        *event = match self {
+            Member::Client(client) => client.step(world)?,
+            Member::Switch(switch) => switch.step(world),
+        };
+        Ok(())
     }
 
     fn at_rest(&self) -> bool {
