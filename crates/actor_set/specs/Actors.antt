@@ -379,6 +379,25 @@ record_length (Kinds.BlkVirt x) = 0
 record_length (Kinds.BlkClient x) = length x.asking.kept.shown
 record_length (Kinds.Rogue x) = 0
 
+-- whether a step of the actor answers its event; a step of another writes it where it stays
+abbrev pub answers_event : Actor → Bool
+answers_event (Kinds.UartDevice x) = false
+answers_event (Kinds.UartDriver x) = false
+answers_event (Kinds.SerialVirtRx x) = false
+answers_event (Kinds.SerialVirtTx x) = true
+answers_event (Kinds.SerialClient x) = false
+answers_event (Kinds.EthDevice x) = true
+answers_event (Kinds.EthDriver x) = false
+answers_event (Kinds.NetVirtRx x) = true
+answers_event (Kinds.NetCopier x) = true
+answers_event (Kinds.NetClient x) = true
+answers_event (Kinds.NetVirtTx x) = true
+answers_event (Kinds.DiskDevice x) = true
+answers_event (Kinds.BlkDriver x) = false
+answers_event (Kinds.BlkVirt x) = true
+answers_event (Kinds.BlkClient x) = true
+answers_event (Kinds.Rogue x) = true
+
 -- what an actor counted as bad: a sending virtualiser of the network the descriptors that came bad
 -- from its clients, a block virtualiser the requests, and an actor of another kind nothing
 abbrev pub bad_of : Actor → ℕ

@@ -1,5 +1,5 @@
 -- How often the ends of an actor looked in vain, call by call.
-use Rattle.std.proofs.Common.{◌≡◌, ◌≢◌, ◌⊎◌, ⊎_elim, ◌∙◌, ◌+◌, ◌==◌, ◌&&◌, ℕ, Bool, true, false, List, refl, sym, ap, subst, arith, Option, Some, None, eqb, eq-eqb, ne_eqb, slice_get, slice_set}
+use Rattle.std.proofs.Common.{◌≡◌, ◌≢◌, ◌⊎◌, inl, inr, ⊎_elim, ◌∙◌, ◌+◌, ◌==◌, ◌&&◌, ℕ, Bool, true, false, List, refl, sym, ap, subst, arith, Option, Some, None, eqb, eq-eqb, ne_eqb, slice_get, slice_set}
 use mathlib.Core.Logic.{dite}
 use native.Mathlib.Decide.{ℕ_discrete}
 use Rattle.wire_core.specs.declared.names.Event.{Event}
@@ -135,7 +135,7 @@ module _ (s : SeatsAre) (d : Deed) (t : SeatsAre) (h : SeatDid s d t) where
       (other_look d.event.op d.event.answer r x (eqb q n) h.makes ne))
       (λ same. subst (λ (y : Role). noes_seen t y n ≡ noes_seen s y n + bit (is_vain_at y n d.event)) (sym same) (dite (ℕ_discrete q n)
       (λ at. subst (λ (m : ℕ). noes_seen t r m ≡ noes_seen s r m + bit (is_vain_at r m d.event)) at here)
-      (λ ne. still r n (ap (λ (z : SeatsAre). noes_seen z r n) h.after_is ∙ (ap (λ (z : List (Option EndIs)). noes_known (stands_at z n)) (ends_with s r new) ∙ ap seen_or (sym (slice_get_beside (ends_of s r) q n (Some (record { ring = h.before.ring; knows = h.knows })) (λ e. ne (sym e))))))
+      (λ ne. still r n (ap (λ (z : SeatsAre). noes_seen z r n) h.after_is ∙ (ap (λ (z : List (Option EndIs)). noes_known (stands_at z n)) (ends_with s r new) ∙ ap seen_or (slice_get_beside (ends_of s r) q n (Some (record { ring = h.before.ring; knows = h.knows })) (λ e. ne (sym e)))))
       (ap (λ (b : Bool). is_vain_look d.event.op d.event.answer && (is_role (role_of d.event.op) r && b)) (ne_eqb q n ne) ∙ (own_look d.event.op d.event.answer r false h.makes ∙ and_none (is_vain_look d.event.op d.event.answer))))))
       (two_roles r x)
     where

@@ -41,7 +41,7 @@ shares_told v passed m items st = told_shares v passed m (record { taken = items
 abbrev RxIs : Type 0
 RxIs = ℕ × List ℕ × List Bool
 
-rx_is : Part → RxIs
+abbrev rx_is : Part → RxIs
 rx_is (RxPart rx clients drops) = (rx, clients, drops)
 rx_is (UartPart rx tx input) = (0, [], [])
 rx_is (DriverPart device_rx device_tx rx tx) = (0, [], [])
@@ -132,7 +132,7 @@ told_more history cast journal calls e told actors same passed more items stands
 
 -- two lists of calls looked in vain as often as each of them
 noes_both : (r : Role) (n : ℕ) (xs ys : List Event) → noes_at r n (xs ++ ys) ≡ noes_at r n xs + noes_at r n ys
-noes_both r n [] ys = refl
+noes_both r n [] ys = omega arith
 noes_both r n (x ∷ xs) ys = let h = noes_both r n xs ys in omega (arith, h)
 
 -- so the calls before the journal begins did as often as its history tells

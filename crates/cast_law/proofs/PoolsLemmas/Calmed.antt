@@ -158,7 +158,7 @@ module _ (rows : List QueueRow) (n : Option NetPlace) (b : Option BlkPlace) (cas
   stand_in : (p : Part) → ((r : RoguePart) → p ≡ HostilePart r → IsRogueOf rows n b r) → (q : Part) × IsLike rows n b p q
   stand_in (UartPart rx tx input) only = (UartPart rx tx input, inl (refl, refl))
   stand_in (DriverPart device_rx device_tx rx tx) only = (DriverPart device_rx device_tx rx tx, inl (refl, refl))
-  stand_in (RxPart rx clients drops) only = (RxPart rx clients, inl (refl, refl))
+  stand_in (RxPart rx clients drops) only = (RxPart rx clients drops, inl (refl, refl))
   stand_in (TxPart tx clients) only = (TxPart tx clients, inl (refl, refl))
   stand_in (ClientPart rx tx script) only = (ClientPart rx tx script, inl (refl, refl))
   stand_in (NetworkPart p) only = (NetworkPart p, inl (refl, refl))

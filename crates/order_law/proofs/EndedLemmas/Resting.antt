@@ -6,7 +6,7 @@ use Rattle.wire_core.specs.Ends.{Role, Consumer, Producer, End}
 use Rattle.wire_core.specs.Journal.{Track, History, history_at}
 use Rattle.wire_core.specs.Lists.{Passed}
 use Rattle.wire_core.specs.Queues.{Bells, Queue, queue_at, end_at, end_of}
-use Rattle.play_core.specs.Moved.{Moved, moved}
+use Rattle.play_core.specs.Moved.{Moved, moved, noes_of}
 use Rattle.play_core.specs.Names.{Names, Wild}
 use Rattle.play_core.specs.Sheets.{Scene}
 use Rattle.play_core.specs.Wants.{Want, all_settled, bells_settled, end_settled}
@@ -78,8 +78,14 @@ module _ (looks : Role → ℕ → Bool) where
   backward_stays k zero (t ∷ ts) = refl
   backward_stays k (suc n) (t ∷ ts) = backward_stays (k + 1) n ts
 
+  noes_stay : (r : Role) (k n : ℕ) (ts : History) → noes_of r (history_at (told_from k ts) n) ≡ noes_of r (history_at ts n)
+  noes_stay r k n [] = refl
+  noes_stay Consumer k zero (t ∷ ts) = refl
+  noes_stay Producer k zero (t ∷ ts) = refl
+  noes_stay r k (suc n) (t ∷ ts) = noes_stay r (k + 1) n ts
+
   moved_stays : (ts : History) → moved (told_from 0 ts) [] ≡ moved ts []
-  moved_stays ts = λ i. record { sent = λ n. sent_stays 0 n ts i; taken = λ n. taken_stays 0 n ts i }
+  moved_stays ts = λ i. record { sent = λ n. sent_stays 0 n ts i; taken = λ n. taken_stays 0 n ts i; noes = λ r n. noes_stay r 0 n ts i }
 
   bell_settled : (a b : Bells) → a.forward ≡ b.forward → a.backward ≡ b.backward → (r : Role) (need : Bool) → bells_settled a r need ≡ bells_settled b r need
   bell_settled a b f g Consumer need = ap (λ (x : BellState). end_settled x.waiter a.backward.ringer need) f ∙ ap (λ (x : BellState). end_settled b.forward.waiter x.ringer need) g

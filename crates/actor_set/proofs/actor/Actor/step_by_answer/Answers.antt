@@ -11,7 +11,7 @@ use Rattle.client_programs.specs.Rogue.Clients.{RogueStandsFor}
 use Rattle.client_programs.proofs.RogueLemmas.Owning.{own_call}
 use Rattle.actor_set.specs.Actors.{FitsActor, ActorStandsFor, IsActorCall}
 use Rattle.actor_set.proofs.Casting.{as_actor}
-use Rattle.actor_set.proofs.actor.Actor.step.Goals as goal
+use Rattle.actor_set.proofs.actor.Actor.step_by_answer.Goals as goal
 
 -- an Ethernet device waits
 pub returns-in_ok-event-in-EthDevice-clause-stepped : goal.returns-in_ok-event-in-EthDevice-clause-stepped
