@@ -1,5 +1,4 @@
-use Rattle.std.proofs.Common.{ap, ◌∙◌, List, Result, Ok, Err, IfOk}
-use Rattle.cargo_core.specs.declared.memory.Memory.{Memory}
+use Rattle.std.proofs.Common.{ap, ◌∙◌, List}
 use Rattle.wire_core.specs.declared.names.QueueId.{QueueId}
 use Rattle.wire_core.specs.declared.names.Event.{Event}
 use Rattle.wire_core.specs.Lists.{Stepped}
@@ -28,8 +27,3 @@ joiner_acts w v old new e st turned same = record {
   happened = st.happened;
   steps = record { turned = turned; kept = st.kept; part = ap (λ (q : QueueId). Joins q.0 new.second.queue.0) same.first ∙ ap (λ (q : QueueId). Joins old.first.queue.0 q.0) same.second };
 }
-
--- a step that may want memory
-pub joiner_ok : (w v : List Queue) (old new : Joiner) (r : Result Event Memory) → IfOk r (Stepped JoinerStandsFor Happens w v old new) → IfOk r (λ e. Turned (joiner_round old) e (joiner_round new)) → SameJoiner old new → IfOk r (Acts member_means w v (Members.Joiner old) (Members.Joiner new))
-joiner_ok w v old new (Ok e) st turned same = joiner_acts w v old new e st turned same
-joiner_ok w v old new (Err m) st turned same = tt

@@ -20,10 +20,10 @@ impl SmallActor for Member {
     ghost means = { member_means };
 
     fn step(&mut self, world: &mut World, event: &mut Event) -> Result<(), Memory> {
-        *event = match self {
-            Member::Source(source) => source.step(world),
-            Member::Joiner(joiner) => joiner.step(world)?,
-        };
+        match self {
+            Member::Source(source) => *event = source.step(world),
+            Member::Joiner(joiner) => *event = joiner.step(world)?,
+        }
         Ok(())
     }
 

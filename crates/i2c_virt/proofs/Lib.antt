@@ -9,6 +9,7 @@ pub mod Stepping
 pub mod Turning
 pub mod Lowest
 pub mod Loosening
+pub mod Resting
 pub mod Settling
 pub mod Rows
 pub mod Starting

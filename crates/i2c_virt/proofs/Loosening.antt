@@ -2,8 +2,9 @@
 use Rattle.std.proofs.Common.{◌≡◌, ◌⊎◌, ◌+◌, ◌-◌, ◌*◌, ◌/◌, ◌%◌, ◌^◌, ◌≤◌, ◌<◌, ◌&&◌, bit_and, bit_or, w64, ℕ, zero, suc, Bool, true, false, not, Option, Some, None, is_none, is_some, inl, inr, List, [], ◌∷◌, length, drop, slice_get, slice_index_or, slice_set, refl, sym, ap, ◌∙◌, subst, add-zero, arith}
 use Rattle.std.specs.Int.{bit_at, bit_not, trailing_zeros}
 use Rattle.std.proofs.lemmas.Nat.{shr-shr}
+use Rattle.std.specs.Int.Count.{trailing_of_zero}
 use Rattle.std.proofs.Math.Nat.{div-le_self}
-use Rattle.std.proofs.lemmas.Nat.Bits.{bit_at-zero, bit_at-trailing_zeros, bit_at_set_same, bit_at_set_other, bit_at_clear_other}
+use Rattle.std.proofs.lemmas.Nat.Bits.{bit_at-zero, bit_at-trailing_zeros, bit_at_above, bit_at_set_same, bit_at_set_other, bit_at_clear_same, bit_at_clear_other}
 use Rattle.std.proofs.lemmas.Bool.{cases_lt, cases_eq}
 use Rattle.std.proofs.lemmas.List.{length-append}
 use Rattle.std.proofs.lemmas.Option.{slice_get_within, slice_get-get_or}
@@ -52,6 +53,16 @@ without_bit n b k settled lt small is h off = by (cases_eq k b)
     by (inl e) = let no : true ≡ false = sym is ∙ off e in cc
     by (inr other) = sym (bit_at_clear_other w64 n b lt k small other) ∙ h
 
+pub bit_off : (n b : ℕ) → b < 64 → bit_at (bit_and n (bit_not w64 (1 * 2 ^ b % 2 ^ 64))) b ≡ 0
+bit_off n b lt = bit_at_clear_same w64 n b lt
+
+pub bits_beside : (n b k : ℕ) (settled : Bool) → b < 64 → k < 64 → settled ≡ true → (k ≡ b → settled ≡ false) → bit_at (bit_and n (bit_not w64 (1 * 2 ^ b % 2 ^ 64))) k ≡ bit_at n k
+bits_beside n b k settled lt small is off = by (cases_eq k b)
+  where
+    by : (k ≡ b) ⊎ (k ≡ b → ⊥) → bit_at (bit_and n (bit_not w64 (1 * 2 ^ b % 2 ^ 64))) k ≡ bit_at n k
+    by (inl e) = let no : true ≡ false = sym is ∙ off e in cc
+    by (inr other) = bit_at_clear_other w64 n b lt k small other
+
 pub before_next : (n b k : ℕ) → n < 2 ^ 64 → b ≤ k → k < b + trailing_zeros w64 (n / 2 ^ b) → bit_at n k ≡ 0
 before_next n b k fits le lt =
     let on : b + (k - b) ≡ k = omega (arith, le) in
@@ -63,6 +74,34 @@ before_next n b k fits le lt =
     by (suc rest) is =
         let small : n / 2 ^ b ≤ n = div-le_self n (2 ^ b) in
         (bit_at-trailing_zeros w64 (n / 2 ^ b) (omega (arith, is)) (omega (arith, small, fits))).2 (k - b) (omega (arith, lt, le))
+
+-- the next one is set; where there is none, it is past all of them
+next_shifted : (n b : ℕ) → bit_at (n / 2 ^ b) (trailing_zeros w64 (n / 2 ^ b)) ≡ bit_at n (b + trailing_zeros w64 (n / 2 ^ b))
+next_shifted n b = ap (λ x. x % 2) (shr-shr n b (trailing_zeros w64 (n / 2 ^ b)))
+
+none_after : (n b : ℕ) → 0 ≡ n / 2 ^ b → trailing_zeros w64 (n / 2 ^ b) ≡ 64
+none_after n b is = ap (trailing_zeros w64) (sym is) ∙ trailing_of_zero 64
+
+next_bit : (n b rest : ℕ) → n < 2 ^ 64 → suc rest ≡ n / 2 ^ b → bit_at n (b + trailing_zeros w64 (n / 2 ^ b)) ≡ 1
+next_bit n b rest fits is =
+    let small : n / 2 ^ b ≤ n = div-le_self n (2 ^ b) in
+    sym (next_shifted n b) ∙ (bit_at-trailing_zeros w64 (n / 2 ^ b) (omega (arith, is)) (omega (arith, small, fits))).1.0
+
+pub next_set : (n b : ℕ) → n < 2 ^ 64 → b + trailing_zeros w64 (n / 2 ^ b) < 64 → bit_at n (b + trailing_zeros w64 (n / 2 ^ b)) ≡ 1
+next_set n b fits lt = by (n / 2 ^ b) refl
+  where
+    by : (rest : ℕ) → rest ≡ n / 2 ^ b → bit_at n (b + trailing_zeros w64 (n / 2 ^ b)) ≡ 1
+    by zero is = let none = none_after n b is in absurd (omega (arith, none, lt))
+    by (suc rest) is = next_bit n b rest fits is
+
+pub next_none : (n b : ℕ) → n < 2 ^ 64 → 64 ≤ b + trailing_zeros w64 (n / 2 ^ b) → b + trailing_zeros w64 (n / 2 ^ b) ≡ b + 64
+next_none n b fits le = by (n / 2 ^ b) refl
+  where
+    by : (rest : ℕ) → rest ≡ n / 2 ^ b → b + trailing_zeros w64 (n / 2 ^ b) ≡ b + 64
+    by zero is = ap (λ t. b + t) (none_after n b is)
+    by (suc rest) is =
+        let no : 1 ≡ 0 = sym (next_bit n b rest fits is) ∙ bit_at_above n 64 (b + trailing_zeros w64 (n / 2 ^ b)) fits le in
+        absurd (omega (arith, no))
 
 -- what is needed of a client comes up where its desk was replaced, or where an entry was out of turn
 

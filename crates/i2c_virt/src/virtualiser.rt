@@ -611,8 +611,9 @@ impl I2cVirt {
             self.old self.new event.new }
         ensures turned { Turned (i2c_virt_round self.old) event.new (i2c_virt_round self.new) }
     {
+        // The end that is stepped is settled exactly where all are.
+        let settled = self.at_rest();
         let at = self.choose();
-        let settled = self.is_settled_at(at);
         let client = self.step_at(wires, at, event);
         let moved = event.item.is_some();
         let same = self.is_same_at(at, settled, moved);

@@ -4,7 +4,7 @@ ghost use Rattle.sdf_check.specs.Valid.{Valid};
 ghost use Rattle.cast_core.specs.Hostile.{HasNoRogue};
 
 use crate::order::Player;
-use crate::wrapping::{Wrapped, wrap};
+use crate::wrapping::{Wrapped, all_wait, wrap};
 use cargo_core::Memory;
 use cast_core::cast;
 use region_layout::lay_out;
@@ -29,16 +29,20 @@ fn system_of(alloc: Global, plan: &Plan, trace: &Trace) -> Result<System, Memory
     System::build(alloc, plan, &layout, trace)
 }
 
-// The actors of a plan, each in its wrapping, at the queues of its layout.
-fn small_of(alloc: Global, plan: &Plan, trace: &Trace) -> Result<Small<Wrapped>, Memory>
+// The actors of a plan, each in its wrapping, at the queues of its layout, where none of them drops
+// anything.
+fn small_of(alloc: Global, plan: &Plan, trace: &Trace) -> Result<Option<Small<Wrapped>>, Memory>
     requires valid { Valid plan.now }
     requires read { IsReadFor plan.now trace.now }
     requires friendly { HasNoRogue plan.now }
 {
     let layout = lay_out(alloc, plan)?;
     let cast = cast(alloc, plan, &layout, trace)?;
+    if !all_wait(&cast) {
+        return Ok(None);
+    }
     let actors = wrap(alloc, cast)?;
-    Small::new(alloc, layout.queues(), actors)
+    Ok(Some(Small::new(alloc, layout.queues(), actors)?))
 }
 
 // Plays a plan by a seed in both ways: how many steps `Small` made, and whether both journals are
@@ -50,7 +54,9 @@ fn compared(alloc: Global, plan: &Plan, trace: &Trace, seed: u64) -> Result<(usi
 {
     let mut system = system_of(alloc, plan, trace)?;
     let ending = system.play(seed, LIMIT)?;
-    let mut small = small_of(alloc, plan, trace)?;
+    let Some(mut small) = small_of(alloc, plan, trace)? else {
+        return Ok((0, false));
+    };
     let quiet = small.play(seed, LIMIT)?;
     let both = quiet && ending == Ending::Quiet;
     Ok((
@@ -86,11 +92,13 @@ pub(crate) fn steps_by(
     requires friendly { HasNoRogue plan.now }
 {
     let steps = match player {
-        Player::Small => {
-            let mut small = small_of(alloc, plan, trace)?;
-            small.play(0, LIMIT)?;
-            small.journal().len()
-        }
+        Player::Small => match small_of(alloc, plan, trace)? {
+            Some(mut small) => {
+                small.play(0, LIMIT)?;
+                small.journal().len()
+            }
+            None => 0,
+        },
         Player::System => {
             let mut system = system_of(alloc, plan, trace)?;
             system.play(0, LIMIT)?;

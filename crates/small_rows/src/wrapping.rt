@@ -1,6 +1,6 @@
 //! The actors of the plans behind the trait of the player.
-ghost use Rattle.std.specs.Prelude.{IfOk};
-ghost use Rattle.small_rows.specs.Wrappings.{wrapped_means, AreWrapped};
+ghost use Rattle.std.specs.Prelude.{◌≡◌, true, IfOk};
+ghost use Rattle.small_rows.specs.Wrappings.{wrapped_means, AreWrapped, AreWaiting, IsWaiting};
 ghost use Rattle.small_rows.specs.WrappingLaws.{wrapped_lawful};
 
 use actor_set::Actor;
@@ -30,6 +30,28 @@ impl SmallActor for Wrapped {
     }
 
     ghost lawful = { wrapped_lawful };
+}
+
+/// Whether an actor drops nothing.
+fn waits(actor: &Actor) -> bool
+    ensures { result ≡ true → IsWaiting actor.now }
+{
+    match actor {
+        Actor::SerialVirtRx(virt) => !virt.drops.contains(&true),
+        _ => true,
+    }
+}
+
+/// Whether none of these actors drops anything.
+pub fn all_wait(actors: &[Actor]) -> bool
+    ensures { result ≡ true → AreWaiting actors.now }
+{
+    for actor in actors {
+        if !waits(actor) {
+            return false;
+        }
+    }
+    true
 }
 
 /// Puts each actor into its wrapping.

@@ -3,15 +3,18 @@ use Rattle.std.proofs.Math.Dec.{eqb}
 use Rattle.std.proofs.lemmas.Bool.Decides.{eqb_tells}
 use Rattle.std.proofs.lemmas.List.{append-nil, map-append, length-map}
 use Rattle.std.proofs.lemmas.Option.{slice_get-get_or}
-use Rattle.play_core.specs.Moved.{moved}
+use Rattle.play_core.specs.Moved.{moved, noes_of}
 use Rattle.play_core.specs.Rests.Showing.{HaveItems, HaveBells}
 use Rattle.wire_core.proofs.Places.{slice_get_written, slice_get_beside}
 use Rattle.wire_core.specs.declared.names.QueueRow.{QueueRow}
 use Rattle.wire_core.specs.declared.names.Entry.{Entry}
 use Rattle.wire_core.specs.Lists.{Passed, with_deed, nothing_passed}
 use Rattle.wire_core.specs.Queues.{starts, queue_at}
-use Rattle.wire_core.specs.Journal.{start_history, IsShown}
+use Rattle.wire_core.specs.Ends.{Role, Consumer, Producer}
+use Rattle.wire_core.specs.Fates.{noes_at}
+use Rattle.wire_core.specs.Journal.{start_history, history_at, start_track, IsShown}
 use Rattle.wire_core.proofs.BellTheorem.{start_is}
+use Rattle.play_core.proofs.Looking.{track_looks}
 use Rattle.turn_kit.specs.Pace.{pendings}
 use Rattle.turn_kit.proofs.Pacing.{paced_anew}
 use Rattle.play_core.proofs.Lists.{some_is}
@@ -115,8 +118,21 @@ tale_parts m mo (t ∷ ts) tale k x y at at' =
     let z = turn_part m mo t tale.0 k x at (eqb_tells k t.number) in
     tale_parts m (moment_after mo t) ts tale.1 k z.0 y z.1 at' ∙ z.2
 
+-- nobody looked in vain before the start
+none_looked : (r : Role) → noes_of r start_track ≡ 0
+none_looked Consumer = refl
+none_looked Producer = refl
+
 pub items_shown : {A : Type 0} (m : Means A) (rows : List QueueRow) (mo : Moment A) (passed : Passed) (journal : List Entry) → Holds m rows mo passed journal → HaveItems passed (moved (start_history rows) journal)
-items_shown m rows mo passed journal h = record { taken = h.shows_taken; sent = h.shows_sent }
+items_shown m rows mo passed journal h = record {
+  taken = h.shows_taken;
+  sent = h.shows_sent;
+  noes = λ r n.
+      let calls = ap (noes_at r n) h.calls in
+      let looks = track_looks r n (start_history rows) journal in
+      let none : noes_of r (history_at (start_history rows) n) ≡ 0 = ap (noes_of r) (start_is rows n) ∙ none_looked r in
+      omega (arith, calls, looks, none);
+}
 
 pub bells_shown : {A : Type 0} (m : Means A) (rows : List QueueRow) (mo : Moment A) (passed : Passed) (journal : List Entry) → Holds m rows mo passed journal → HaveBells mo.world (start_history rows) journal
 bells_shown m rows mo passed journal h = λ n lt. (h.queues n (get_or rows n no_row) (slice_get-get_or rows n no_row (subst (λ i. n < i) h.size lt))).bells

@@ -1,6 +1,6 @@
 //! The player.
-ghost use Rattle.std.specs.Prelude.{◌≡◌, ◌<◌, ◌≤◌, ℕ, true, false, length, not, OnOk, OnErr, IfOk};
-ghost use Rattle.std.specs.Prelude.{slice_get, Some, []};
+ghost use Rattle.std.specs.Prelude.{◌≡◌, ◌<◌, ◌≤◌, ◌-◌, ℕ, true, false, length, not, take};
+ghost use Rattle.std.specs.Prelude.{slice_get, Some, [], OnOk, OnErr, IfOk};
 ghost use Rattle.wire_core.specs.Queues.{starts};
 ghost use Rattle.play_core.specs.Runs.{rung_at};
 ghost use Rattle.small_system.specs.Meanings.{IsFit};
@@ -74,6 +74,7 @@ fn copies(alloc: Global, rows: &[QueueRow]) -> Result<Vec<QueueRow>, Memory>
 }
 
 // The actor whose pending word a call on a queue of this row sets, if it sets one.
+#[inline(always)]
 fn rung_at(op: Op, row: &QueueRow) -> Option<u16>
     ensures { result ≡ rung_at op row.now }
 {
@@ -86,6 +87,7 @@ fn rung_at(op: Op, row: &QueueRow) -> Option<u16>
 
 // Whether the actor at a place isn't runnable. What is pending for it is asked first, which is one
 // look.
+#[inline(always)]
 fn is_idle<A: SmallActor>(actor: &A, world: &World, place: ActorId) -> bool
     requires { IsFit A.means actor.now }
     ensures { result ≡ not (is_runnable A.means world.now place.0 actor.now) }
@@ -103,6 +105,15 @@ fn is_woken<A: SmallActor>(actors: &[A], world: &World, rung: Option<u16>) -> bo
         Some(actor) => !is_idle(&actors[actor as usize], world, ActorId(actor)),
         None => false,
     }
+}
+
+// Takes the last entry of a journal out again.
+#[inline(never)]
+fn take_back(journal: &mut Vec<Entry>)
+    requires { 0 < length journal.old.items }
+    ensures { journal.new.items ≡ take (length journal.old.items - 1) journal.old.items }
+{
+    let _ = journal.pop();
 }
 
 // The runnable actors before the first call.
@@ -175,15 +186,22 @@ impl<A: SmallActor> Small<A> {
     {
         self.journal.reserve(1)?;
         let number = self.running.at(place);
-        // The actor writes its event into the entry that the journal gets.
-        let mut entry = Entry {
+        // The actor writes its event into the journal itself.
+        let last = self.journal.len();
+        self.journal.push_reserved(Entry {
             actor: ActorId(number),
             event: event_place(),
-        };
+        });
+        let event = &mut self.journal[last].event;
         let actor = &mut self.actors[number as usize];
-        actor.step(&mut self.world, &mut entry.event)?;
-        let (op, queue) = (entry.event.op, entry.event.queue);
-        self.journal.push_reserved(entry);
+        match actor.step(&mut self.world, event) {
+            Ok(()) => {}
+            Err(memory) => {
+                take_back(&mut self.journal);
+                return Err(memory);
+            }
+        }
+        let (op, queue) = (event.op, event.queue);
         let actor = &self.actors[number as usize];
         let idle = is_idle(actor, &self.world, ActorId(number));
         let row = &self.rows[queue.0 as usize];

@@ -1,7 +1,6 @@
 -- A step of either kind of actor is one of the member.
-use Rattle.std.proofs.Common.{◌≡◌, ap, ap₂, ◌∙◌, List, Result, Ok, Err, IfOk}
+use Rattle.std.proofs.Common.{◌≡◌, ap, ap₂, ◌∙◌, List}
 use Rattle.cargo_core.specs.declared.item.PoolId.{PoolId}
-use Rattle.cargo_core.specs.declared.memory.Memory.{Memory}
 use Rattle.frame_core.specs.declared.mac.Mac.{Mac}
 use Rattle.wire_core.specs.declared.names.QueueId.{QueueId}
 use Rattle.wire_core.specs.declared.names.Event.{Event}
@@ -51,12 +50,6 @@ client_acts w v old new e st turned same = record {
   happened = st.happened;
   steps = record { turned = turned; kept = st.kept; part = client_made old new same };
 }
-
--- a step that may want memory
-pub client_ok : (w v : List Queue) (old new : NetClient) (r : Result Event Memory) → IfOk r (Stepped ClientStandsFor Happens w v old new) → IfOk r (λ e. Turned (client_round old) e (client_round new)) → SameClient old new
-    → IfOk r (Acts member_means w v (Members.Client old) (Members.Client new))
-client_ok w v old new (Ok e) st turned same = client_acts w v old new e st turned same
-client_ok w v old new (Err m) st turned same = tt
 
 pub switch_acts : (w v : List Queue) (old new : NetSwitch) (e : Event) → Stepped SwitchStandsFor Happens w v old new e → Turned (switch_round old) e (switch_round new) → SameSwitch old new
     → Acts member_means w v (Members.Switch old) (Members.Switch new) e

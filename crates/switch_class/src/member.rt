@@ -20,10 +20,10 @@ impl SmallActor for Member {
     ghost means = { member_means };
 
     fn step(&mut self, world: &mut World, event: &mut Event) -> Result<(), Memory> {
-        *event = match self {
-            Member::Client(client) => client.step(world)?,
-            Member::Switch(switch) => switch.step(world),
-        };
+        match self {
+            Member::Client(client) => *event = client.step(world)?,
+            Member::Switch(switch) => *event = switch.step(world),
+        }
         Ok(())
     }
 

@@ -29,7 +29,7 @@ use Rattle.serial_law.specs.Serial.{SerialClass, IsSerial, ArrivesWhole}
 use Rattle.serial_law.specs.Beside.{Rogues, IsSerialBeside, ArrivesBeside}
 use Rattle.serial_law.proofs.Arrivals.{as_there, beside_there, marks_fit, said_calm, RowAt}
 use Rattle.cast_core.proofs.Seconds.{second_length}
-use Rattle.actor_set.specs.Laws.Kinds.{manner_of, serial_part, sheet}
+use Rattle.actor_set.specs.Laws.Kinds.{manner_of, serial_part}
 use Rattle.actor_set.specs.Laws.Scenes.{told_sheet}
 use Rattle.actor_set.proofs.LawsLemmas.Calm.{calm_at}
 use Rattle.system_core.specs.Shows.{Shown, hostile_in, manner_in, moved_in, sheet_in, RowsStand}

@@ -19,9 +19,8 @@ use Rattle.net_virt_tx.proofs.Rounds.{row_of as sender_row}
 use Rattle.net_law.specs.TxParts.Playing.{send_part, shippers}
 use Rattle.blk_virt.specs.Desks.{holders, bad_count as blk_bad_count}
 use Rattle.blk_virt.specs.Requests.{is_bad}
-use Rattle.blk_virt.specs.Virtualising.{BlkVirtStandsFor, BlkVirtRow}
+use Rattle.blk_virt.specs.Virtualising.{BlkVirtStandsFor}
 use Rattle.blk_virt.specs.declared.client.Client.{Client}
-use Rattle.blk_virt.specs.declared.requests.Holder.{Holder}
 use Rattle.blk_virt.specs.declared.virtualiser.BlkVirt.{BlkVirt}
 use Rattle.blk_virt.proofs.Rows.{row_of as server_row}
 use Rattle.blk_law.specs.Sheets.Playing.{holder_pool, sharers}

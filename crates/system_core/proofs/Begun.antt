@@ -10,7 +10,7 @@ use Rattle.serial_switch.specs.Switching.{input_of}
 use Rattle.trace_text.specs.declared.trace.Trace.{Trace}
 use Rattle.trace_text.specs.Events.{is_serial_rogue}
 use Rattle.wire_core.specs.declared.names.QueueRow.{QueueRow}
-use Rattle.wire_core.specs.Fates.{marked, without}
+use Rattle.wire_core.specs.Fates.{without}
 use Rattle.wire_core.proofs.Fating.{without_length}
 use Rattle.region_layout.specs.Rows.{uart_number}
 use Rattle.play_core.specs.Moved.{Moved, Seat}

@@ -7,7 +7,7 @@ use Rattle.trace_text.specs.declared.trace.Trace.{Trace}
 use Rattle.region_layout.specs.Rows.{uart_number}
 use Rattle.serial_law.specs.Parts.{SerialPart, SerialDevice, SerialDriver, SerialReceiver, SerialSender, SerialClient}
 use Rattle.layout_laws.specs.Jobs.Jobs as jobs
-use Rattle.actor_set.specs.Parts.{Part, RxPart, TxPart, ClientPart, HostilePart, RoguePart}
+use Rattle.actor_set.specs.Parts.{RxPart, TxPart, ClientPart, HostilePart, RoguePart}
 use Rattle.actor_set.specs.Laws.Kinds.{serial_part}
 use Rattle.trace_text.specs.Events.{is_serial_rogue}
 use Rattle.cast_core.specs.Casts.{calm_part}

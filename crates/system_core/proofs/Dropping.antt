@@ -1,9 +1,8 @@
 -- Where an actor drops, its looks in vain are drops of the system.
 use Rattle.std.proofs.Common.{◌≡◌, ◌&&◌, ℕ, Bool, true, false, Option, Some, List, slice_get, refl, sym, ap, ◌∙◌}
 use Rattle.std.specs.Option.{option_map_or}
-use Rattle.wire_core.specs.declared.names.Entry.{Entry}
 use Rattle.wire_core.specs.declared.names.Event.{Event}
-use Rattle.wire_core.specs.Ends.{Role, End, role_of, waiting_role}
+use Rattle.wire_core.specs.Ends.{Role, End, role_of}
 use Rattle.wire_core.specs.Marks.{is_vain_look}
 use Rattle.turn_kit.specs.Turns.{Post, Round, Turned, is_drop}
 use Rattle.turn_kit.proofs.Roles.{role_posted}

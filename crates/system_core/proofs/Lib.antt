@@ -6,6 +6,7 @@ pub mod Anew
 pub mod Marking
 pub mod Dropping
 pub mod SystemStep
+pub mod Entering
 pub mod Playing
 pub mod RunsNow
 pub mod Owned

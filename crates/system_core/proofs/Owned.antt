@@ -1,9 +1,9 @@
 -- Whoever is hostile, a system's actors put only what was in their hands, and all buffers are there.
-use Rattle.std.proofs.Common.{◌≡◌, ◌++◌, ℕ, Some, List, [], ◌∷◌, map, slice_get, sym}
+use Rattle.std.proofs.Common.{◌++◌, List, [], ◌∷◌, map}
 use Rattle.wire_core.specs.declared.names.Entry.{Entry}
 use Rattle.wire_core.specs.declared.names.PoolRow.{PoolRow}
 use Rattle.wire_core.specs.declared.names.QueueRow.{QueueRow}
-use Rattle.wire_core.specs.Journal.{EachMoment, History, LegalJournal, QueuesFlow}
+use Rattle.wire_core.specs.Journal.{EachMoment, History, QueuesFlow}
 use Rattle.wire_core.specs.Queues.{Queue, end_at}
 use Rattle.wire_core.proofs.BellTheorem.{queues_flow}
 use Rattle.wire_core.proofs.Tracks.{EachFrom-append}

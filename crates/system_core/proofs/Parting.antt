@@ -5,7 +5,6 @@ use Rattle.std.proofs.lemmas.List.{length-map}
 use Rattle.wire_core.specs.declared.names.QueueRow.{QueueRow}
 use Rattle.wire_core.specs.Deeds.{Cargo}
 use Rattle.wire_core.specs.Ends.{Role, End}
-use Rattle.wire_core.specs.Lists.{nothing_passed}
 use Rattle.wire_core.specs.Queues.{Queue, queue_at, end_at, end_of, items_of, start_queue, starts}
 use Rattle.wire_core.specs.Journal.{History, Track, IsShown, start_track, start_history}
 use Rattle.wire_core.specs.Sizes.{AreSized}

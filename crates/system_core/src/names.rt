@@ -1,6 +1,6 @@
 //! The names that a system keeps of what is put to queues with a hostile end.
-ghost use Rattle.std.specs.Prelude.{◌≡◌, ◌<◌, ◌++◌, ℕ, true, false, is_some, map, None};
-ghost use Rattle.std.specs.Prelude.{IfOk, OnOk, vec_len, vec_capacity};
+ghost use Rattle.std.specs.Prelude.{◌≡◌, ◌<◌, ◌-◌, ◌++◌, ℕ, true, false, is_some, length, map, take};
+ghost use Rattle.std.specs.Prelude.{IfOk, None, OnOk, vec_len, vec_capacity};
 ghost use Rattle.noted_wires.specs.Noting.{kept_at, notes_in};
 ghost use Rattle.play_core.specs.Names.{carries_pages, is_wild, wild_in};
 ghost use Rattle.actor_set.specs.Actors.{part_of};
@@ -83,6 +83,15 @@ pub fn make_room(
         names.reserve(1)?;
     }
     Ok(())
+}
+
+/// Takes the last entry of a journal out again.
+#[inline(never)]
+pub fn take_back(journal: &mut Vec<Entry>)
+    requires { 0 < length journal.old.items }
+    ensures { journal.new.items ≡ take (length journal.old.items - 1) journal.old.items }
+{
+    drop(journal.pop());
 }
 
 /// Keeps the name of what was put last to this queue, where there is one.

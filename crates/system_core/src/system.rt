@@ -31,7 +31,7 @@ mod apart;
 use crate::crew::Crew;
 use crate::crews::{blk_crew, net_crew, serial_crew};
 use crate::lines::{bad, lines, pool_copies};
-use crate::names::{keep_name, kept_queues, make_room};
+use crate::names::{keep_name, kept_queues, make_room, take_back};
 use crate::records::{frame_records, line, records, replies, wire};
 use actor_set::Actor;
 use cargo_core::{Memory, Series, Word};
@@ -362,16 +362,23 @@ impl System {
     {
         make_room(&mut self.journal, &mut self.names, &self.wires.kept)?;
         let number = self.running.at(place);
-        // The actor writes its event into the entry that the journal gets.
-        let mut entry = Entry {
+        // The actor writes its event where it stays, in the journal's entry.
+        let last = self.journal.len();
+        self.journal.push_reserved(Entry {
             actor: ActorId(number),
             event: event_place(),
-        };
+        });
+        let event = &mut self.journal[last].event;
         let actor = &mut self.actors[number as usize];
-        actor.step(&mut self.wires, &mut entry.event)?;
-        let (op, queue) = (entry.event.op, entry.event.queue);
+        match actor.step(&mut self.wires, event) {
+            Ok(()) => {}
+            Err(memory) => {
+                take_back(&mut self.journal);
+                return Err(memory);
+            }
+        }
+        let (op, queue) = (event.op, event.queue);
         keep_name(&mut self.names, &mut self.wires.last, queue);
-        self.journal.push_reserved(entry);
         let actor = &self.actors[number as usize];
         let idle = is_idle(actor, &self.wires.world, ActorId(number));
         let row = &self.rows[queue.0 as usize];

@@ -193,7 +193,11 @@ fn add_says(
 ) -> Result<(), Memory> {
     let mut number = 0u64;
     for client in clients {
-        if runs(plan.protection_domain.as_slice(), &client.pd, "serial_speaker") {
+        if runs(
+            plan.protection_domain.as_slice(),
+            &client.pd,
+            "serial_speaker",
+        ) {
             let times = draws.below(24).saturating_add(1);
             let byte = number.saturating_add(97);
             write!(to, "say {number} {times}*{byte:02x}\n")?;

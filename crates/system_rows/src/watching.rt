@@ -167,9 +167,11 @@ fn is_client_right(
     let wanted = to_get(alloc, plan, layout, journal, client, input.as_slice())?;
     let says = trace.says.get(client).as_slice();
     let said = bytes_among(alloc, line, says)?;
-    Ok(stand_in_order(record, input.as_slice())
-        && begin_bytes(record, &wanted, whole)
-        && begin_bytes(&said, says, whole))
+    Ok(
+        stand_in_order(record, input.as_slice())
+            && begin_bytes(record, &wanted, whole)
+            && begin_bytes(&said, says, whole),
+    )
 }
 
 /// Whether what each serial client recorded and said is right. No byte is said by two of them, and

@@ -61,13 +61,12 @@ fn shared_place_at(clients: u16, address: u64) -> Option<usize>
         ≡ option_map place_of (buffer_at (shared_windows 0 clients) address) }
     ensures within { ForSome result (λ place. place < 2 * clients) }
 {
-    for client in 0..clients {
-        let base = (BUFFERS * BUFFER_BYTES) as u64 * u64::from(client);
-        if let Some(number) = number_in(base, address) {
-            return Some(2 * client as usize + number as usize);
-        }
+    let place = address / BUFFER_BYTES as u64;
+    if place < 2 * u64::from(clients) && place * BUFFER_BYTES as u64 == address {
+        Some(place as usize)
+    } else {
+        None
     }
-    None
 }
 
 // The place of the buffer that an item at a queue names.

@@ -1,6 +1,6 @@
 -- The buffers of a plan have their owners, and what a report says of its pools is what the table of
 -- owners says.
-use Rattle.std.proofs.Common.{◌≡◌, ℕ, List, sym, subst}
+use Rattle.std.proofs.Common.{List, sym, subst}
 use Rattle.wire_core.specs.Journal.{EachMoment}
 use Rattle.wire_core.specs.declared.names.QueueRow.{QueueRow}
 use Rattle.play_core.specs.Sheets.{AreFilled, AreSeated}

@@ -10,4 +10,5 @@ new-requires c =
     wrapped_begin c.queues.result.now c.in_ok-cast.cast.items c.in_ok-actors.actors.items
     (are_seated c.args.plan.now c.requires.valid c.args.trace.now c.requires.read c.in_ok-cast.cast.items c.in_ok-cast.ensures c.queues.result.now (c.queues.ensures ∙ layout_queues c.args.plan.now c.in_ok-layout.layout c.in_ok-layout.ensures.layout))
     (all_calm c.args.plan.now c.args.trace.now c.in_ok-cast.cast.items (calm_cast c.args.plan.now c.args.trace.now c.in_ok-cast.cast.items c.requires.friendly c.in_ok-cast.ensures))
+    (c.all_wait.ensures c.if-all_wait.true)
     c.in_ok-actors.ensures

@@ -1,8 +1,8 @@
-use Rattle.std.proofs.Common.{IfOk, sym, subst}
+use Rattle.std.proofs.Common.{sym, subst}
 use Rattle.small_system.specs.Meanings.{Acts}
 use Rattle.class_example.specs.declared.member.Member.TheVariants as Members
 use Rattle.class_example.specs.Members.{member_means}
-use Rattle.class_example.proofs.Membering.{source_acts, joiner_ok}
+use Rattle.class_example.proofs.Membering.{source_acts, joiner_acts}
 use Rattle.class_example.proofs.member.MemberSmallActor.step.Goals as goal
 
 pub returns-in-Source-clause-acts : goal.returns-in-Source-clause-acts
@@ -10,7 +10,7 @@ returns-in-Source-clause-acts c =
     subst (λ a. Acts member_means c.args.world.now c.step.new.wires a (Members.Source c.step.new.self) c.step.result) (sym c.in-Source.is)
     (source_acts c.args.world.now c.step.new.wires c.in-Source.source c.step.new.self c.step.result c.step.ensures.stepped c.step.ensures.turned c.step.ensures.same)
 
-pub returns-in-Joiner-clause-acts : goal.returns-in-Joiner-clause-acts
-returns-in-Joiner-clause-acts c =
-    subst (λ a. IfOk c.step-in-Joiner.result (Acts member_means c.args.world.now c.step-in-Joiner.new.wires a (Members.Joiner c.step-in-Joiner.new.self))) (sym c.in-Joiner.is)
-    (joiner_ok c.args.world.now c.step-in-Joiner.new.wires c.in-Joiner.joiner c.step-in-Joiner.new.self c.step-in-Joiner.result c.step-in-Joiner.ensures.stepped c.step-in-Joiner.ensures.turned c.step-in-Joiner.ensures.same)
+pub returns-in_ok-event-clause-acts : goal.returns-in_ok-event-clause-acts
+returns-in_ok-event-clause-acts c =
+    subst (λ a. Acts member_means c.args.world.now c.step-in-Joiner.new.wires a (Members.Joiner c.step-in-Joiner.new.self) c.in_ok-event.event) (sym c.in-Joiner.is)
+    (joiner_acts c.args.world.now c.step-in-Joiner.new.wires c.in-Joiner.joiner c.step-in-Joiner.new.self c.in_ok-event.event c.in_ok-event.ensures.stepped c.in_ok-event.ensures.turned c.step-in-Joiner.ensures.same)

@@ -14,7 +14,7 @@ loop-place-preserved c =
     let a = c.len.ensures.len in
     let b = c.len-2.ensures.len in
     looked_on c.args.self.now c.end_at-at.result c.loop-place.loose c.unless_settled-loose.result c.loop-place.place c.next-place-in-loop-place.result (2 + c.len.result + c.len-2.result) (found c.loop-place.lowest) (found c.unless_settled-lowest.result) c.is_settled_at-settled.result c.queue_at.result.0
-    (omega (arith, a, b)) (omega arith) (omega arith) c.end_at-at.ensures.place c.end_at-at.ensures.there c.next-place-in-loop-place.ensures.on c.is_settled_at-settled.ensures c.queue_at.ensures c.unless_settled-lowest.ensures c.unless_settled-loose.ensures c.next-place-in-loop-place.ensures.between c.loop-place.invariant
+    (omega (arith, a, b)) (omega arith) (omega arith) c.end_at-at.ensures.place c.end_at-at.ensures.there c.next-place-in-loop-place.ensures.on c.is_settled_at-settled.ensures c.queue_at.ensures c.unless_settled-lowest.ensures c.unless_settled-loose.ensures.less c.next-place-in-loop-place.ensures.between c.loop-place.invariant
 
 pub returns-clause-lowest : goal.returns-clause-lowest
 returns-clause-lowest c =

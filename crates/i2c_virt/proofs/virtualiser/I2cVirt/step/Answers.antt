@@ -1,13 +1,15 @@
-use Rattle.std.proofs.Common.{◌∙◌, sym, ap, subst}
-use Rattle.buffer_kit.specs.Virtualising.{IsThere}
+use Rattle.std.proofs.Common.{◌≡◌, ◌∙◌, Some, slice_get, sym, ap, subst}
+use Rattle.buffer_kit.specs.Virtualising.{IsThere, virt_posts, place_of}
 use Rattle.wire_core.specs.Lists.{with_deed}
-use Rattle.turn_kit.specs.Turns.{Turned}
+use Rattle.turn_kit.specs.Table.{is_settled}
+use Rattle.turn_kit.specs.Turns.{Turned, Post}
 use Rattle.turn_kit.specs.Lowests.{found}
 use Rattle.turn_kit.specs.declared.turns.Lowest.{Lowest}
 use Rattle.i2c_virt.specs.declared.virtualiser.I2cVirt.{I2cVirt}
 use Rattle.i2c_virt.specs.Virtualising.{I2cVirtStandsFor, AreLoose, i2c_virt_round, lowest_of}
 use Rattle.i2c_virt.proofs.Lowest.{lowest_kept}
-use Rattle.i2c_virt.proofs.Loosening.{left_settled, loose_kept, no_item}
+use Rattle.i2c_virt.proofs.Loosening.{left_settled, loose_kept, no_item, need_in}
+use Rattle.i2c_virt.proofs.Resting.{rested_at}
 use Rattle.i2c_virt.proofs.Turning.{virt_turned, looked_fits, looked_same, turned_fits}
 use Rattle.i2c_virt.proofs.virtualiser.I2cVirt.step.Goals as goal
 
@@ -23,12 +25,13 @@ look-requires-clause-same g c = λ same.
     let at = c.choose-at.result in
     let there = subst (λ (x : I2cVirt). IsThere x.ends at) (sym c.choose-at.ensures.after) c.choose-at.ensures.there in
     let none = c.is_same_at-same.ensures.still same in
+    let was = subst (λ (x : I2cVirt). (p : Post) → slice_get (virt_posts x.ends) (place_of x.ends at) ≡ Some p → c.at_rest-settled.result ≡ is_settled p.state (need_in x at)) (sym c.choose-at.ensures.after) (rested_at v at c.at_rest-settled.result c.at_rest-settled.ensures c.choose-at.ensures.place c.choose-at.ensures.there) in
     record {
       is = ap (λ (l : Lowest). found l) (s.lowest ∙ ap (λ (x : I2cVirt). x.lowest) c.choose-at.ensures.after)
           ∙ (c.requires.knows.is ∙ (sym (ap lowest_of c.choose-at.ensures.after)
-          ∙ sym (lowest_kept mid w s.same.ends (s.kept (no_item _ c.is_some-moved.result c.is_some-moved.ensures none)) at there c.step_at-client.new.event c.is_settled_at-settled.result s.posted c.is_settled_at-settled.ensures (c.is_same_at-same.ensures.settled same))));
+          ∙ sym (lowest_kept mid w s.same.ends (s.kept (no_item _ c.is_some-moved.result c.is_some-moved.ensures none)) at there c.step_at-client.new.event c.at_rest-settled.result s.posted was (c.is_same_at-same.ensures.settled same))));
       loose = loose_kept mid w s.same.ends at there c.step_at-client.new.event c.step_at-client.result c.is_some-moved.result (λ n. s.kept (no_item _ c.is_some-moved.result c.is_some-moved.ensures n)) s.rises s.posted s.loose
-          (subst (λ (x : I2cVirt). AreLoose x.loose (i2c_virt_round x)) (sym c.choose-at.ensures.after) c.requires.knows.loose) none c.is_settled_at-settled.result c.is_settled_at-settled.ensures (c.is_same_at-same.ensures.settled same);
+          (subst (λ (x : I2cVirt). AreLoose x.loose (i2c_virt_round x)) (sym c.choose-at.ensures.after) c.requires.knows.loose) none c.at_rest-settled.result was (c.is_same_at-same.ensures.settled same);
     }
 
 pub look-requires-clause-left : goal.look-requires-clause-left

@@ -18,6 +18,7 @@ use Rattle.system_core.specs.Asking.{IsAsked}
 use Rattle.system_core.specs.Systems.{Holds, HoldsBefore, PutTheirOwn}
 use Rattle.system_core.proofs.Stepping.{caller_owns, rung_there, system_then}
 use Rattle.system_core.proofs.Hearing.{runner_there}
+use Rattle.system_core.proofs.Entering.{last_long, longer, taken_back, written_last, after_ok, after_err}
 use Rattle.system_core.proofs.Noting.{before_on, kept_there, may_here, names_then, none_more, plain_step, refitted}
 use Rattle.system_core.proofs.system.System.step_at.Goals as goal
 use Rattle.player_kit.proofs.Listing.{set_same}
@@ -58,6 +59,18 @@ step-requires-clause-may c =
     let here : slice_get c.self.inside.actors.items c.at-number.result ≡ Some c.index_mut-actor.result.now = slice_get_read c.self.inside.actors.items _ c.at-number.result c.index_mut-actor.result.now refl lt c.index_mut-actor.ensures.value in
     may_here c.self.inside c.self.invariant c.args.place c.at-number.result c.index_mut-actor.result.now c.at-number.ensures here
 
+pub index_mut-requires : goal.index_mut-requires
+index_mut-requires c =
+    let p = ap length c.push_reserved.ensures.items in
+    let n = last_long c.make_room.new.journal.items (entry_of c.at-number.result c.event_place.result) in
+    let l = c.len-last.ensures in
+    let v = c.make_room.new.journal.ok.0 in
+    let w = c.push_reserved.new.self.ok.0 in
+    omega (arith, p, n, l, v, w)
+
+pub take_back-requires : goal.take_back-requires
+take_back-requires c = longer c.self.inside.journal.items c.push_reserved.new.self.items c.len-last.result c.at-number.result c.event_place.result c.index_mut.result.now c.step.new.event (c.push_reserved.ensures.items ∙ ap (λ j. j ++ entry_of c.at-number.result c.event_place.result ∷ []) c.in_ok-make_room.ensures.journal) (c.len-last.ensures ∙ (c.make_room.new.journal.ok.0 ∙ ap length c.in_ok-make_room.ensures.journal)) c.index_mut.ensures.value
+
 pub index-actor-requires : goal.index-actor-requires
 index-actor-requires c =
     let lt : c.at-number.result < length c.self.inside.actors.items = runner_there c.self.inside c.self.invariant c.args.place c.at-number.result c.at-number.ensures in
@@ -65,49 +78,51 @@ index-actor-requires c =
     omega arith
 
 -- after want of memory nothing changed
-pub invariant_of-self-in_err-step : goal.invariant_of-self-in_err-step
-invariant_of-self-in_err-step c =
+pub invariant_of-self-in-Err : goal.invariant_of-self-in-Err
+invariant_of-self-in-Err c =
     let lt : c.at-number.result < length c.self.inside.actors.items = runner_there c.self.inside c.self.invariant c.args.place c.at-number.result c.at-number.ensures in
     let here : slice_get c.self.inside.actors.items c.at-number.result ≡ Some c.index_mut-actor.result.now = slice_get_read c.self.inside.actors.items _ c.at-number.result c.index_mut-actor.result.now refl lt c.index_mut-actor.ensures.value in
-    let set : slice_set c.self.inside.actors.items c.at-number.result c.step.new.self ≡ c.self.inside.actors.items = ap (slice_set c.self.inside.actors.items c.at-number.result) c.in_err-step.ensures.unchanged ∙ set_same c.self.inside.actors.items c.at-number.result c.index_mut-actor.result.now here in
+    let set : slice_set c.self.inside.actors.items c.at-number.result c.step.new.self ≡ c.self.inside.actors.items = ap (slice_set c.self.inside.actors.items c.at-number.result) (after_err _ c.step.result _ c.in-Err.is c.step.ensures.unchanged) ∙ set_same c.self.inside.actors.items c.at-number.result c.index_mut-actor.result.now here in
     let same : record (begun (history_of c.self.inside.rows.items c.self.inside.past.value.items) c.self.inside.rows.items c.self.inside.pools.items (slice_set c.self.inside.actors.items c.at-number.result c.step.new.self) c.self.inside.net c.self.inside.serial c.self.inside.blk) { names = names_left 0 c.self.inside.past.value.items ++ c.self.inside.names.items } ≡ setting_of c.self.inside = ap (λ xs. record (begun (history_of c.self.inside.rows.items c.self.inside.past.value.items) c.self.inside.rows.items c.self.inside.pools.items xs c.self.inside.net c.self.inside.serial c.self.inside.blk) { names = names_left 0 c.self.inside.past.value.items ++ c.self.inside.names.items }) set in
+    let back = c.take_back.ensures ∙ taken_back c.self.inside.journal.items c.push_reserved.new.self.items c.len-last.result c.at-number.result c.event_place.result c.index_mut.result.now c.step.new.event (c.push_reserved.ensures.items ∙ ap (λ j. j ++ entry_of c.at-number.result c.event_place.result ∷ []) c.in_ok-make_room.ensures.journal) (c.len-last.ensures ∙ (c.make_room.new.journal.ok.0 ∙ ap length c.in_ok-make_room.ensures.journal)) c.index_mut.ensures.value in
     record {
       fitted = rw c.in_ok-make_room.ensures.names (subst IsFitted (sym same) c.self.invariant.fitted);
       before = rw c.in_ok-make_room.ensures.names (subst HoldsBefore (sym same) c.self.invariant.before);
-      holds = rw (c.in_err-step.ensures.no_call, c.in_ok-make_room.ensures.journal, c.in_ok-make_room.ensures.names) (subst (λ xs. Holds (history_of c.self.inside.rows.items c.self.inside.past.value.items) c.self.inside.rows.items (setting_of c.self.inside).names c.self.inside.wires.world xs c.self.inside.journal.items) (sym set) c.self.invariant.holds);
-      rows_hold = rw (c.in_ok-make_room.ensures.journal, c.in_ok-make_room.ensures.names) (subst (λ z. EachMoment (RowsStand z) c.self.inside.journal.items) (sym same) c.self.invariant.rows_hold);
-      names_tell = rw (c.in_ok-make_room.ensures.journal, c.in_ok-make_room.ensures.names) (subst (λ z. EachMoment (NamesTell z) c.self.inside.journal.items) (sym same) c.self.invariant.names_tell);
-      brisk = rw c.in_ok-make_room.ensures.journal (subst (λ z. Brisk (hostile_in z) z.rows (drops_in z.cast) c.self.inside.journal.items) (sym same) c.self.invariant.brisk);
-      own = rw c.in_ok-make_room.ensures.journal (subst (λ z. PutTheirOwn z c.self.inside.journal.items) (sym same) c.self.invariant.own);
-      kept = rw c.in_err-step.ensures.no_call (subst (λ z. (n : ℕ) → kept_at c.self.inside.wires.kept.items n ≡ wild_in (hostile_in z) z.rows n) (sym same) c.self.invariant.kept);
-      none_last = rw c.in_err-step.ensures.no_call c.self.invariant.none_last;
-      running = rw (c.in_ok-make_room.ensures.journal, c.in_ok-make_room.ensures.names) (c.self.invariant.running ∙ ap (λ z. runs z c.self.inside.journal.items) (sym same));
+      holds = rw (after_err _ c.step.result _ c.in-Err.is c.step.ensures.no_call, back, c.in_ok-make_room.ensures.names) (subst (λ xs. Holds (history_of c.self.inside.rows.items c.self.inside.past.value.items) c.self.inside.rows.items (setting_of c.self.inside).names c.self.inside.wires.world xs c.self.inside.journal.items) (sym set) c.self.invariant.holds);
+      rows_hold = rw (back, c.in_ok-make_room.ensures.names) (subst (λ z. EachMoment (RowsStand z) c.self.inside.journal.items) (sym same) c.self.invariant.rows_hold);
+      names_tell = rw (back, c.in_ok-make_room.ensures.names) (subst (λ z. EachMoment (NamesTell z) c.self.inside.journal.items) (sym same) c.self.invariant.names_tell);
+      brisk = rw back (subst (λ z. Brisk (hostile_in z) z.rows (drops_in z.cast) c.self.inside.journal.items) (sym same) c.self.invariant.brisk);
+      own = rw back (subst (λ z. PutTheirOwn z c.self.inside.journal.items) (sym same) c.self.invariant.own);
+      kept = rw (after_err _ c.step.result _ c.in-Err.is c.step.ensures.no_call) (subst (λ z. (n : ℕ) → kept_at c.self.inside.wires.kept.items n ≡ wild_in (hostile_in z) z.rows n) (sym same) c.self.invariant.kept);
+      none_last = rw (after_err _ c.step.result _ c.in-Err.is c.step.ensures.no_call) c.self.invariant.none_last;
+      running = rw (back, c.in_ok-make_room.ensures.names) (c.self.invariant.running ∙ ap (λ z. runs z c.self.inside.journal.items) (sym same));
       room = rw length-set c.self.invariant.room;
     }
 
 pub keep_name-requires : goal.keep_name-requires
-keep_name-requires c is = c.in_ok-make_room.ensures.name c.step.new.event.queue.0 (rw c.deref.ensures.value (kept_there c.self.inside.wires c.step.new.wires c.index_mut-actor.result.now c.step.new.self c.step.new.event c.in_ok-step.ensures.stepped c.self.invariant.none_last is))
+keep_name-requires c is = c.in_ok-make_room.ensures.name c.step.new.event.queue.0 (rw c.deref.ensures.value (kept_there c.self.inside.wires c.step.new.wires c.index_mut-actor.result.now c.step.new.self c.step.new.event (after_ok _ c.step.result _ c.in-Ok.is c.step.ensures.stepped) c.self.invariant.none_last is))
 
 pub reach-other-requires : goal.reach-other-requires
 reach-other-requires c =
     let lt : c.at-number.result < length c.self.inside.actors.items = runner_there c.self.inside c.self.invariant c.args.place c.at-number.result c.at-number.ensures in
-    caller_owns _ _ _ _ c.self.inside.actors.items _ c.self.invariant.holds c.at-number.result c.index_mut-actor.result.now c.step.new.event c.index-row.result.now lt c.in_ok-step.ensures.stepped.happened.happened.there c.index_mut-actor.ensures.value c.index-row.ensures c.in_ok-step.ensures.own
+    caller_owns _ _ _ _ c.self.inside.actors.items _ c.self.invariant.holds c.at-number.result c.index_mut-actor.result.now c.step.new.event c.index-row.result.now lt (after_ok _ c.step.result _ c.in-Ok.is c.step.ensures.stepped).happened.happened.there c.index_mut-actor.ensures.value c.index-row.ensures (after_ok _ c.step.result _ c.in-Ok.is c.step.ensures.own)
 
 pub note-requires-clause-there : goal.note-requires-clause-there
 note-requires-clause-there c = slice_get_within c.self.inside.running.list c.args.place c.at-number.result c.at-number.ensures
 
 pub is_runnable-runs-requires : goal.is_runnable-runs-requires
-is_runnable-runs-requires c = record { there = λ k rung. rw c.deref-2.ensures.value (rung_there _ _ _ _ c.self.inside.actors.items _ c.self.invariant.holds c.at-number.result c.step.new.self c.step.new.event c.index-row.result.now k c.in_ok-step.ensures.stepped.happened.happened.there c.index-row.ensures (sym c.reach-other.ensures ∙ rung)) }
+is_runnable-runs-requires c = record { there = λ k rung. rw c.deref-2.ensures.value (rung_there _ _ _ _ c.self.inside.actors.items _ c.self.invariant.holds c.at-number.result c.step.new.self c.step.new.event c.index-row.result.now k (after_ok _ c.step.result _ c.in-Ok.is c.step.ensures.stepped).happened.happened.there c.index-row.ensures (sym c.reach-other.ensures ∙ rung)) }
 
 pub note-requires-clause-room : goal.note-requires-clause-room
 note-requires-clause-room c = (system_then (history_of c.self.inside.rows.items c.self.inside.past.value.items) c.self.inside.rows.items (setting_of c.self.inside).names c.self.inside.pools.items c.self.inside.net c.self.inside.serial c.self.inside.blk c.self.inside.wires.world c.step.new.wires.world c.self.inside.actors.items c.self.inside.journal.items c.at-number.result c.index_mut-actor.result.now c.step.new.self c.index-actor.result.now c.step.new.event c.index-row.result.now c.reach-other.result c.is_runnable-runs.result c.is_idle-idle.result c.args.place c.self.inside.running.list c.self.inside.running.room
-    c.self.invariant.fitted c.self.invariant.holds c.self.invariant.rows_hold c.self.invariant.names_tell c.self.invariant.running c.self.invariant.room c.self.invariant.brisk c.self.invariant.before.flows c.self.invariant.own c.at-number.ensures c.index_mut-actor.ensures.value c.in_ok-step.ensures.own (plain_step c.self.inside.wires c.step.new.wires c.index_mut-actor.result.now c.step.new.self c.step.new.event c.in_ok-step.ensures.stepped) c.in_ok-step.ensures.turned c.step.ensures.fits c.step.ensures.part c.index-actor.ensures c.index-row.ensures c.is_idle-idle.ensures c.reach-other.ensures (subst (λ xs. IsAsked xs c.step.new.wires.world c.reach-other.result c.is_runnable-runs.result) c.deref-2.ensures.value c.is_runnable-runs.ensures)).few
+    c.self.invariant.fitted c.self.invariant.holds c.self.invariant.rows_hold c.self.invariant.names_tell c.self.invariant.running c.self.invariant.room c.self.invariant.brisk c.self.invariant.before.flows c.self.invariant.own c.at-number.ensures c.index_mut-actor.ensures.value (after_ok _ c.step.result _ c.in-Ok.is c.step.ensures.own) (plain_step c.self.inside.wires c.step.new.wires c.index_mut-actor.result.now c.step.new.self c.step.new.event (after_ok _ c.step.result _ c.in-Ok.is c.step.ensures.stepped)) (after_ok _ c.step.result _ c.in-Ok.is c.step.ensures.turned) c.step.ensures.fits c.step.ensures.part c.index-actor.ensures c.index-row.ensures c.is_idle-idle.ensures c.reach-other.ensures (subst (λ xs. IsAsked xs c.step.new.wires.world c.reach-other.result c.is_runnable-runs.result) c.deref-2.ensures.value c.is_runnable-runs.ensures)).few
 
 pub invariant_of-self-2 : goal.invariant_of-self-2
 invariant_of-self-2 c =
+    let put = written_last c.self.inside.journal.items c.push_reserved.new.self.items c.len-last.result c.at-number.result c.event_place.result c.index_mut.result.now c.step.new.event (c.push_reserved.ensures.items ∙ ap (λ j. j ++ entry_of c.at-number.result c.event_place.result ∷ []) c.in_ok-make_room.ensures.journal) (c.len-last.ensures ∙ (c.make_room.new.journal.ok.0 ∙ ap length c.in_ok-make_room.ensures.journal)) c.index_mut.ensures.value in
     let s = (system_then (history_of c.self.inside.rows.items c.self.inside.past.value.items) c.self.inside.rows.items (setting_of c.self.inside).names c.self.inside.pools.items c.self.inside.net c.self.inside.serial c.self.inside.blk c.self.inside.wires.world c.step.new.wires.world c.self.inside.actors.items c.self.inside.journal.items c.at-number.result c.index_mut-actor.result.now c.step.new.self c.index-actor.result.now c.step.new.event c.index-row.result.now c.reach-other.result c.is_runnable-runs.result c.is_idle-idle.result c.args.place c.self.inside.running.list c.self.inside.running.room
-    c.self.invariant.fitted c.self.invariant.holds c.self.invariant.rows_hold c.self.invariant.names_tell c.self.invariant.running c.self.invariant.room c.self.invariant.brisk c.self.invariant.before.flows c.self.invariant.own c.at-number.ensures c.index_mut-actor.ensures.value c.in_ok-step.ensures.own (plain_step c.self.inside.wires c.step.new.wires c.index_mut-actor.result.now c.step.new.self c.step.new.event c.in_ok-step.ensures.stepped) c.in_ok-step.ensures.turned c.step.ensures.fits c.step.ensures.part c.index-actor.ensures c.index-row.ensures c.is_idle-idle.ensures c.reach-other.ensures (subst (λ xs. IsAsked xs c.step.new.wires.world c.reach-other.result c.is_runnable-runs.result) c.deref-2.ensures.value c.is_runnable-runs.ensures)) in
-    let st = c.in_ok-step.ensures.stepped in
+    c.self.invariant.fitted c.self.invariant.holds c.self.invariant.rows_hold c.self.invariant.names_tell c.self.invariant.running c.self.invariant.room c.self.invariant.brisk c.self.invariant.before.flows c.self.invariant.own c.at-number.ensures c.index_mut-actor.ensures.value (after_ok _ c.step.result _ c.in-Ok.is c.step.ensures.own) (plain_step c.self.inside.wires c.step.new.wires c.index_mut-actor.result.now c.step.new.self c.step.new.event (after_ok _ c.step.result _ c.in-Ok.is c.step.ensures.stepped)) (after_ok _ c.step.result _ c.in-Ok.is c.step.ensures.turned) c.step.ensures.fits c.step.ensures.part c.index-actor.ensures c.index-row.ensures c.is_idle-idle.ensures c.reach-other.ensures (subst (λ xs. IsAsked xs c.step.new.wires.world c.reach-other.result c.is_runnable-runs.result) c.deref-2.ensures.value c.is_runnable-runs.ensures)) in
+    let st = (after_ok _ c.step.result _ c.in-Ok.is c.step.ensures.stepped) in
     let wild = wild_in (hostiles (map part_of c.self.inside.actors.items)) c.self.inside.rows.items in
     let notes : List Noted = notes_of wild (record { event = c.step.new.event; body = st.body }) in
     let was : List Noted = names_left 0 c.self.inside.past.value.items in
@@ -118,22 +133,23 @@ invariant_of-self-2 c =
     record {
       fitted = rw nm (subst IsFitted (sym same) (refitted (setting_of c.self.inside) ns c.self.invariant.fitted (none_more (setting_of c.self.inside) (record { event = c.step.new.event; body = st.body }) c.self.invariant.fitted)));
       before = rw nm (subst HoldsBefore (sym same) (before_on (setting_of c.self.inside) ns c.self.invariant.before));
-      holds = rw (c.push_reserved.ensures.items, c.in_ok-make_room.ensures.journal, nm) s.holds;
-      rows_hold = rw (c.push_reserved.ensures.items, c.in_ok-make_room.ensures.journal, nm) (subst (λ z. EachMoment (RowsStand z) (c.self.inside.journal.items ++ entry_of c.at-number.result c.step.new.event ∷ [])) (sym same) s.rows_hold);
-      names_tell = rw (c.push_reserved.ensures.items, c.in_ok-make_room.ensures.journal, nm) (subst (λ z. EachMoment (NamesTell z) (c.self.inside.journal.items ++ entry_of c.at-number.result c.step.new.event ∷ [])) (sym same) s.names_tell);
-      brisk = rw (c.push_reserved.ensures.items, c.in_ok-make_room.ensures.journal) (subst (λ z. Brisk (hostile_in z) z.rows (drops_in z.cast) (c.self.inside.journal.items ++ entry_of c.at-number.result c.step.new.event ∷ [])) (sym same) s.brisk);
-      own = rw (c.push_reserved.ensures.items, c.in_ok-make_room.ensures.journal) (subst (λ z. PutTheirOwn z (c.self.inside.journal.items ++ entry_of c.at-number.result c.step.new.event ∷ [])) (sym same) s.own);
+      holds = rw (put, nm) s.holds;
+      rows_hold = rw (put, nm) (subst (λ z. EachMoment (RowsStand z) (c.self.inside.journal.items ++ entry_of c.at-number.result c.step.new.event ∷ [])) (sym same) s.rows_hold);
+      names_tell = rw (put, nm) (subst (λ z. EachMoment (NamesTell z) (c.self.inside.journal.items ++ entry_of c.at-number.result c.step.new.event ∷ [])) (sym same) s.names_tell);
+      brisk = rw (put) (subst (λ z. Brisk (hostile_in z) z.rows (drops_in z.cast) (c.self.inside.journal.items ++ entry_of c.at-number.result c.step.new.event ∷ [])) (sym same) s.brisk);
+      own = rw (put) (subst (λ z. PutTheirOwn z (c.self.inside.journal.items ++ entry_of c.at-number.result c.step.new.event ∷ [])) (sym same) s.own);
       kept = subst (λ z. (n : ℕ) → kept_at c.step.new.wires.kept.items n ≡ wild_in (hostile_in z) z.rows n) (sym same) (λ n. ap (λ k. kept_at k.items n) st.happened.kept ∙ c.self.invariant.kept n);
       none_last = c.keep_name.ensures.none;
-      running = rw (c.push_reserved.ensures.items, c.in_ok-make_room.ensures.journal, c.note.ensures, nm) (s.running ∙ ap (λ z. runs z (c.self.inside.journal.items ++ entry_of c.at-number.result c.step.new.event ∷ [])) (sym same));
+      running = rw (put, c.note.ensures, nm) (s.running ∙ ap (λ z. runs z (c.self.inside.journal.items ++ entry_of c.at-number.result c.step.new.event ∷ [])) (sym same));
       room = rw c.note.ensures s.room_is;
     }
 
 pub returns-clause-ok : goal.returns-clause-ok
 returns-clause-ok c =
+    let put = written_last c.self.inside.journal.items c.push_reserved.new.self.items c.len-last.result c.at-number.result c.event_place.result c.index_mut.result.now c.step.new.event (c.push_reserved.ensures.items ∙ ap (λ j. j ++ entry_of c.at-number.result c.event_place.result ∷ []) c.in_ok-make_room.ensures.journal) (c.len-last.ensures ∙ (c.make_room.new.journal.ok.0 ∙ ap length c.in_ok-make_room.ensures.journal)) c.index_mut.ensures.value in
     let s = (system_then (history_of c.self.inside.rows.items c.self.inside.past.value.items) c.self.inside.rows.items (setting_of c.self.inside).names c.self.inside.pools.items c.self.inside.net c.self.inside.serial c.self.inside.blk c.self.inside.wires.world c.step.new.wires.world c.self.inside.actors.items c.self.inside.journal.items c.at-number.result c.index_mut-actor.result.now c.step.new.self c.index-actor.result.now c.step.new.event c.index-row.result.now c.reach-other.result c.is_runnable-runs.result c.is_idle-idle.result c.args.place c.self.inside.running.list c.self.inside.running.room
-    c.self.invariant.fitted c.self.invariant.holds c.self.invariant.rows_hold c.self.invariant.names_tell c.self.invariant.running c.self.invariant.room c.self.invariant.brisk c.self.invariant.before.flows c.self.invariant.own c.at-number.ensures c.index_mut-actor.ensures.value c.in_ok-step.ensures.own (plain_step c.self.inside.wires c.step.new.wires c.index_mut-actor.result.now c.step.new.self c.step.new.event c.in_ok-step.ensures.stepped) c.in_ok-step.ensures.turned c.step.ensures.fits c.step.ensures.part c.index-actor.ensures c.index-row.ensures c.is_idle-idle.ensures c.reach-other.ensures (subst (λ xs. IsAsked xs c.step.new.wires.world c.reach-other.result c.is_runnable-runs.result) c.deref-2.ensures.value c.is_runnable-runs.ensures)) in
-    let st = c.in_ok-step.ensures.stepped in
+    c.self.invariant.fitted c.self.invariant.holds c.self.invariant.rows_hold c.self.invariant.names_tell c.self.invariant.running c.self.invariant.room c.self.invariant.brisk c.self.invariant.before.flows c.self.invariant.own c.at-number.ensures c.index_mut-actor.ensures.value (after_ok _ c.step.result _ c.in-Ok.is c.step.ensures.own) (plain_step c.self.inside.wires c.step.new.wires c.index_mut-actor.result.now c.step.new.self c.step.new.event (after_ok _ c.step.result _ c.in-Ok.is c.step.ensures.stepped)) (after_ok _ c.step.result _ c.in-Ok.is c.step.ensures.turned) c.step.ensures.fits c.step.ensures.part c.index-actor.ensures c.index-row.ensures c.is_idle-idle.ensures c.reach-other.ensures (subst (λ xs. IsAsked xs c.step.new.wires.world c.reach-other.result c.is_runnable-runs.result) c.deref-2.ensures.value c.is_runnable-runs.ensures)) in
+    let st = (after_ok _ c.step.result _ c.in-Ok.is c.step.ensures.stepped) in
     let wild = wild_in (hostiles (map part_of c.self.inside.actors.items)) c.self.inside.rows.items in
     let notes : List Noted = notes_of wild (record { event = c.step.new.event; body = st.body }) in
     let was : List Noted = names_left 0 c.self.inside.past.value.items in
@@ -148,6 +164,6 @@ returns-clause-ok c =
       appends = record {
         event = c.step.new.event;
         setting = subst (λ (z : Shown). KeepsSetting z.setting after) c.self.view_is (subst (KeepsSetting (setting_of c.self.inside)) (sym stays) keeps);
-        journal = c.push_reserved.ensures.items ∙ rw (c.in_ok-make_room.ensures.journal, ap (λ (s : Shown). s.journal) c.self.view_is) refl;
+        journal = put ∙ rw (ap (λ (s : Shown). s.journal) c.self.view_is) refl;
       };
     }
