@@ -85,7 +85,7 @@ none_after n b is = ap (trailing_zeros w64) (sym is) ∙ trailing_of_zero 64
 next_bit : (n b rest : ℕ) → n < 2 ^ 64 → suc rest ≡ n / 2 ^ b → bit_at n (b + trailing_zeros w64 (n / 2 ^ b)) ≡ 1
 next_bit n b rest fits is =
     let small : n / 2 ^ b ≤ n = div-le_self n (2 ^ b) in
-    sym (next_shifted n b) ∙ (bit_at-trailing_zeros w64 (n / 2 ^ b) (omega (arith, is)) (omega (arith, small, fits))).1.0
+    sym (next_shifted n b) ∙ (bit_at-trailing_zeros w64 (n / 2 ^ b) (omega (arith, is)) (omega (arith, small, fits))).1
 
 pub next_set : (n b : ℕ) → n < 2 ^ 64 → b + trailing_zeros w64 (n / 2 ^ b) < 64 → bit_at n (b + trailing_zeros w64 (n / 2 ^ b)) ≡ 1
 next_set n b fits lt = by (n / 2 ^ b) refl

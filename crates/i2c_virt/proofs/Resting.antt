@@ -58,7 +58,7 @@ settled_each (q ∷ ps) (m ∷ ns) (suc k) p n h at need = settled_each ps ns k 
 
 module _ (r : Round) (k : ℕ) (rested : Bool) (is : rested ≡ is_at_rest r) (chosen : k ≡ chosen_place (choice_of r)) (p : Post) (n : Bool) (at : slice_get r.posts k ≡ Some p) (need : slice_get r.needs k ≡ Some n) where
   loose_one : (s : Stand) → s.place ≡ k → (None ≡ Some s) ⊎ Loosest 0 r.posts r.needs s → is_settled p.state n ≡ false
-  loose_one s place (inl no) = cc
+  loose_one s place (inl none) = cc
   loose_one s place (inr l) =
       let e = l.is_place in
       let same : l.at ≡ k = omega (arith, e, place) in

@@ -64,7 +64,7 @@ or_none false b h = (refl, h)
 
 -- where no client's bytes may be dropped, no end drops
 pub none_drop : (is : Bool → Bool) → is true ≡ true → (ds : List Bool) (qs : List ℕ) → list_any is ds ≡ false → dropping_ends qs ds ≡ []
-none_drop is yes ds [] h = refl
-none_drop is yes [] (q ∷ qs) h = refl
-none_drop is yes (true ∷ ds) (q ∷ qs) h = let bad : true ≡ false = sym yes ∙ (or_none (is true) (list_any is ds) h).0 in cc
-none_drop is yes (false ∷ ds) (q ∷ qs) h = none_drop is yes ds qs (or_none (is false) (list_any is ds) h).1
+none_drop is full ds [] h = refl
+none_drop is full [] (q ∷ qs) h = refl
+none_drop is full (true ∷ ds) (q ∷ qs) h = let bad : true ≡ false = sym full ∙ (or_none (is true) (list_any is ds) h).0 in cc
+none_drop is full (false ∷ ds) (q ∷ qs) h = none_drop is full ds qs (or_none (is false) (list_any is ds) h).1

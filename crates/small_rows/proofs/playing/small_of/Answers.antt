@@ -1,4 +1,5 @@
-use Rattle.std.proofs.Common.{◌∙◌}
+use Rattle.std.proofs.Common.{◌∙◌, subst}
+use Rattle.small_rows.specs.Wrappings.{AreWaiting}
 use Rattle.cast_core.proofs.HostileLemmas.{calm_cast}
 use Rattle.cast_law.proofs.Calming.{all_calm}
 use Rattle.system_core.proofs.Built.{layout_queues, are_seated}
@@ -10,5 +11,5 @@ new-requires c =
     wrapped_begin c.queues.result.now c.in_ok-cast.cast.items c.in_ok-actors.actors.items
     (are_seated c.args.plan.now c.requires.valid c.args.trace.now c.requires.read c.in_ok-cast.cast.items c.in_ok-cast.ensures c.queues.result.now (c.queues.ensures ∙ layout_queues c.args.plan.now c.in_ok-layout.layout c.in_ok-layout.ensures.layout))
     (all_calm c.args.plan.now c.args.trace.now c.in_ok-cast.cast.items (calm_cast c.args.plan.now c.args.trace.now c.in_ok-cast.cast.items c.requires.friendly c.in_ok-cast.ensures))
-    (c.all_wait.ensures c.if-all_wait.true)
+    (subst AreWaiting c.deref.ensures.value (c.all_wait.ensures c.if-not-all_wait.false))
     c.in_ok-actors.ensures
