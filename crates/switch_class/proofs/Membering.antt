@@ -43,7 +43,7 @@ switch_made old new s =
     ∙ (ap (λ (qs : List QueueId). Switches (come_queues old.ends) (back_queues old.ends) qs (copy_queues new.ends) new.desk.macs.items) s.ends.room
     ∙ ap₂ (λ (qs : List QueueId) (ms : List Mac). Switches (come_queues old.ends) (back_queues old.ends) (room_queues old.ends) qs ms) s.ends.copy s.macs))
 
-client_acts : (w v : List Queue) (old new : NetClient) (e : Event) → Stepped ClientStandsFor Happens w v old new e → Turned (client_round old) e (client_round new) → SameClient old new
+pub client_acts : (w v : List Queue) (old new : NetClient) (e : Event) → Stepped ClientStandsFor Happens w v old new e → Turned (client_round old) e (client_round new) → SameClient old new
     → Acts member_means w v (Members.Client old) (Members.Client new) e
 client_acts w v old new e st turned same = record {
   body = st.body;

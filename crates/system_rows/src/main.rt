@@ -23,13 +23,13 @@
 //! asked for blocks of the client's own partition; and in which, where it is quiet, the buffers of
 //! other clients are in queues and with them.
 //!
-//! A row `policies FILE | POLICY POLICY | FIRST | COUNT | LINE | LINE` stands for so many plays of a
-//! description in which the serial clients have these policies, by seeds from the first on. The line
-//! says how many were right and how many got quiet, whether a byte was dropped in any, and of each
-//! client how many bytes it recorded, at least and at most, of those that the trace gives it. Right
-//! is a play as above, where the record of a client with the policy `drop` is a beginning of what the
-//! trace gives it without each byte for which a look for room in its queue answered no, by the
-//! journal, and all of it where the play is quiet and no client is hostile but with that policy.
+//! A row `policies FILE | POLICY POLICY | FIRST | COUNT | LINE | LINE` stands for so many plays of
+//! a description in which the serial clients have these policies, by seeds from the first on. The
+//! line says how many were right and how many got quiet, whether a byte was dropped in any, and of
+//! each client how many bytes it recorded, at least and at most, of those that the trace gives it.
+//! Right is a play as above, where the record of a client with the policy `drop` is a beginning of
+//! what the trace gives it without each byte for which a look for room in its queue answered no, by
+//! the journal, and all of it where the play is quiet and no client is hostile but with that policy.
 //!
 //! A row `drawn FIRST | COUNT` stands for so many plays of the serial class, of which the
 //! description with its policies, the trace and the seed are drawn by a number; in each third one

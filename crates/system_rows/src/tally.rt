@@ -19,8 +19,8 @@ use wire_core::Entry;
 /// The most steps of a play with hostile clients that is to get quiet.
 const AMPLE: u64 = 1_000_000;
 
-/// What plays came to: how many there were, how many of them were right, how many had ample steps to
-/// get quiet, how many got quiet then, in how many there were bad entries, in how many a byte was
+/// What plays came to: how many there were, how many of them were right, how many had ample steps
+/// to get quiet, how many got quiet then, in how many there were bad entries, in how many a byte was
 /// dropped, and the first that was wrong.
 #[derive(Clone, Copy)]
 pub struct Tally {

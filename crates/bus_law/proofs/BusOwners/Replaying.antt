@@ -1,9 +1,9 @@
 -- A replay of a journal on the buffers of a bus is one on the table of owners.
-use Rattle.std.proofs.Common.{◌≡◌, ◌+◌, ◌*◌, ◌/◌, ◌<◌, ◌==◌, ◌&&◌, ◌++◌, ◌⊎◌, inl, inr, ℕ, zero, suc, nat_lt, Bool, true, false, not, cond, Option, Some, None, List, [], ◌∷◌, length, replicate, take, drop, slice_get, slice_set, refl, sym, ap, ◌∙◌, subst, arith, eq-eqb}
+use Rattle.std.proofs.Common.{◌≡◌, ◌+◌, ◌*◌, ◌/◌, ◌-◌, ◌<◌, ◌≤◌, ◌==◌, ◌&&◌, ◌++◌, ◌⊎◌, inl, inr, ℕ, zero, suc, nat_lt, Bool, true, false, not, cond, Option, Some, None, List, [], ◌∷◌, length, replicate, take, drop, slice_get, slice_set, refl, sym, ap, ◌∙◌, subst, arith, eq-eqb}
 use Rattle.std.specs.Option.{option_and_then, option_map}
 use Rattle.std.specs.Prelude.{codes}
 use Rattle.std.specs.Fmt.{decimal}
-use Rattle.std.proofs.lemmas.Bool.{eqb-true, ltb-true, lt-ltb}
+use Rattle.std.proofs.lemmas.Bool.{eqb-true, ltb-true, lt-ltb, cases_lt}
 use Rattle.std.proofs.lemmas.Nat.{div_below}
 use Rattle.std.proofs.lemmas.List.{length-set, length-replicate}
 use Rattle.cargo_core.specs.declared.census.Census.{Census as Line}
@@ -52,6 +52,42 @@ found first n a number is = by (begins_at (shared_window first) a) is
     by : (t : Bool) → cond t (Some (number_at (shared_window first) a)) None ≡ Some number → cond t (Some (record { pool = first; no = number_at (shared_window first) a })) (buffer_at (shared_windows (first + 1) n) a) ≡ Some (record { pool = first; no = number })
     by true e = ap (λ k. Some (record { pool = first; no = k })) (some_is e)
     by false e = let wrong : None ≡ Some number = e in cc
+
+-- the number of the buffer at an address, where one begins there
+
+num_some : (base a j : ℕ) → a ≡ base + j * 64 → j < 2 → number_in base a ≡ Some j
+num_some base a j e lt =
+    let d : (a - base) / 64 ≡ j = omega (arith, e) in
+    ap (λ q. cond (nat_lt q 2 && (base + q * 64 == a)) (Some q) None) d
+    ∙ (ap (λ t. cond (t && (base + j * 64 == a)) (Some j) None) (lt-ltb j 2 lt)
+    ∙ ap (λ t. cond t (Some j) None) (eq-eqb (base + j * 64) a (sym e)))
+
+num_none : (base a : ℕ) → ((j : ℕ) → j < 2 → a ≡ base + j * 64 → ⊥) → number_in base a ≡ None
+num_none base a h = by ((a - base) / 64) refl (nat_lt ((a - base) / 64) 2) (base + (a - base) / 64 * 64 == a) refl refl
+  where
+    by : (q : ℕ) → q ≡ (a - base) / 64 → (s t : Bool) → nat_lt ((a - base) / 64) 2 ≡ s → (base + (a - base) / 64 * 64 == a) ≡ t → number_in base a ≡ None
+    by q is false t x y = ap (λ b. cond (b && (base + (a - base) / 64 * 64 == a)) (Some ((a - base) / 64)) None) x
+    by q is true false x y = ap (λ b. cond (b && (base + (a - base) / 64 * 64 == a)) (Some ((a - base) / 64)) None) x ∙ ap (λ b. cond b (Some ((a - base) / 64)) None) y
+    by q is true true x y = absurd (h ((a - base) / 64) (ltb-true ((a - base) / 64) 2 x) (sym (eqb-true (base + (a - base) / 64 * 64) a y)))
+
+-- the buffers of all clients lie one behind another
+pub shared_at : (first count a m : ℕ) → a ≡ m * 64 → 2 * first ≤ m → m < 2 * (first + count) → option_map place_of (buffer_at (shared_windows first count) a) ≡ Some m
+shared_at first zero a m e lo hi = absurd (omega (arith, lo, hi))
+shared_at first (suc n) a m e lo hi = by (λ past. shared_at (first + 1) n a m e (omega (arith, past)) (omega (arith, hi))) (cases_lt m (2 * first + 2))
+  where
+    by : (2 * first + 2 ≤ m → option_map place_of (buffer_at (shared_windows (first + 1) n) a) ≡ Some m) → (m < 2 * first + 2) ⊎ (2 * first + 2 ≤ m) → option_map place_of (buffer_at (shared_windows first (suc n)) a) ≡ Some m
+    by rest (inl lt) =
+        let number = num_some (2 * 64 * first) a (m - 2 * first) (omega (arith, e, lo)) (omega (arith, lt, lo)) in
+        ap (option_map place_of) (found first n a (m - 2 * first) number) ∙ ap Some (let back : 2 * first + (m - 2 * first) ≡ m = omega (arith, lo) in back)
+    by rest (inr past) =
+        let none = num_none (2 * 64 * first) a (λ j few is. omega (arith, e, few, is, past)) in
+        ap (option_map place_of) (passes first n a none) ∙ rest past
+
+pub shared_off : (first count a : ℕ) → ((m : ℕ) → a ≡ m * 64 → m < 2 * (first + count) → ⊥) → option_map place_of (buffer_at (shared_windows first count) a) ≡ None
+shared_off first zero a h = refl
+shared_off first (suc n) a h =
+    let none = num_none (2 * 64 * first) a (λ j few is. h (2 * first + j) (omega (arith, is)) (omega (arith, few))) in
+    ap (option_map place_of) (passes first n a none) ∙ shared_off (first + 1) n a (λ m e hi. h m e (omega (arith, hi)))
 
 -- a buffer that is named is one of the clients'
 pub record IsOurs (clients : ℕ) (b : Buffer) : Type 0 where

@@ -62,11 +62,13 @@ fn shared_place_at(clients: u16, address: u64) -> Option<usize>
     ensures within { ForSome result (λ place. place < 2 * clients) }
 {
     let place = address / BUFFER_BYTES as u64;
-    if place < 2 * u64::from(clients) && place * BUFFER_BYTES as u64 == address {
-        Some(place as usize)
-    } else {
-        None
+    if place >= 2 * u64::from(clients) {
+        return None;
     }
+    if place * BUFFER_BYTES as u64 != address {
+        return None;
+    }
+    Some(place as usize)
 }
 
 // The place of the buffer that an item at a queue names.

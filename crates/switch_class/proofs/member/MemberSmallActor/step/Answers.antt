@@ -5,10 +5,10 @@ use Rattle.switch_class.specs.Members.{member_means}
 use Rattle.switch_class.proofs.Membering.{client_acts, switch_acts}
 use Rattle.switch_class.proofs.member.MemberSmallActor.step.Goals as goal
 
-pub returns-in_ok-event-clause-acts : goal.returns-in_ok-event-clause-acts
-returns-in_ok-event-clause-acts c =
-    subst (λ a. Acts member_means c.args.world.now c.step.new.wires a (Members.Client c.step.new.self) c.in_ok-event.event) (sym c.in-Client.is)
-    (client_acts c.args.world.now c.step.new.wires c.in-Client.client c.step.new.self c.in_ok-event.event c.in_ok-event.ensures.stepped c.in_ok-event.ensures.turned c.step.ensures.same)
+pub returns-in_ok-event-in-Client-clause-acts : goal.returns-in_ok-event-in-Client-clause-acts
+returns-in_ok-event-in-Client-clause-acts c =
+    subst (λ a. Acts member_means c.args.world.now c.step.new.wires a (Members.Client c.step.new.self) c.in_ok-event-in-Client.field-0) (sym c.in-Client.is)
+    (client_acts c.args.world.now c.step.new.wires c.in-Client.client c.step.new.self c.in_ok-event-in-Client.field-0 c.in_ok-event-in-Client.ensures.stepped c.in_ok-event-in-Client.ensures.turned c.step.ensures.same)
 
 pub returns-in-Switch-clause-acts : goal.returns-in-Switch-clause-acts
 returns-in-Switch-clause-acts c =
