@@ -2,43 +2,54 @@
 //! number's script for each hostile client. Each third play has a limit that it may meet.
 ghost use Rattle.std.specs.Prelude.{◌≡◌};
 ghost use Rattle.sdf_check.specs.Valid.{Valid};
+ghost use Rattle.trace_text.specs.Traces.{IsReadFor};
 ghost use Rattle.region_layout.specs.Layouts.{layout_of};
 
 use crate::judging::judged;
+use crate::placing::{are_at_home, do_add_up, goes_right};
 use crate::scripts::{Buffers, Hostile};
-use crate::tally::Tally;
+use crate::watching::{is_block_right, is_network_right, is_serial_right};
 use cargo_core::Memory;
+use expect_core::Report;
 use region_layout::{Layout, lay_out};
 use sdf_model::TEXT_MOST;
 use sdf_plan::{Plan, SdfFault};
 use std::alloc::Global;
 use std::rt::Files;
 use std::{fs, io};
-use trace_text::{TraceFault, is_blk_rogue, is_net_rogue, is_serial_rogue, read_trace};
+use system_core::{Ending, System};
+use trace_text::{Trace, TraceFault, is_blk_rogue, is_net_rogue, is_serial_rogue, read_trace};
+use wire_core::Entry;
 
-/// So many numbers from the first on.
+/// The most steps of a play that is to get quiet.
+const AMPLE: u64 = 1_000_000;
+
+/// The numbers of the scripts.
 #[derive(Clone, Copy)]
-pub struct Numbers {
-    pub first: u64,
-    pub count: u64,
+struct Numbers {
+    first: u64,
+    count: u64,
 }
 
-impl Numbers {
-    /// The numbers that two words spell.
-    pub fn read(first: &str, count: &str) -> Numbers {
-        Numbers {
-            first: first.parse::<u64>().unwrap_or(0),
-            count: count.parse::<u64>().unwrap_or(0),
-        }
-    }
+/// What plays came to: how many there were, how many of them were right, how many had ample room to
+/// get quiet, how many got quiet then, in how many there were bad entries, and the first that was
+/// wrong.
+#[derive(Clone, Copy)]
+struct Tally {
+    plays: u64,
+    right: u64,
+    ample: u64,
+    quiet: u64,
+    bad: u64,
+    wrong: Option<u64>,
 }
 
-// How many steps the play of a number makes at most, where these aren't ample.
-fn limit_of(number: u64) -> Option<u64> {
+// How many steps the play of a number makes at most.
+fn limit_of(number: u64) -> u64 {
     if number % 3 == 2 {
-        Some(number.saturating_mul(7).saturating_add(1))
+        number.saturating_mul(7).saturating_add(1)
     } else {
-        None
+        AMPLE
     }
 }
 
@@ -92,8 +103,72 @@ fn add_scripts(
     Ok(())
 }
 
-/// Plays the script of a number, behind the lines of a trace; a trace that isn't read is wrong.
-pub fn play_number(
+// Whether what a play came to is right.
+fn is_right(
+    alloc: Global,
+    plan: &Plan,
+    layout: &Layout,
+    trace: &Trace,
+    journal: &[Entry],
+    report: &Report,
+    limit: u64,
+) -> Result<bool, Memory>
+    requires valid { Valid plan.now }
+    requires trace { IsReadFor plan.now trace.now }
+{
+    Ok(
+        report.steps <= limit
+            && do_add_up(report)
+            && is_network_right(alloc, plan, trace, report)?
+            && is_serial_right(alloc, plan, trace, report)?
+            && is_block_right(alloc, plan, trace, report)?
+            && goes_right(alloc, plan, layout, journal)?
+            && (!report.quiet || are_at_home(alloc, plan, layout, report, journal)?),
+    )
+}
+
+impl Tally {
+    // Adds the play of a number.
+    fn add(&mut self, number: u64, right: bool, ending: Ending) {
+        self.plays = self.plays.saturating_add(1);
+        self.right = self.right.saturating_add(u64::from(right));
+        if !right && self.wrong.is_none() {
+            self.wrong = Some(number);
+        }
+        if limit_of(number) == AMPLE {
+            self.ample = self.ample.saturating_add(1);
+            self.quiet = self
+                .quiet
+                .saturating_add(u64::from(ending == Ending::Quiet));
+        }
+    }
+}
+
+// Plays the script of a number.
+fn play(
+    alloc: Global,
+    plan: &Plan,
+    layout: &Layout,
+    trace: &Trace,
+    number: u64,
+    tally: &mut Tally,
+) -> Result<(), Memory>
+    requires valid { Valid plan.now }
+    requires layout { layout.now ≡ layout_of plan.now }
+    requires trace { IsReadFor plan.now trace.now }
+{
+    let limit = limit_of(number);
+    let (system, ending) = System::played(alloc, plan, layout, trace, number, limit)?;
+    let report = system.report()?;
+    let right = is_right(alloc, plan, layout, trace, system.journal(), &report, limit)?;
+    drop(system);
+    tally.add(number, right, ending);
+    tally.bad = tally.bad.saturating_add(u64::from(report.bad > 0));
+    Ok(())
+}
+
+// Plays the script of a number, behind the lines of a trace; a trace that isn't read is wrong.
+fn play_number(
     alloc: Global,
     plan: &Plan,
     layout: &Layout,
@@ -107,12 +182,9 @@ pub fn play_number(
     let mut text = String::from_str(alloc, lines)?;
     add_scripts(alloc, &mut text, plan, layout, number)?;
     match read_trace(alloc, text.as_str().as_bytes(), plan) {
-        Ok(trace) => {
-            tally.play(alloc, plan, layout, &trace, number, limit_of(number))?;
-            Ok(())
-        }
+        Ok(trace) => play(alloc, plan, layout, &trace, number, tally),
         Err(TraceFault::BadLine(_)) => {
-            tally.add_wrong(number);
+            tally.add(number, false, Ending::Spent);
             Ok(())
         }
         Err(TraceFault::Memory(memory)) => Err(memory),
@@ -124,12 +196,33 @@ fn told(alloc: Global, plan: &Plan, lines: &str, numbers: Numbers) -> Result<Str
     requires { Valid plan.now }
 {
     let layout = lay_out(alloc, plan)?;
-    let mut tally = Tally::new();
+    let mut tally = Tally {
+        plays: 0,
+        right: 0,
+        ample: 0,
+        quiet: 0,
+        bad: 0,
+        wrong: None,
+    };
     for k in 0..numbers.count {
         let number = numbers.first.saturating_add(k);
         play_number(alloc, plan, &layout, lines, number, &mut tally)?;
     }
-    let mut text = tally.told(alloc)?;
+    let Tally {
+        plays,
+        right,
+        ample,
+        quiet,
+        bad,
+        wrong,
+    } = tally;
+    let mut text = format!(in alloc; "{right} of {plays} right, {quiet} of {ample} quiet")?;
+    if bad > 0 {
+        text.push_str(", with bad entries")?;
+    }
+    if let Some(number) = wrong {
+        write!(text, ", and {number} is wrong")?;
+    }
     text.push_str("\n")?;
     Ok(text)
 }
@@ -177,7 +270,10 @@ pub fn print_hostile<R: Files + Print + AllocGlobal>(rt: &R, row: &str) -> io::R
     let (first, count) = rest.split_once(" | ").unwrap_or((rest, ""));
     let text = fs::read_to_string(rt, name)?;
     let lines = fs::read_to_string(rt, trace_name)?;
-    let numbers = Numbers::read(first, count);
+    let numbers = Numbers {
+        first: first.parse::<u64>().unwrap_or(0),
+        count: count.parse::<u64>().unwrap_or(0),
+    };
     let Ok(calm) = calmed(rt.alloc(), text.as_str(), classes) else {
         return rt.println("no memory");
     };

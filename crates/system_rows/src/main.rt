@@ -22,20 +22,6 @@
 //! a driver names a buffer of a client, and of each client's no more than it put, and the disk is
 //! asked for blocks of the client's own partition; and in which, where it is quiet, the buffers of
 //! other clients are in queues and with them.
-//!
-//! A row `policies FILE | POLICY POLICY | FIRST | COUNT | LINE | LINE` stands for so many plays of
-//! a description in which the serial clients have these policies, by seeds from the first on. The
-//! line says how many were right and how many got quiet, whether a byte was dropped in any, and of
-//! each client how many bytes it recorded, at least and at most, of those that the trace gives it.
-//! Right is a play as above, where the record of a client with the policy `drop` is a beginning of
-//! what the trace gives it without each byte for which a look for room in its queue answered no, by
-//! the journal, and all of it where the play is quiet and no client is hostile but with that policy.
-//!
-//! A row `drawn FIRST | COUNT` stands for so many plays of the serial class, of which the
-//! description with its policies, the trace and the seed are drawn by a number; in each third one
-//! clients may be hostile. Where none is, the play must get quiet within its budget.
-//!
-//! A row behind `#` is the name of the next one.
 #![tactic(auto)]
 
 ghost use Rattle.std.specs.Prelude.{◌≡◌, ◌<◌, length};
@@ -43,18 +29,14 @@ ghost use Rattle.sdf_check.specs.Valid.{Valid};
 ghost use Rattle.trace_text.specs.Events.{blk_clients};
 ghost use Rattle.trace_text.specs.Traces.{IsReadFor};
 
-mod drawing;
 mod hostile;
 mod judging;
-mod marks;
 mod naming;
 mod network;
 mod numbering;
 mod placing;
 mod playing;
-mod policies;
 mod scripts;
-mod tally;
 mod watching;
 
 use cargo_core::{Memory, Reply};
@@ -63,7 +45,6 @@ use hostile::print_hostile;
 use judging::judged;
 use network::print_network;
 use playing::{played_in_a_row, played_once};
-use policies::{print_drawn, print_policies};
 use region_layout::lay_out;
 use sdf_model::TEXT_MOST;
 use sdf_plan::{Plan, SdfFault};
@@ -286,8 +267,8 @@ fn answer(
     }
 }
 
-/// The text of a trace, by the lines of a row.
-pub(crate) fn trace_of(alloc: Global, lines: &str) -> Result<String, Memory> {
+// The text of a trace, by the lines of a row.
+fn trace_of(alloc: Global, lines: &str) -> Result<String, Memory> {
     let mut text = String::new(alloc);
     for line in lines.split(" | ") {
         text.push_str(line)?;
@@ -303,15 +284,6 @@ fn print_row<R: Files + Print + AllocGlobal>(rt: &R, row: &str) -> io::Result<()
     }
     if let Some(row) = row.strip_prefix("hostile ") {
         return print_hostile(rt, row);
-    }
-    if let Some(row) = row.strip_prefix("policies ") {
-        return print_policies(rt, row);
-    }
-    if let Some(row) = row.strip_prefix("drawn ") {
-        return print_drawn(rt, row);
-    }
-    if row.starts_with('#') {
-        return rt.println(row);
     }
     let Some((name, rest)) = row.split_once(" | ") else {
         return rt.println("no row");

@@ -19,8 +19,8 @@ struct Driver<'a> {
     beside: u64,
 }
 
-/// The number of the queue of a name.
-pub fn queue_named(layout: &Layout, name: &str) -> Option<QueueId> {
+// The number of the queue of a name.
+fn queue_named(layout: &Layout, name: &str) -> Option<QueueId> {
     let mut number = 0u16;
     for row in layout.queues() {
         if row.name.as_str() == name {

@@ -32,18 +32,13 @@ pub struct Hostile<'a> {
 
 /// Numbers that are drawn one after another.
 #[derive(Clone, Copy)]
-pub struct Draws {
+struct Draws {
     x: u64,
 }
 
 impl Draws {
-    /// The numbers that a number begins.
-    pub fn new(number: u64) -> Draws {
-        Draws { x: number }
-    }
-
-    /// The next number below a count.
-    pub fn below(&mut self, count: u64) -> u64 {
+    // The next number below a count.
+    fn below(&mut self, count: u64) -> u64 {
         self.x = self
             .x
             .wrapping_mul(6_364_136_223_846_793_005)
@@ -51,8 +46,8 @@ impl Draws {
         (self.x >> 33).checked_rem(count).unwrap_or(0)
     }
 
-    /// The next of some numbers.
-    pub fn among(&mut self, numbers: &[u64]) -> u64 {
+    // The next of some numbers.
+    fn among(&mut self, numbers: &[u64]) -> u64 {
         let place = self.below(numbers.len() as u64);
         match numbers.get(place as usize) {
             Some(number) => *number,
@@ -193,7 +188,7 @@ impl<'a> Hostile<'a> {
     /// those that are kept, both with an address in the range of the client's buffers or beside it:
     /// the next number's is the next one.
     pub fn add_script(&self, to: &mut String, number: u64) -> Result<(), Memory> {
-        let mut draws = Draws::new(number);
+        let mut draws = Draws { x: number };
         let edge = edge(
             self.buffers,
             number.checked_rem(edges(self.buffers)).unwrap_or(0),

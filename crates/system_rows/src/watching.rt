@@ -1,23 +1,19 @@
 //! What clients that aren't hostile must show beside those that are: each record is a beginning of
 //! what the trace gives its client, and so is what it sent; in a quiet play each is all of it in a
-//! class without a hostile client. A serial client that drops gets what the trace gives it without
-//! the bytes that were dropped by the journal, and if it is hostile it keeps nothing from others.
+//! class without a hostile client.
 ghost use Rattle.std.specs.Prelude.{◌<◌, length};
 ghost use Rattle.sdf_check.specs.Valid.{Valid};
 ghost use Rattle.trace_text.specs.Events.{blk_clients};
 ghost use Rattle.trace_text.specs.Traces.{IsReadFor};
 
 use crate::block_clients;
-use crate::marks::{drops, to_get};
 use crate::network::{to_record, to_send};
 use cargo_core::{FrameLog, Memory, Reply};
 use expect_core::{Report, input_of, replies_of};
 use frame_core::{Mac, read_mac};
-use region_layout::Layout;
 use sdf_plan::{Net, Plan};
 use std::alloc::Global;
 use trace_text::{Trace, is_blk_rogue, is_net_rogue, is_serial_rogue};
-use wire_core::Entry;
 
 // Whether frames are a beginning of others, or all of them where that is wanted.
 fn begin_frames(frames: &FrameLog, wanted: &FrameLog, whole: bool) -> bool {
@@ -63,17 +59,6 @@ fn frames_from(alloc: Global, frames: &FrameLog, mac: Mac) -> Result<FrameLog, M
         }
     }
     Ok(from)
-}
-
-// Whether bytes stand among others in their order.
-fn stand_in_order(bytes: &[u8], among: &[u8]) -> bool {
-    let mut found = 0;
-    for byte in among {
-        if found < bytes.len() && *byte == bytes[found] {
-            found += 1;
-        }
-    }
-    found == bytes.len()
 }
 
 // Those bytes that are among others.
@@ -142,9 +127,7 @@ pub fn is_network_right(
 fn is_client_right(
     alloc: Global,
     plan: &Plan,
-    layout: &Layout,
     trace: &Trace,
-    journal: &[Entry],
     report: &Report,
     line: &[u8],
     client: usize,
@@ -152,7 +135,7 @@ fn is_client_right(
 ) -> Result<bool, Memory>
     requires { client < length report.now.serial }
 {
-    let record = report.serial.get(client).as_slice();
+    let record = report.serial.get(client);
     if is_serial_rogue(plan, client as u64) {
         return Ok(record.is_empty());
     }
@@ -163,15 +146,10 @@ fn is_client_right(
     if number >= clients || client >= trace.says.len() {
         return Ok(false);
     }
-    let input = input_of(alloc, trace, clients, number)?;
-    let wanted = to_get(alloc, plan, layout, journal, client, input.as_slice())?;
+    let wanted = input_of(alloc, trace, clients, number)?;
     let says = trace.says.get(client).as_slice();
     let said = bytes_among(alloc, line, says)?;
-    Ok(
-        stand_in_order(record, input.as_slice())
-            && begin_bytes(record, &wanted, whole)
-            && begin_bytes(&said, says, whole),
-    )
+    Ok(begin_bytes(record.as_slice(), wanted.as_slice(), whole) && begin_bytes(&said, says, whole))
 }
 
 /// Whether what each serial client recorded and said is right. No byte is said by two of them, and
@@ -179,9 +157,7 @@ fn is_client_right(
 pub fn is_serial_right(
     alloc: Global,
     plan: &Plan,
-    layout: &Layout,
     trace: &Trace,
-    journal: &[Entry],
     report: &Report,
 ) -> Result<bool, Memory> {
     let Some(line) = &report.line else {
@@ -189,15 +165,12 @@ pub fn is_serial_right(
     };
     let mut whole = report.quiet;
     for client in 0..report.serial.len() {
-        whole = whole && (drops(plan, client) || !is_serial_rogue(plan, client as u64));
+        whole = whole && !is_serial_rogue(plan, client as u64);
     }
     let line = line.as_slice();
     let mut right = true;
     for client in 0..report.serial.len() {
-        let is_client = is_client_right(
-            alloc, plan, layout, trace, journal, report, line, client, whole,
-        )?;
-        right = is_client && right;
+        right = is_client_right(alloc, plan, trace, report, line, client, whole)? && right;
     }
     Ok(right)
 }
