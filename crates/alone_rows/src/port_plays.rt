@@ -1,7 +1,7 @@
 //! Plays of switches.
 use crate::port_texts::{SENDS, TO_ITSELF, busy_text, target_of, two_to_one};
 use cargo_core::{FrameLog, Memory};
-use ports_text::{PortFault, PortReport, read_ports};
+use line_text::ports_text::{PortFault, PortReport, read_ports};
 use std::alloc::Global;
 use switch_play::{play_ports, ports_bound};
 

@@ -10,9 +10,9 @@ use Rattle.cargo_core.specs.declared.item.Code.TheVariants as Asked
 use Rattle.cargo_core.specs.declared.item.Item.TheVariants as ItemOf
 use Rattle.cargo_core.specs.Lists.{replaced}
 use Rattle.wire_core.specs.Deeds.{Cargo}
-use Rattle.blk_expect.specs.BlkKit.Blocks.{has_blocks, blocks_at, with_blocks}
-use Rattle.blk_expect.specs.BlkKit.Pages.{carried_blocks}
-use Rattle.blk_expect.proofs.BlkKit.Runs.{write_above, write_below}
+use Rattle.class_expect.specs.BlkExpect.BlkKit.Blocks.{has_blocks, blocks_at, with_blocks}
+use Rattle.class_expect.specs.BlkExpect.BlkKit.Pages.{carried_blocks}
+use Rattle.class_expect.proofs.BlkExpect.BlkKit.Runs.{write_above, write_below}
 use Rattle.device_model.specs.Disk.Serving.{done, stored}
 use Rattle.blk_law.specs.Runs.{IsBeside, TouchesNone}
 

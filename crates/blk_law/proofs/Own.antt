@@ -8,9 +8,9 @@ use Rattle.cargo_core.specs.declared.item.Code.{Code}
 use Rattle.cargo_core.specs.declared.item.Code.TheVariants as Asked
 use Rattle.cargo_core.specs.declared.item.Item.TheVariants as ItemOf
 use Rattle.wire_core.specs.Deeds.{Cargo}
-use Rattle.blk_expect.specs.BlkKit.Blocks.{has_blocks, blocks_at, with_blocks, moved_blocks}
-use Rattle.blk_expect.specs.BlkKit.Pages.{carried_blocks, filled_body}
-use Rattle.blk_expect.proofs.BlkKit.Runs.{read_inside, write_inside}
+use Rattle.class_expect.specs.BlkExpect.BlkKit.Blocks.{has_blocks, blocks_at, with_blocks, moved_blocks}
+use Rattle.class_expect.specs.BlkExpect.BlkKit.Pages.{carried_blocks, filled_body}
+use Rattle.class_expect.proofs.BlkExpect.BlkKit.Runs.{read_inside, write_inside}
 use Rattle.device_model.specs.Disk.Serving.{answer_to, answers_to, body_back, done, resp_to, stored}
 use Rattle.blk_law.specs.Runs.{IsBeside, IsFor, IsMoved, OthersBeside, answers_for, id_of, item_with_id, with_ids}
 use Rattle.blk_law.proofs.Beside.{beside, carried_most, keeps_blocks}

@@ -14,11 +14,11 @@ use Rattle.cargo_core.specs.declared.item.Item.TheVariants as ItemOf
 use Rattle.cargo_core.specs.declared.item.Reply.{Reply}
 use Rattle.cargo_core.specs.Lists.{IsPrefix, replaced}
 use Rattle.wire_core.specs.Deeds.{Cargo}
-use Rattle.blk_expect.specs.BlkKit.Blocks.{blocks_at, moved_blocks, with_blocks}
-use Rattle.blk_expect.specs.BlkKit.Pages.{carried_blocks, filled_body, has_room}
+use Rattle.class_expect.specs.BlkExpect.BlkKit.Blocks.{blocks_at, moved_blocks, with_blocks}
+use Rattle.class_expect.specs.BlkExpect.BlkKit.Pages.{carried_blocks, filled_body, has_room}
 use Rattle.blk_mbr.specs.declared.part.Part.{Part}
-use Rattle.blk_expect.specs.Judging.{can_move, status_of}
-use Rattle.blk_expect.specs.Replies.{HasBytes, bytes_left, bytes_read, left_by, replies_from, reply_of, status_to}
+use Rattle.class_expect.specs.BlkExpect.Judging.{can_move, status_of}
+use Rattle.class_expect.specs.BlkExpect.Replies.{HasBytes, bytes_left, bytes_read, left_by, replies_from, reply_of, status_to}
 use Rattle.buffer_kit.specs.Entries.{first_bytes}
 use Rattle.client_programs.specs.Blk.Asking.{replies_to, reply_to, read_blocks}
 use Rattle.device_model.specs.Disk.Serving.{body_back, stored}

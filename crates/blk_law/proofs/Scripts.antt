@@ -9,9 +9,9 @@ use Rattle.cargo_core.specs.declared.item.Code.TheVariants as Asked
 use Rattle.cargo_core.specs.Lists.{IsPrefix, replaced}
 use Rattle.cargo_core.specs.Pages.{Paged}
 use Rattle.wire_core.specs.Deeds.{Cargo}
-use Rattle.blk_expect.specs.BlkKit.Pages.{carried_blocks}
+use Rattle.class_expect.specs.BlkExpect.BlkKit.Pages.{carried_blocks}
 use Rattle.blk_mbr.specs.declared.part.Part.{Part}
-use Rattle.blk_expect.specs.Replies.{HasBytes, has_partition, partition_bytes, partition_in, replies_of}
+use Rattle.class_expect.specs.BlkExpect.Replies.{HasBytes, has_partition, partition_bytes, partition_in, replies_of}
 use Rattle.client_programs.specs.Blk.Asking.{asked_bare, asked_from, asked_in, needs_buffer, page_for, replies_to, reply_to, written}
 use Rattle.blk_law.specs.Replying.{AreAsked, AreSized, Carries, HaveRoom, IsAsked, IsSized, RecordsReplies, client_answers}
 use Rattle.blk_law.proofs.Recording.{blocks_long, recorded}

@@ -14,10 +14,10 @@ use Rattle.cargo_core.specs.declared.item.Item.TheVariants as ItemOf
 use Rattle.cargo_core.specs.Lists.{IsPrefix}
 use Rattle.cargo_core.specs.Pages.{Paged}
 use Rattle.wire_core.specs.Deeds.{Cargo}
-use Rattle.blk_expect.specs.BlkKit.Pages.{has_room, carried_blocks}
+use Rattle.class_expect.specs.BlkExpect.BlkKit.Pages.{has_room, carried_blocks}
 use Rattle.blk_mbr.specs.declared.part.Part.{Part}
-use Rattle.blk_expect.specs.Judging.{status_of}
-use Rattle.blk_expect.specs.Replies.{partition_bytes, partition_in, replies_of}
+use Rattle.class_expect.specs.BlkExpect.Judging.{status_of}
+use Rattle.class_expect.specs.BlkExpect.Replies.{partition_bytes, partition_in, replies_of}
 use Rattle.client_programs.specs.Blk.Asking.{asked_from, replies_to}
 use Rattle.device_model.specs.Disk.Serving.{answer_to, done}
 use Rattle.blk_law.specs.Runs.{id_of}

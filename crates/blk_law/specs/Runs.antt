@@ -9,7 +9,7 @@ use Rattle.cargo_core.specs.declared.item.Code.TheVariants as Asked
 use Rattle.cargo_core.specs.declared.item.Item.{Item}
 use Rattle.cargo_core.specs.declared.item.Item.TheVariants as ItemOf
 use Rattle.wire_core.specs.Deeds.{Cargo}
-use Rattle.blk_expect.specs.BlkKit.Blocks.{blocks_at}
+use Rattle.class_expect.specs.BlkExpect.BlkKit.Blocks.{blocks_at}
 use Rattle.blk_mbr.specs.declared.part.Part.{Part}
 use Rattle.blk_mbr.specs.Partitions.{part_of}
 use Rattle.device_model.specs.Disk.Serving.{answer_to, answers_to, done}

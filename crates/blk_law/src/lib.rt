@@ -6,8 +6,8 @@
 
 ghost use Rattle.std.specs.Prelude.{◌≡◌, ℕ, Bool, true, List};
 ghost use Rattle.wire_core.specs.Deeds.{Cargo};
-ghost use Rattle.blk_expect.specs.BlkKit.Blocks.{has_blocks};
-ghost use Rattle.blk_expect.specs.Replies.{has_partition, partition_in};
+ghost use Rattle.class_expect.specs.BlkExpect.BlkKit.Blocks.{has_blocks};
+ghost use Rattle.class_expect.specs.BlkExpect.Replies.{has_partition, partition_in};
 ghost use Rattle.blk_law.specs.Replying.{AreSized, RecordsReplies};
 ghost use Rattle.blk_law.specs.Runs.{ArePartsApart, IsItsOwnDisk};
 ghost use Rattle.cargo_core.specs.declared.item.Ask.{Ask};

@@ -3,7 +3,7 @@
 
 ghost use Rattle.std.specs.Prelude.{◌≡◌, ℕ, true, List};
 ghost use Rattle.cargo_core.specs.declared.item.Ask.{Ask};
-ghost use Rattle.blk_expect.specs.Replies.{has_partition, partition_in};
+ghost use Rattle.class_expect.specs.BlkExpect.Replies.{has_partition, partition_in};
 ghost use Rattle.blk_virt.specs.declared.requests.Holder.{Holder};
 ghost use Rattle.blk_law.specs.Replying.{AreSized};
 ghost use Rattle.blk_law.specs.Records.Served.{RecordsAtAnyMoment};

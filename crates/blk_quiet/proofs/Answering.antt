@@ -19,7 +19,7 @@ use Rattle.play_core.specs.Wants.{Want, Needful, intake_want, outlet_want}
 use Rattle.play_core.proofs.Lists.{map_get, map_from, there_is, there_below}
 use Rattle.play_core.proofs.Merges.{merge_total, prefix_merge_whole}
 use Rattle.play_core.proofs.Walks.{begins_few, needs_as, drained, paid}
-use Rattle.blk_expect.specs.Replies.{partition_in}
+use Rattle.class_expect.specs.BlkExpect.Replies.{partition_in}
 use Rattle.blk_virt.specs.Requests.{request_of}
 use Rattle.owner_law.specs.Pools.Places.{PoolAt, own_pool}
 use Rattle.net_law.specs.Parts.Parts.{Way}

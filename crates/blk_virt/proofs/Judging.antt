@@ -8,7 +8,7 @@ use Rattle.cargo_core.specs.declared.item.Code.{Code}
 use Rattle.cargo_core.specs.declared.item.Code.TheVariants as Asked
 use Rattle.wire_core.specs.Deeds.{Cargo}
 use Rattle.blk_mbr.specs.declared.part.Part.{Part}
-use Rattle.blk_expect.specs.Judging.{status_of, can_move}
+use Rattle.class_expect.specs.BlkExpect.Judging.{status_of, can_move}
 use Rattle.blk_virt.specs.declared.requests.Holder.{Holder}
 use Rattle.blk_virt.specs.Requests.{request_of, moves_blocks, is_own, is_bad, is_ok, goes_on, asked_of_disk, first_block, for_disk, is_at}
 use Rattle.blk_virt.specs.Clients.{capped, counted}

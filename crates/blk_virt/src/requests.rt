@@ -7,9 +7,9 @@ ghost use Rattle.blk_virt.specs.Requests.{request_of, response_of, moves_blocks,
 ghost use Rattle.blk_virt.specs.Requests.{judged, goes_on, first_block, asked_of_disk, for_disk};
 ghost use Rattle.blk_virt.specs.Requests.{numbered, refusal, passed_on, page_named, brings};
 
-use blk_expect::judge;
 use blk_mbr::Part;
 use cargo_core::{BLK_BUFFER_BYTES, BlkReq, BlkResp, BlkStatus, Body, Code, Item, PoolId};
+use class_expect::blk_expect::judge;
 
 /// What a client has: its buffers, which are those of a pool, how many there are, the device
 /// address at which the first one begins, and the entry of its partition in the disk's table.

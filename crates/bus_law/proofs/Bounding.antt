@@ -10,9 +10,9 @@ use Rattle.small_system.specs.Tales.{Turn, start_of, IsTale, after_tale, journal
 use Rattle.small_system.specs.Standing.{Begins}
 use Rattle.i2c_text.specs.declared.bus.Bus.{Bus}
 use Rattle.i2c_virt.specs.declared.i2c_client.client.BusClient.{BusClient}
-use Rattle.i2c_actors.specs.declared.member.Member.{Member}
-use Rattle.i2c_actors.specs.declared.member.Member.TheVariants as Members
-use Rattle.i2c_actors.specs.Members.{member_means}
+use Rattle.bus_law.specs.declared.i2c_actors.member.Member.{Member}
+use Rattle.bus_law.specs.declared.i2c_actors.member.Member.TheVariants as Members
+use Rattle.bus_law.specs.I2cActors.Members.{member_means}
 use Rattle.bus_law.specs.Takes.{script_of, requests_taken, granted_replies}
 use Rattle.bus_law.specs.Plays.{IsBusTale}
 use Rattle.bus_law.specs.Bounds.{hops_of, bus_bound}

@@ -4,7 +4,7 @@ use Rattle.std.proofs.lemmas.Bool.Decides.{eqb_tells}
 use Rattle.wire_core.specs.declared.names.QueueRow.{QueueRow}
 use Rattle.wire_core.specs.Bells.{bit}
 use Rattle.wire_core.specs.Marks.{sum_below, ends_of}
-use Rattle.i2c_actors.specs.Queues.{AreQueues, GoesAt}
+use Rattle.bus_law.specs.I2cActors.Queues.{AreQueues, GoesAt}
 use Rattle.bus_law.proofs.Hopping.{sum_front, sum_pairs, sum_four}
 
 -- How many ends an actor of a bus has.

@@ -22,8 +22,8 @@ use Rattle.i2c_virt.specs.I2cKit.Serving.{answers_to, done}
 use Rattle.i2c_virt.specs.I2cClient.Asking.{AreAsked}
 use Rattle.i2c_virt.specs.Desks.{Judged, AreGiven, forwarded, own_entry}
 use Rattle.i2c_virt.specs.Works.{IsSomeones, is_of, judged_of, entries_of, of_client}
-use Rattle.i2c_actors.specs.declared.member.Member.{Member}
-use Rattle.i2c_actors.specs.Members.{member_means}
+use Rattle.bus_law.specs.declared.i2c_actors.member.Member.{Member}
+use Rattle.bus_law.specs.I2cActors.Members.{member_means}
 use Rattle.bus_law.specs.Takes.{script_of}
 use Rattle.bus_law.specs.Bounds.{requests_of, hops_of}
 use Rattle.bus_law.proofs.Lists.{prefix_few, all_head, all_tail}

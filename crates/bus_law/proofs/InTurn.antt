@@ -33,7 +33,7 @@ use Rattle.bus_law.specs.I2cLaw.Shares.{asks_in, served_by}
 use Rattle.bus_law.proofs.I2cLaw.Saying.{Say}
 use Rattle.bus_law.proofs.I2cLaw.Answering.{IsTransfer, AreTransfers, answers_say}
 use Rattle.bus_law.proofs.I2cLaw.Meeting.{transfers, given_says, in_filter}
-use Rattle.i2c_actors.specs.declared.member.Member.{Member}
+use Rattle.bus_law.specs.declared.i2c_actors.member.Member.{Member}
 use Rattle.bus_law.specs.Takes.{script_of}
 use Rattle.bus_law.proofs.Lists.{prefix_then, prefix_part, prefix_at, get_behind, all_at}
 use Rattle.bus_law.proofs.Staging.{ClientAt, Stage}

@@ -18,3 +18,4 @@ pub mod Resting
 pub mod Agreeing
 pub mod I2cLaw
 pub mod BusOwners
+pub mod I2cActors

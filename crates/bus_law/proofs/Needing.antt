@@ -41,8 +41,8 @@ use Rattle.i2c_virt.specs.Owners.{verdict}
 use Rattle.i2c_virt.specs.Works.{Took, requests_in, judged_from, judged_of, entries_of, is_of, of_client, is_owing, wants_at, gives_at}
 use Rattle.i2c_virt.specs.Virtualising.{strays_of, strays_back}
 use Rattle.bus_law.specs.I2cLaw.Judging.{sent_on, transfers_of}
-use Rattle.i2c_actors.specs.declared.member.Member.{Member}
-use Rattle.i2c_actors.specs.declared.member.Member.TheVariants as Members
+use Rattle.bus_law.specs.declared.i2c_actors.member.Member.{Member}
+use Rattle.bus_law.specs.declared.i2c_actors.member.Member.TheVariants as Members
 use Rattle.bus_law.specs.Takes.{script_of, requests_by}
 use Rattle.bus_law.specs.Wants.{owes_request, client_wants, is_item_of, items_many, transfers_many, is_leaving, are_back, are_answered, is_held, is_so_of_any, of_each, virt_wants, holds_one, hands_on, driver_wants}
 use Rattle.bus_law.proofs.Lists.{prefix_at}

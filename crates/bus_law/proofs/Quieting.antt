@@ -35,10 +35,10 @@ use Rattle.i2c_virt.specs.Works.{of_client, is_of, judged_of, entries_of, is_owi
 use Rattle.i2c_virt.specs.Virtualising.{strays_of, strays_back}
 use Rattle.bus_law.proofs.I2cLaw.Answering.{AreTransfers}
 use Rattle.bus_law.proofs.I2cLaw.Meeting.{transfers}
-use Rattle.i2c_actors.specs.declared.member.Member.{Member}
-use Rattle.i2c_actors.specs.declared.member.Member.TheVariants as Members
-use Rattle.i2c_actors.specs.Members.{member_means}
-use Rattle.i2c_actors.specs.Queues.{AreQueues, GoesAt}
+use Rattle.bus_law.specs.declared.i2c_actors.member.Member.{Member}
+use Rattle.bus_law.specs.declared.i2c_actors.member.Member.TheVariants as Members
+use Rattle.bus_law.specs.I2cActors.Members.{member_means}
+use Rattle.bus_law.specs.I2cActors.Queues.{AreQueues, GoesAt}
 use Rattle.bus_law.specs.Takes.{script_of}
 use Rattle.bus_law.proofs.Staging.{ClientAt, Stage}
 use Rattle.bus_law.proofs.Serving.{flow, served, back_first, answered_by, taken_from, desk_at, desk_stands, log_now, back_now}

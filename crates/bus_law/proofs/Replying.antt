@@ -13,8 +13,8 @@ use Rattle.i2c_virt.specs.I2cKit.Replies.{replies_alone}
 use Rattle.i2c_virt.specs.declared.i2c_client.client.BusClient.{BusClient}
 use Rattle.i2c_virt.specs.Works.{Took, requests_in}
 use Rattle.bus_law.specs.I2cLaw.Moments.{AreServed, IsServed}
-use Rattle.i2c_actors.specs.declared.member.Member.{Member}
-use Rattle.i2c_actors.specs.declared.member.Member.TheVariants as Members
+use Rattle.bus_law.specs.declared.i2c_actors.member.Member.{Member}
+use Rattle.bus_law.specs.declared.i2c_actors.member.Member.TheVariants as Members
 use Rattle.bus_law.specs.Takes.{script_of, requests_by, requests_taken, granted_replies}
 use Rattle.bus_law.specs.Plays.{IsBusTale}
 use Rattle.bus_law.proofs.Staging.{Laws, holds_now, stage_now}

@@ -16,11 +16,11 @@ use Rattle.small_system.specs.Tales.{Moment, Turn, start_of, moment_after, IsTal
 use Rattle.small_system.specs.Standing.{Begins, Holds}
 use Rattle.small_system.specs.Wants.{RestsBy, calls_in}
 use Rattle.i2c_text.specs.declared.bus.Bus.{Bus}
-use Rattle.i2c_actors.specs.declared.member.Member.{Member}
-use Rattle.i2c_actors.specs.declared.member.Member.TheVariants as Members
-use Rattle.i2c_actors.specs.Members.{member_round, member_means, FitsMember}
-use Rattle.i2c_actors.specs.Queues.{AreQueues}
-use Rattle.i2c_actors.specs.Casting.{AreMade}
+use Rattle.bus_law.specs.declared.i2c_actors.member.Member.{Member}
+use Rattle.bus_law.specs.declared.i2c_actors.member.Member.TheVariants as Members
+use Rattle.bus_law.specs.I2cActors.Members.{member_round, member_means, FitsMember}
+use Rattle.bus_law.specs.I2cActors.Queues.{AreQueues}
+use Rattle.bus_law.specs.I2cActors.Casting.{AreMade}
 use Rattle.bus_law.specs.Plays.{IsBusTale}
 use Rattle.bus_law.specs.Wants.{client_wants, virt_wants, hands_on, driver_wants, bus_wants}
 use Rattle.bus_law.proofs.Staging.{Laws, Stage, holds_now, stage_now, now_many}

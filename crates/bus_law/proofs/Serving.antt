@@ -36,8 +36,8 @@ use Rattle.i2c_virt.proofs.Desking.{given_fewer}
 use Rattle.bus_law.specs.I2cLaw.Shares.{asks_of}
 use Rattle.bus_law.specs.I2cLaw.Moments.{AreServed, IsServed}
 use Rattle.bus_law.proofs.I2cLaw.Meeting.{script_first}
-use Rattle.i2c_actors.specs.declared.member.Member.{Member}
-use Rattle.i2c_actors.specs.Casting.{AreEverySecond}
+use Rattle.bus_law.specs.declared.i2c_actors.member.Member.{Member}
+use Rattle.bus_law.specs.I2cActors.Casting.{AreEverySecond}
 use Rattle.bus_law.specs.Takes.{script_of, request_queues, request_of, turns_of, next_requests, requests_by}
 use Rattle.bus_law.proofs.Lists.{prefix_then, prefix_part, prefix_at, get_first, get_behind, same_lists, queue_is, all_head, all_tail}
 use Rattle.bus_law.proofs.Staging.{Stage}

@@ -25,10 +25,10 @@ use Rattle.i2c_virt.specs.declared.bus_device.BusDevice.{BusDevice}
 use Rattle.i2c_virt.specs.Virtualising.{FitsI2cVirt, VirtStands}
 use Rattle.i2c_virt.specs.Drivers.{pipes_of}
 use Rattle.i2c_virt.specs.BusDevices.{FitsBus, BusStandsFor}
-use Rattle.i2c_actors.specs.declared.member.Member.{Member}
-use Rattle.i2c_actors.specs.declared.member.Member.TheVariants as Members
-use Rattle.i2c_actors.specs.Members.{Made, Asks, Serves, Copies, Answers, made_of, member_means, MemberStandsFor, FitsMember}
-use Rattle.i2c_actors.specs.Casting.{AreEverySecond, StandsAt}
+use Rattle.bus_law.specs.declared.i2c_actors.member.Member.{Member}
+use Rattle.bus_law.specs.declared.i2c_actors.member.Member.TheVariants as Members
+use Rattle.bus_law.specs.I2cActors.Members.{Made, Asks, Serves, Copies, Answers, made_of, member_means, MemberStandsFor, FitsMember}
+use Rattle.bus_law.specs.I2cActors.Casting.{AreEverySecond, StandsAt}
 use Rattle.bus_law.specs.Takes.{script_of}
 use Rattle.bus_law.specs.Plays.{IsBusTale}
 

@@ -18,9 +18,9 @@ use Rattle.small_system.specs.SmallLaw.Wants.{WantsAre}
 use Rattle.i2c_virt.specs.Works.{wants_at, gives_at}
 use Rattle.i2c_virt.specs.declared.virtualiser.I2cVirt.{I2cVirt}
 use Rattle.i2c_virt.specs.Virtualising.{FitsI2cVirt}
-use Rattle.i2c_actors.specs.declared.member.Member.{Member}
-use Rattle.i2c_actors.specs.declared.member.Member.TheVariants as Members
-use Rattle.i2c_actors.specs.Members.{member_round, member_means, FitsMember}
+use Rattle.bus_law.specs.declared.i2c_actors.member.Member.{Member}
+use Rattle.bus_law.specs.declared.i2c_actors.member.Member.TheVariants as Members
+use Rattle.bus_law.specs.I2cActors.Members.{member_round, member_means, FitsMember}
 
 -- What an actor wants of its ends, by its own state.
 

@@ -7,3 +7,4 @@ pub mod Bounds
 pub mod Wants
 pub mod I2cLaw
 pub mod BusOwners
+pub mod I2cActors

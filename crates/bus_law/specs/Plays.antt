@@ -4,10 +4,10 @@ use Rattle.wire_core.specs.declared.names.QueueRow.{QueueRow}
 use Rattle.small_system.specs.Tales.{Turn, start_of, IsTale}
 use Rattle.small_system.specs.Standing.{Begins}
 use Rattle.i2c_text.specs.declared.bus.Bus.{Bus}
-use Rattle.i2c_actors.specs.declared.member.Member.{Member}
-use Rattle.i2c_actors.specs.Members.{member_means}
-use Rattle.i2c_actors.specs.Queues.{AreQueues}
-use Rattle.i2c_actors.specs.Casting.{AreMade}
+use Rattle.bus_law.specs.declared.i2c_actors.member.Member.{Member}
+use Rattle.bus_law.specs.I2cActors.Members.{member_means}
+use Rattle.bus_law.specs.I2cActors.Queues.{AreQueues}
+use Rattle.bus_law.specs.I2cActors.Casting.{AreMade}
 
 -- these turns are a play of the bus: the actors of the bus at its queues may begin, and the turns
 -- are theirs

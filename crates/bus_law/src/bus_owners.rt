@@ -12,14 +12,14 @@ ghost use Rattle.owner_law.specs.Keeping.{IsShownBy, start_table};
 ghost use Rattle.owner_law.specs.Census.{IsPool};
 ghost use Rattle.small_system.specs.Tales.{Turn, journal_of};
 ghost use Rattle.i2c_text.specs.declared.bus.Bus.{Bus};
-ghost use Rattle.i2c_actors.specs.declared.member.Member.{Member};
+ghost use Rattle.bus_law.specs.declared.i2c_actors.member.Member.{Member};
 ghost use Rattle.bus_law.specs.Plays.{IsBusTale};
 ghost use Rattle.bus_law.specs.BusOwners.Naming.{bus_naming};
 ghost use Rattle.bus_law.specs.BusOwners.Keepers.{bus_keepers, pool_size};
 
 mod pools;
 
-use i2c_actors::Member;
+use crate::i2c_actors::Member;
 use i2c_virt::i2c_client::client_law;
 use i2c_virt::{bus_law, driver_law, virt_law};
 use owner_law::pools::spread_law;

@@ -17,20 +17,22 @@ ghost use Rattle.small_system.specs.Wants.{RestsBy, runs_by, wanted_by, calm};
 ghost use Rattle.i2c_text.specs.declared.bus.Bus.{Bus};
 ghost use Rattle.i2c_virt.specs.I2cKit.Grants.{IsGranted};
 ghost use Rattle.i2c_virt.specs.declared.i2c_client.client.BusClient.{BusClient};
-ghost use Rattle.i2c_actors.specs.declared.member.Member.{Member};
-ghost use Rattle.i2c_actors.specs.declared.member.Member.TheVariants as Members;
-ghost use Rattle.i2c_actors.specs.Members.{member_means};
+ghost use Rattle.bus_law.specs.declared.i2c_actors.member.Member.{Member};
+ghost use Rattle.bus_law.specs.declared.i2c_actors.member.Member.TheVariants as Members;
+ghost use Rattle.bus_law.specs.I2cActors.Members.{member_means};
 ghost use Rattle.bus_law.specs.Takes.{script_of, requests_taken, granted_replies};
 ghost use Rattle.bus_law.specs.Plays.{IsBusTale};
 ghost use Rattle.bus_law.specs.Bounds.{hops_of, bus_bound};
 ghost use Rattle.bus_law.specs.Wants.{bus_wants};
 
 pub mod bus_owners;
+pub mod i2c_actors;
 pub mod i2c_law;
 
+use crate::i2c_actors::Member;
 use crate::i2c_law::moment_law;
 pub use bus_owners::{bus_pools, owners_law};
-use i2c_actors::Member;
+pub use i2c_actors::{CLIENT_CAPACITY, SHARED_CAPACITY, bus_members, bus_queues};
 use play_core::quiet_law;
 use play_core::rests::rest_law;
 use small_system::small_law::{bound_law, still_law};

@@ -21,7 +21,7 @@ use Rattle.trace_text.specs.Limits.{frame_most}
 use Rattle.sdf_check.proofs.ListLemmas.{get-right, get-either}
 use Rattle.region_layout.specs.Bases.{given_end, floor_of, round_up, base_at, free_after, bases_from, bases_of}
 use Rattle.region_layout.specs.Sizes.{IsSmallRegion}
-use Rattle.class_table.specs.Rows.{blk_buffer}
+use Rattle.sdf_plan.specs.ClassTable.Rows.{blk_buffer}
 use Rattle.region_layout.specs.Rows.{queues_of, pool_in, net_client_pools, net_pools, blk_client_pools, blk_pools, pools_of, client_name, each_client}
 use Rattle.region_layout.proofs.SameLemmas.{pools_same}
 use Rattle.region_layout.proofs.ValidLemmas.{small_numbers, net_buffer, net_client_buffers}

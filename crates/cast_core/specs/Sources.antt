@@ -15,7 +15,7 @@ use Rattle.sdf_plan.specs.declared.plan.Policy.{Policy}
 use Rattle.sdf_plan.specs.declared.plan.Policy.TheVariants as To
 use Rattle.trace_text.specs.declared.trace.Trace.{Trace}
 use Rattle.trace_text.specs.Events.{net_clients, serial_clients, is_source, runs}
-use Rattle.net_expect.specs.Expecting.{Program}
+use Rattle.class_expect.specs.NetExpect.Expecting.{Program}
 use Rattle.client_programs.specs.Net.Programs.{program_with}
 use Rattle.client_programs.specs.declared.net.program.NetProgram.{NetProgram}
 use Rattle.client_programs.specs.declared.net.program.NetProgram.TheVariants as Programs

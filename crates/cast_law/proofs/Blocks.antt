@@ -25,7 +25,7 @@ use Rattle.trace_text.specs.Events.{blk_clients}
 use Rattle.trace_text.specs.Traces.{IsReadFor}
 use Rattle.trace_text.specs.Shapes.{HasShapes, IsAsk, HasForm, IsDisk}
 use Rattle.trace_text.proofs.Shapes.{shapes-read}
-use Rattle.class_table.specs.Rows.{blk_buffer}
+use Rattle.sdf_plan.specs.ClassTable.Rows.{blk_buffer}
 use Rattle.region_layout.specs.Rows.{each_client, client_name, pool_in, net_pools, net_client_pools, blk_pools, blk_client_pools, pools_of, queues_of, actor_named, disk_number}
 use Rattle.region_layout.proofs.SameLemmas.{pools_same}
 use Rattle.region_layout.proofs.WalkLemmas.{kept, blk_client_walked}

@@ -24,7 +24,7 @@ use Rattle.region_layout.specs.Rows.{queues_of, pools_of, actor_named, eth_numbe
 use Rattle.layout_laws.specs.Sound.{IsSoundPool}
 use Rattle.layout_laws.proofs.Pools.{pools_sound}
 use Rattle.layout_laws.proofs.Rooms.{has_rooms}
-use Rattle.net_expect.specs.Expecting.{Program, Source}
+use Rattle.class_expect.specs.NetExpect.Expecting.{Program, Source}
 use Rattle.client_programs.specs.Net.Programs.{program_with}
 use Rattle.client_programs.specs.declared.net.program.NetProgram.{NetProgram}
 use Rattle.client_programs.specs.declared.net.program.NetProgram.TheVariants as Programs

@@ -14,7 +14,7 @@ ghost use Rattle.play_core.specs.Sheets.{AreFilled, AreSeated};
 ghost use Rattle.play_core.specs.Still.{IsPeopled};
 ghost use Rattle.owner_law.specs.Pages.{CarryPages};
 ghost use Rattle.owner_law.specs.Pools.Places.{PoolAt};
-ghost use Rattle.page_law.specs.Holders.{AreHeld};
+ghost use Rattle.wired_law.specs.PageLaw.Holders.{AreHeld};
 ghost use Rattle.actor_set.specs.Parts.{Part};
 ghost use Rattle.actor_set.specs.Actors.{part_of};
 ghost use Rattle.actor_set.specs.declared.actor.Actor.{Actor};

@@ -9,3 +9,4 @@ pub mod Once
 mod OneNumber
 mod SoFar
 mod Steps
+pub mod PlayWords

@@ -25,8 +25,8 @@ use Rattle.decision_core.specs.declared.showing.Alone.{Alone}
 use Rattle.decision_core.specs.declared.showing.Alone.TheVariants as Only
 use Rattle.command_words.specs.declared.command.Schedule.{Schedule}
 use Rattle.i2c_text.specs.Buses.{HasNoBadLine as HasNoBadBusLine, IsLeastBadLine as IsLeastBadBusLine}
-use Rattle.ports_text.specs.Given.{HasNoBadLine as HasNoBadPortLine, IsLeastBadLine as IsLeastBadPortLine}
-use Rattle.shelf_core.specs.Reading.{WasRead}
+use Rattle.line_text.specs.PortsText.Given.{HasNoBadLine as HasNoBadPortLine, IsLeastBadLine as IsLeastBadPortLine}
+use Rattle.decision_core.specs.ShelfCore.Reading.{WasRead}
 use Rattle.command_words.specs.declared.command.Options.{Options}
 use Rattle.command_words.specs.Words.{IsPlay, IsRun}
 use Rattle.command_words.proofs.Letters.{run-or-gen}

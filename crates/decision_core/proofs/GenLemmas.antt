@@ -9,11 +9,11 @@ use Rattle.sdf_check.specs.Valid.{IsRefused, broken, first_rule, last_rule}
 use Rattle.trace_text.specs.Traces.{trace_of}
 use Rattle.workload.specs.declared.description.TheConstants.{FULL_EXAMPLE}
 use Rattle.workload.specs.Generated.{generated_text}
-use Rattle.workload_law.specs.Clients.{HasClients}
-use Rattle.workload_law.proofs.Example.{root, full_clients, full_short}
-use Rattle.workload_law.proofs.Kept.{is_document, rules_kept}
-use Rattle.workload_law.proofs.Accepted.{full_valid}
-use Rattle.workload_law.proofs.Generated.{generated_good, generated_short}
+use Rattle.workload.specs.WorkloadLaw.Clients.{HasClients}
+use Rattle.workload.proofs.WorkloadLaw.Example.{root, full_clients, full_short}
+use Rattle.workload.proofs.WorkloadLaw.Kept.{is_document, rules_kept}
+use Rattle.workload.proofs.WorkloadLaw.Accepted.{full_valid}
+use Rattle.workload.proofs.WorkloadLaw.Generated.{generated_good, generated_short}
 use Rattle.decision_core.specs.declared.showing.Showing.TheVariants as Show
 use Rattle.decision_core.specs.declared.showing.Asked.TheVariants as Ask
 use Rattle.decision_core.specs.Judged.{SpellsPlan, IsRefusedText}

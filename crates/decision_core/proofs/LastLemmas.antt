@@ -7,7 +7,7 @@ use Rattle.decision_core.specs.declared.showing.Asked.TheVariants as Ask
 use Rattle.decision_core.specs.declared.status.Status.{Status}
 use Rattle.decision_core.specs.declared.status.Status.TheVariants as Ended
 use Rattle.sdf_model.specs.Counts.{text_most}
-use Rattle.shelf_core.specs.Outside.{IsRead, read_most}
+use Rattle.decision_core.specs.ShelfCore.Outside.{IsRead, read_most}
 use Rattle.decision_core.specs.declared.showing.Alone.{Alone}
 use Rattle.decision_core.specs.declared.showing.Alone.TheVariants as Only
 use Rattle.decision_core.specs.Decisions.{Decision, AloneDecides, OneTextDecides, long_text_alone, bad_text, good_text, bus_played, ports_played, asked_on, TextDecides, TraceDecides, GeneratedDecides, long_description, refused, accepted, long_trace, bad_trace, good_trace, IsStatusOf}

@@ -5,3 +5,4 @@ pub mod LastLemmas
 pub mod PlayableLemmas
 pub mod SettleLemmas
 pub mod WordLemmas
+pub mod ShelfCore

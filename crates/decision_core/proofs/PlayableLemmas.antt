@@ -1,7 +1,7 @@
 -- What is decided can be played: nothing is where there is only something to say.
 use Rattle.std.proofs.Common.{◌≡◌, List, ℕ, refl}
 use Rattle.i2c_text.specs.Buses.{IsReadBus}
-use Rattle.ports_text.specs.Given.{ArePorts}
+use Rattle.line_text.specs.PortsText.Given.{ArePorts}
 use Rattle.decision_core.specs.declared.deciding.Decided.{Decided}
 use Rattle.decision_core.specs.declared.deciding.Decided.TheVariants as Is
 use Rattle.decision_core.specs.declared.showing.Asked.TheVariants as Ask

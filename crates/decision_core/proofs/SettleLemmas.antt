@@ -8,12 +8,12 @@ use Rattle.report_text.specs.Answers.{usage_text}
 use Rattle.command_words.specs.declared.command.Command.{Command}
 use Rattle.command_words.specs.Words.{IsGen, Spells, IsBadWord}
 use Rattle.workload.specs.declared.description.TheConstants.{FULL_EXAMPLE}
-use Rattle.shelf_core.specs.declared.reading.ReadStop.{ReadStop}
-use Rattle.shelf_core.specs.declared.reading.ReadStop.TheVariants as Stop
-use Rattle.shelf_core.specs.Outside.{IsRead, also_opened, read_most}
-use Rattle.shelf_core.specs.Reading.{Behind, WasRead}
-use Rattle.shelf_core.specs.Shelves.{ReadsFrom, Opens, LeavesRest}
-use Rattle.shelf_core.proofs.ShelfLemmas.{reads-stopped, reads-starved, reads-for, reads-on}
+use Rattle.decision_core.specs.declared.shelf_core.reading.ReadStop.{ReadStop}
+use Rattle.decision_core.specs.declared.shelf_core.reading.ReadStop.TheVariants as Stop
+use Rattle.decision_core.specs.ShelfCore.Outside.{IsRead, also_opened, read_most}
+use Rattle.decision_core.specs.ShelfCore.Reading.{Behind, WasRead}
+use Rattle.decision_core.specs.ShelfCore.Shelves.{ReadsFrom, Opens, LeavesRest}
+use Rattle.decision_core.proofs.ShelfCore.ShelfLemmas.{reads-stopped, reads-starved, reads-for, reads-on}
 use Rattle.decision_core.specs.declared.deciding.Decided.{Decided}
 use Rattle.decision_core.specs.declared.showing.Alone.{Alone}
 use Rattle.decision_core.specs.declared.showing.Asked.{Asked}

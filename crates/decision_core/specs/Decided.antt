@@ -3,7 +3,7 @@ use Rattle.std.specs.Prelude.{ℕ, Option, List, string_bytes}
 use Rattle.sdf_plan.specs.Elements.{IsNumbered}
 use Rattle.trace_text.specs.Traces.{IsReadFor}
 use Rattle.i2c_text.specs.Buses.{IsReadBus}
-use Rattle.ports_text.specs.Given.{ArePorts}
+use Rattle.line_text.specs.PortsText.Given.{ArePorts}
 use Rattle.decision_core.specs.declared.deciding.Decided.{Decided}
 use Rattle.decision_core.specs.declared.deciding.Decided.TheVariants as Is
 use Rattle.decision_core.specs.declared.showing.Asked.TheVariants as Ask

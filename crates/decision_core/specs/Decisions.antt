@@ -11,9 +11,9 @@ use Rattle.report_text.specs.Layouts.{layout_text}
 use Rattle.i2c_text.specs.declared.bus.Bus.{Bus}
 use Rattle.i2c_text.specs.Buses.{bus_of, HasNoBadLine as HasNoBadBusLine}
 use Rattle.i2c_text.specs.Buses.{IsLeastBadLine as IsLeastBadBusLine}
-use Rattle.ports_text.specs.declared.ports.Ports.{Ports}
-use Rattle.ports_text.specs.Given.{ports_of, HasNoBadLine as HasNoBadPortLine}
-use Rattle.ports_text.specs.Given.{IsLeastBadLine as IsLeastBadPortLine}
+use Rattle.line_text.specs.declared.ports_text.ports.Ports.{Ports}
+use Rattle.line_text.specs.PortsText.Given.{ports_of, HasNoBadLine as HasNoBadPortLine}
+use Rattle.line_text.specs.PortsText.Given.{IsLeastBadLine as IsLeastBadPortLine}
 use Rattle.command_words.specs.declared.command.Options.{Options}
 use Rattle.command_words.specs.declared.command.Schedule.{Schedule}
 use Rattle.command_words.specs.Words.{IsCheck, IsLayout, IsPlay, IsRun, IsGen, IsBadWord}

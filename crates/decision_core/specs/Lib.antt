@@ -8,3 +8,4 @@ pub mod Leading
 pub mod Naming
 pub mod Readings
 pub mod Settled
+pub mod ShelfCore

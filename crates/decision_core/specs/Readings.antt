@@ -5,8 +5,8 @@ use Rattle.sdf_plan.specs.declared.plan.Plan.{Plan}
 use Rattle.decision_core.specs.declared.status.Status.{Status}
 use Rattle.decision_core.specs.declared.status.Status.TheVariants as Ended
 use Rattle.sdf_model.specs.Counts.{text_most}
-use Rattle.shelf_core.specs.Outside.{also_opened}
-use Rattle.shelf_core.specs.Reading.{Behind}
+use Rattle.decision_core.specs.ShelfCore.Outside.{also_opened}
+use Rattle.decision_core.specs.ShelfCore.Reading.{Behind}
 use Rattle.decision_core.specs.declared.showing.Asked.{Asked}
 use Rattle.decision_core.specs.declared.showing.Alone.{Alone}
 use Rattle.decision_core.specs.Decisions.{NamesDescription, AsksFor, AsksAlone}

@@ -1,9 +1,9 @@
 -- What a call that reads texts gives, and what it leaves on the shelf.
 use Rattle.std.specs.Prelude.{ℕ, Bool, Option, List, Result, IfOk}
 use Rattle.sdf_plan.specs.declared.plan.Plan.{Plan}
-use Rattle.shelf_core.specs.declared.reading.ReadStop.{ReadStop}
-use Rattle.shelf_core.specs.Reading.{WasRead}
-use Rattle.shelf_core.specs.Shelves.{ReadsFrom, Opens}
+use Rattle.decision_core.specs.declared.shelf_core.reading.ReadStop.{ReadStop}
+use Rattle.decision_core.specs.ShelfCore.Reading.{WasRead}
+use Rattle.decision_core.specs.ShelfCore.Shelves.{ReadsFrom, Opens}
 use Rattle.decision_core.specs.declared.deciding.Decided.{Decided}
 use Rattle.decision_core.specs.declared.showing.Asked.{Asked}
 use Rattle.decision_core.specs.Decided.{decision_of, OfEach, IsPlayable}

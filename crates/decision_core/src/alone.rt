@@ -7,13 +7,13 @@ ghost use Rattle.decision_core.specs.Decisions.{Say, AloneDecides, AsksAlone};
 ghost use Rattle.decision_core.specs.Settled.{Settles};
 
 use crate::deciding::{Decided, say_bad_trace, say_too_long};
+use crate::shelf_core::{ReadStop, Shelf, read_text};
 use crate::{Alone, Status};
 use cargo_core::Memory;
 use command_words::Schedule;
 use i2c_text::{BusFault, read_bus};
-use ports_text::{PortFault, read_ports};
+use line_text::ports_text::{PortFault, read_ports};
 use sdf_model::TEXT_MOST;
-use shelf_core::{ReadStop, Shelf, read_text};
 use std::alloc::Global;
 
 /// A bus wasn't read.

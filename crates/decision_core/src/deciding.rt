@@ -9,32 +9,32 @@ ghost use Rattle.report_text.specs.Layouts.{layout_text};
 ghost use Rattle.command_words.specs.Words.{texts_of, IsGen, Spells};
 ghost use Rattle.command_words.specs.declared.command.Command.{Command};
 ghost use Rattle.command_words.specs.declared.command.Command.TheVariants as Do;
-ghost use Rattle.shelf_core.specs.Shelves.{ReadsFrom};
+ghost use Rattle.decision_core.specs.ShelfCore.Shelves.{ReadsFrom};
 ghost use Rattle.decision_core.specs.Judged.{IsAcceptedPlan};
 ghost use Rattle.decision_core.specs.Decided.{decision_of, OfEach, IsPlayable};
 ghost use Rattle.decision_core.specs.Decisions.{Say, Decides, TextDecides, TraceDecides};
 ghost use Rattle.decision_core.specs.Decisions.{GeneratedDecides, refuses, too_long};
 ghost use Rattle.decision_core.specs.Generating.{IsSummary};
 ghost use Rattle.decision_core.specs.Naming.{HasDescription};
-ghost use Rattle.shelf_core.specs.Reading.{WasRead};
+ghost use Rattle.decision_core.specs.ShelfCore.Reading.{WasRead};
 ghost use Rattle.decision_core.specs.Readings.{OpensInTurn, ReadLast};
 ghost use Rattle.decision_core.specs.Settled.{Settles, SettlesTrace};
 
 use crate::alone::decide_alone;
 use crate::describing::{Next, lead_text};
 use crate::judging::{judge, let_go};
+use crate::shelf_core::{ReadStop, Shelf, read_text};
 use crate::{Alone, Asked, Showing, Status};
 use cargo_core::Memory;
 use command_words::{Command, Schedule, read_words};
 use i2c_text::Bus;
-use ports_text::Ports;
+use line_text::ports_text::Ports;
 use region_layout::lay_out;
 use report_text::{
     write_accepted, write_bad_trace, write_layout, write_refused, write_too_long, write_usage,
 };
 use sdf_model::TEXT_MOST;
 use sdf_plan::{Plan, Refusal, SdfFault};
-use shelf_core::{ReadStop, Shelf, read_text};
 use std::alloc::Global;
 use trace_text::{Trace, TraceFault, read_trace};
 use workload::{FULL_EXAMPLE, generate};

@@ -12,7 +12,7 @@ ghost use Rattle.turn_kit.specs.Turns.{Turned, Posted, choice_of, chosen_place, 
 ghost use Rattle.turn_kit.specs.Turns.{is_at_rest};
 ghost use Rattle.cargo_core.specs.Bodies.{buffers_of};
 ghost use Rattle.turn_kit.specs.Posts.{intake_post, outlet_post};
-ghost use Rattle.serial_switch.specs.Carried.{byte_cargo, bytes_carried};
+ghost use Rattle.class_expect.specs.SerialSwitch.Carried.{byte_cargo, bytes_carried};
 ghost use Rattle.device_model.specs.SerialTerminal.Terminals.{FitsTerminal, TerminalStandsFor};
 ghost use Rattle.device_model.specs.SerialTerminal.Terminals.{TerminalRow, TerminalBalances};
 ghost use Rattle.device_model.specs.SerialTerminal.Terminals.{TerminalEnd, SameTerminal};

@@ -3,8 +3,8 @@
 use Rattle.std.proofs.Common.{◌≡◌, ◌+◌, ℕ, Bool, true, Option, Some, None, option_map, List, [], ◌∷◌, refl, sym, ap, ◌∙◌, subst}
 use Rattle.cargo_core.specs.declared.item.Ask.{Ask}
 use Rattle.blk_mbr.specs.declared.part.Part.{Part}
-use Rattle.blk_expect.specs.Judging.{status_within}
-use Rattle.blk_expect.specs.Replies.{partition_in, partition_bytes, status_to, left_by, replies_from, replies_of, reply_of}
+use Rattle.class_expect.specs.BlkExpect.Judging.{status_within}
+use Rattle.class_expect.specs.BlkExpect.Replies.{partition_in, partition_bytes, status_to, left_by, replies_from, replies_of, reply_of}
 use Rattle.expect_core.specs.Isolation.{IsRecordOf, AreOfOne, AgreeOnPartition}
 
 -- two records of lists that are the same are of the first

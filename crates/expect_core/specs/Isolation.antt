@@ -3,10 +3,10 @@
 use Rattle.std.specs.Prelude.{◌≡◌, ℕ, Bool, true, List, filter, option_map}
 use Rattle.cargo_core.specs.Lists.{IsPrefix}
 use Rattle.frame_core.specs.declared.mac.Mac.{Mac}
-use Rattle.net_expect.specs.Expecting.{is_for_client}
-use Rattle.serial_switch.specs.Switching.{input_of}
+use Rattle.class_expect.specs.NetExpect.Expecting.{is_for_client}
+use Rattle.class_expect.specs.SerialSwitch.Switching.{input_of}
 use Rattle.blk_mbr.specs.declared.part.Part.{Part}
-use Rattle.blk_expect.specs.Replies.{partition_in, partition_bytes}
+use Rattle.class_expect.specs.BlkExpect.Replies.{partition_in, partition_bytes}
 
 -- a record is of a list: it is a beginning of it, and all of it where the play is quiet
 pub record IsRecordOf {T : Type 0} (whole : List T) (quiet : Bool) (got : List T) : Type 0 where

@@ -1,19 +1,19 @@
 //! What a client must get, as plain and slow functions: tests compare plays with them.
 
 ghost use Rattle.std.specs.Prelude.{◌≡◌, ◌<◌, IfOk, length};
-ghost use Rattle.net_expect.specs.Expecting.{frames_for};
+ghost use Rattle.class_expect.specs.NetExpect.Expecting.{frames_for};
 ghost use Rattle.sdf_check.specs.Valid.{Valid};
-ghost use Rattle.serial_switch.specs.Switching.{input_of};
+ghost use Rattle.class_expect.specs.SerialSwitch.Switching.{input_of};
 ghost use Rattle.trace_text.specs.Events.{blk_clients};
 ghost use Rattle.trace_text.specs.Traces.{IsReadFor};
 ghost use Rattle.expect_core.specs.Expected.{client_entry, replies_in};
 
-use blk_expect::replies_of as plain_replies_of;
 use cargo_core::{Bytes, FrameLog, Memory, Reply};
+use class_expect::blk_expect::replies_of as plain_replies_of;
+use class_expect::net_expect::frames_for as plain_frames_for;
+use class_expect::serial_switch::plain_input_of;
 use frame_core::Mac;
-use net_expect::frames_for as plain_frames_for;
 use sdf_plan::Plan;
-use serial_switch::plain_input_of;
 use std::alloc::Global;
 use trace_text::{Trace, limits_law, shapes_law};
 

@@ -4,9 +4,9 @@ ghost use Rattle.std.specs.Prelude.{◌≡◌, ℕ, Bool, List};
 ghost use Rattle.cargo_core.specs.declared.item.Ask.{Ask};
 ghost use Rattle.cargo_core.specs.declared.item.Reply.{Reply};
 ghost use Rattle.frame_core.specs.declared.mac.Mac.{Mac};
-ghost use Rattle.net_expect.specs.Expecting.{frames_for};
-ghost use Rattle.serial_switch.specs.Switching.{input_of};
-ghost use Rattle.blk_expect.specs.Replies.{replies_of};
+ghost use Rattle.class_expect.specs.NetExpect.Expecting.{frames_for};
+ghost use Rattle.class_expect.specs.SerialSwitch.Switching.{input_of};
+ghost use Rattle.class_expect.specs.BlkExpect.Replies.{replies_of};
 ghost use Rattle.expect_core.specs.Isolation.{IsRecordOf, AreOfOne};
 ghost use Rattle.expect_core.specs.Isolation.{AgreeOnFrames, AgreeOnInput, AgreeOnPartition};
 

@@ -17,8 +17,8 @@ use Rattle.i2c_text.specs.Buses.{asks_said, lines_before, bus_from, bus_of, clie
 use Rattle.i2c_text.proofs.SoFar.{said_more, no_lines}
 use Rattle.i2c_virt.specs.I2cKit.Pages.{is_request, is_address, is_count}
 use Rattle.i2c_virt.specs.I2cClient.Asking.{AreRequests}
-use Rattle.i2c_actors.specs.Casting.{IsFitBus}
-use Rattle.i2c_actors.proofs.Places.{get_split}
+use Rattle.bus_law.specs.I2cActors.Casting.{IsFitBus}
+use Rattle.bus_law.proofs.I2cActors.Places.{get_split}
 use Rattle.play_core.proofs.Lists.{some_is}
 use Rattle.text_limits.specs.Limits.{KeepsBusLimits}
 

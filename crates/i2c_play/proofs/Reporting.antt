@@ -21,9 +21,9 @@ use Rattle.i2c_text.specs.declared.report.BusReply.{BusReply}
 use Rattle.i2c_text.specs.declared.report.BusReport.{BusReport}
 use Rattle.text_limits.specs.Limits.{KeepsBusLimits}
 use Rattle.i2c_virt.specs.declared.i2c_client.client.BusClient.{BusClient}
-use Rattle.i2c_actors.specs.declared.member.Member.{Member}
-use Rattle.i2c_actors.specs.declared.member.Member.TheVariants as Members
-use Rattle.i2c_actors.specs.Members.{member_means}
+use Rattle.bus_law.specs.declared.i2c_actors.member.Member.{Member}
+use Rattle.bus_law.specs.declared.i2c_actors.member.Member.TheVariants as Members
+use Rattle.bus_law.specs.I2cActors.Members.{member_means}
 use Rattle.bus_law.specs.Plays.{IsBusTale}
 use Rattle.bus_law.specs.Takes.{granted_replies}
 use Rattle.bus_law.specs.Bounds.{bus_bound}

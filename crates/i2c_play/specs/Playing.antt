@@ -15,7 +15,7 @@ use Rattle.small_system.specs.Wants.{runs_by, wanted_by, calm}
 use Rattle.i2c_text.specs.declared.bus.Bus.{Bus}
 use Rattle.i2c_text.specs.declared.report.BusReply.{BusReply}
 use Rattle.i2c_text.specs.declared.report.BusReport.{BusReport}
-use Rattle.i2c_actors.specs.declared.member.Member.{Member}
+use Rattle.bus_law.specs.declared.i2c_actors.member.Member.{Member}
 use Rattle.bus_law.specs.Plays.{IsBusTale}
 use Rattle.bus_law.specs.Takes.{granted_replies}
 use Rattle.bus_law.specs.Wants.{bus_wants}

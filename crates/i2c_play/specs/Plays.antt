@@ -7,11 +7,11 @@ use Rattle.small_system.specs.Standing.{Begins}
 use Rattle.i2c_text.specs.declared.bus.Bus.{Bus}
 use Rattle.i2c_text.specs.declared.report.BusReply.{BusReply}
 use Rattle.i2c_text.specs.declared.report.BusReport.{BusReport}
-use Rattle.i2c_actors.specs.declared.member.Member.{Member}
-use Rattle.i2c_actors.specs.declared.member.Member.TheVariants as Members
-use Rattle.i2c_actors.specs.Members.{member_means}
-use Rattle.i2c_actors.specs.Queues.{AreQueues}
-use Rattle.i2c_actors.specs.Casting.{AreMade}
+use Rattle.bus_law.specs.declared.i2c_actors.member.Member.{Member}
+use Rattle.bus_law.specs.declared.i2c_actors.member.Member.TheVariants as Members
+use Rattle.bus_law.specs.I2cActors.Members.{member_means}
+use Rattle.bus_law.specs.I2cActors.Queues.{AreQueues}
+use Rattle.bus_law.specs.I2cActors.Casting.{AreMade}
 use Rattle.bus_law.specs.BusOwners.Pools.{table_after, pool_lines}
 
 -- the actors of a bus are at its queues, before the first step

@@ -10,11 +10,11 @@ use Rattle.sdf_plan.specs.declared.plan.Domain.{Domain}
 use Rattle.sdf_plan.specs.declared.plan.Net.{Net}
 use Rattle.sdf_plan.specs.declared.plan.Serial.{Serial}
 use Rattle.sdf_plan.specs.declared.plan.Blk.{Blk}
-use Rattle.class_table.specs.declared.role.Role.{Role}
-use Rattle.class_table.specs.declared.role.Role.TheVariants as For
+use Rattle.sdf_plan.specs.declared.class_table.role.Role.{Role}
+use Rattle.sdf_plan.specs.declared.class_table.role.Role.TheVariants as For
 use Rattle.sdf_check.specs.Names.{place_of, domain_names, domain_named, net_domains, net_client_domains, serial_domains, serial_client_domains, blk_domains, blk_client_domains}
-use Rattle.class_table.specs.Roles.{IsProgramOf}
-use Rattle.class_table.specs.Rows.{plays}
+use Rattle.sdf_plan.specs.ClassTable.Roles.{IsProgramOf}
+use Rattle.sdf_plan.specs.ClassTable.Rows.{plays}
 use Rattle.sdf_check.specs.ClassRules.{class_domains, net_names, serial_names, blk_names, the_domain, Plays}
 use Rattle.sdf_check.specs.Valid.{Valid}
 use Rattle.sdf_check.proofs.ClassLemmas.{domains_same}

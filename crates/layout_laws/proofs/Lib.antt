@@ -13,3 +13,4 @@ pub mod Rooms
 pub mod Tables
 pub mod JobsLemmas
 pub mod SeatsLemmas
+pub mod RegionLaws

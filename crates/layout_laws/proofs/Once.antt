@@ -4,12 +4,12 @@ use Rattle.std.specs.Bool.{⊤}
 use Rattle.std.proofs.lemmas.List.{append-nil}
 use Rattle.std.proofs.lemmas.Option.{slice_get_within}
 use Rattle.sdf_plan.specs.declared.plan.Plan.{Plan}
-use Rattle.class_table.specs.Names.{domains_of, regions_of}
-use Rattle.class_table.specs.Order.{elements_before}
-use Rattle.class_table.specs.Rows.{Name}
-use Rattle.class_table.specs.Table.{Element, table_of}
-use Rattle.class_table.proofs.Everywhere.{all-at}
-use Rattle.class_table.proofs.Order.{placed}
+use Rattle.sdf_plan.specs.ClassTable.Names.{domains_of, regions_of}
+use Rattle.sdf_plan.specs.ClassTable.Order.{elements_before}
+use Rattle.sdf_plan.specs.ClassTable.Rows.{Name}
+use Rattle.sdf_plan.specs.ClassTable.Table.{Element, table_of}
+use Rattle.sdf_plan.proofs.ClassTable.Everywhere.{all-at}
+use Rattle.sdf_plan.proofs.ClassTable.Order.{placed}
 use Rattle.sdf_check.specs.Names.{StandsBefore}
 use Rattle.sdf_check.specs.ClassRules.{RepeatsName, SomeOf, class_regions, class_domains}
 use Rattle.sdf_check.specs.Valid.{Valid, BreaksByRows}

@@ -10,12 +10,12 @@ use Rattle.sdf_plan.specs.declared.plan.NetClient.{NetClient}
 use Rattle.sdf_plan.specs.declared.plan.Blk.{Blk}
 use Rattle.sdf_plan.specs.declared.plan.BlkClient.{BlkClient}
 use Rattle.sdf_check.specs.Names.{region_named}
-use Rattle.class_table.specs.Table.{net_element, net_client_element, blk_element, blk_client_element}
+use Rattle.sdf_plan.specs.ClassTable.Table.{net_element, net_client_element, blk_element, blk_client_element}
 use Rattle.sdf_check.specs.ClassRules.{UsesNoRegion, IsSmaller, IsBufferCount}
 use Rattle.sdf_check.specs.Valid.{Valid}
 use Rattle.sdf_check.proofs.SoughtLemmas.{here-some}
 use Rattle.region_layout.specs.Bases.{bases_from, bases_of, floor_of, free_after}
-use Rattle.class_table.specs.Rows.{blk_buffer}
+use Rattle.sdf_plan.specs.ClassTable.Rows.{blk_buffer}
 use Rattle.region_layout.specs.Rows.{pool_in, net_client_pools, net_pools, blk_client_pools, blk_pools, pools_of, each_client, client_name}
 use Rattle.region_layout.proofs.SameLemmas.{pools_same}
 use Rattle.region_layout.proofs.KeptLemmas.{net_keeps, net_client_keeps, blk_keeps, blk_client_keeps}

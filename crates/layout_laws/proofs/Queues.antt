@@ -14,14 +14,14 @@ use Rattle.sdf_plan.specs.declared.plan.SerialClient.{SerialClient}
 use Rattle.sdf_plan.specs.declared.plan.Blk.{Blk}
 use Rattle.sdf_plan.specs.declared.plan.BlkClient.{BlkClient}
 use Rattle.wire_core.specs.declared.names.ActorId.{ActorId}
-use Rattle.class_table.specs.declared.uses.Ends.{Ends}
-use Rattle.class_table.specs.declared.uses.Ends.TheVariants as Way
-use Rattle.class_table.specs.declared.uses.QueueUse.{QueueUse}
-use Rattle.class_table.specs.Named.{text_of}
-use Rattle.class_table.specs.Rows.{Name}
-use Rattle.class_table.specs.Sizes.{entry_size, queue_size, offset_behind}
-use Rattle.class_table.specs.Table.{Element, table_of, net_element, net_client_element, serial_element, serial_client_element, blk_element, blk_client_element}
-use Rattle.class_table.proofs.Everywhere.{all-flat, all-each, all-at}
+use Rattle.sdf_plan.specs.declared.class_table.uses.Ends.{Ends}
+use Rattle.sdf_plan.specs.declared.class_table.uses.Ends.TheVariants as Way
+use Rattle.sdf_plan.specs.declared.class_table.uses.QueueUse.{QueueUse}
+use Rattle.sdf_plan.specs.ClassTable.Named.{text_of}
+use Rattle.sdf_plan.specs.ClassTable.Rows.{Name}
+use Rattle.sdf_plan.specs.ClassTable.Sizes.{entry_size, queue_size, offset_behind}
+use Rattle.sdf_plan.specs.ClassTable.Table.{Element, table_of, net_element, net_client_element, serial_element, serial_client_element, blk_element, blk_client_element}
+use Rattle.sdf_plan.proofs.ClassTable.Everywhere.{all-flat, all-each, all-at}
 use Rattle.sdf_check.specs.Names.{region_named}
 use Rattle.sdf_check.specs.Rules.{IsMultiple}
 use Rattle.sdf_check.specs.ClassRules.{IsSmaller, LacksRoom, OfLink, QueueLacksRoom, HasBadCapacity}

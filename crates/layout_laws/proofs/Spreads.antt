@@ -16,12 +16,12 @@ use Rattle.sdf_plan.specs.declared.plan.BlkClient.{BlkClient}
 use Rattle.sdf_check.specs.Names.{region_named, net_regions, net_client_regions, serial_regions, serial_client_regions, blk_regions, blk_client_regions}
 use Rattle.sdf_check.specs.Rules.{Range, Meets, MeetsEarlier}
 use Rattle.sdf_check.specs.ClassRules.{IsSmaller, class_regions, serial_names, blk_names}
-use Rattle.class_table.specs.Sizes.{entry_size, second_offset}
+use Rattle.sdf_plan.specs.ClassTable.Sizes.{entry_size, second_offset}
 use Rattle.sdf_check.specs.Valid.{Valid}
 use Rattle.sdf_check.proofs.ListLemmas.{get-either}
 use Rattle.sdf_check.proofs.SweepLemmas.{some-inj, none-is-some}
 use Rattle.wire_core.specs.declared.names.ActorId.{ActorId}
-use Rattle.class_table.specs.Rows.{blk_buffer}
+use Rattle.sdf_plan.specs.ClassTable.Rows.{blk_buffer}
 use Rattle.region_layout.specs.Rows.{actor_named, eth_number, uart_number, disk_number, queue_span, queue_in, queue_pair, eth_rx_queues, eth_tx_queues, net_rx_queues, net_tx_queues, lease_queues, client_rx_queues, client_tx_queues, net_client_queues, net_queues, uart_queues, shared_serial_queues, serial_client_queues, serial_queues, disk_queues, shared_blk_queues, blk_client_queues, blk_queues, queues_of, pool_in, net_client_pools, net_pools, blk_client_pools, blk_pools, pools_of, each_client, client_name}
 use Rattle.region_layout.proofs.SameLemmas.{queues_same, pools_same}
 use Rattle.layout_laws.specs.Sound.{queue_range, pool_range, ranges_of}

@@ -3,8 +3,8 @@ use Rattle.std.proofs.Common.{ℕ, zero, suc, ◌≡◌, ◌≤◌, List, [], �
 use Rattle.std.specs.List.{All}
 use Rattle.std.proofs.lemmas.List.Elements.{All-nil, All-cons}
 use Rattle.sdf_plan.specs.declared.plan.Plan.{Plan}
-use Rattle.class_table.specs.Table.{table_of}
-use Rattle.class_table.proofs.Everywhere.{all-table}
+use Rattle.sdf_plan.specs.ClassTable.Table.{table_of}
+use Rattle.sdf_plan.proofs.ClassTable.Everywhere.{all-table}
 use Rattle.sdf_check.specs.Valid.{Valid, BreaksByRows, first_rule, last_rule}
 use Rattle.region_layout.proofs.KeptLemmas.{net_keeps, net_client_keeps, serial_keeps, serial_client_keeps, blk_keeps, blk_client_keeps}
 

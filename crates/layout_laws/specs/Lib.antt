@@ -3,3 +3,4 @@
 pub mod Sound
 pub mod Jobs
 pub mod Seats
+pub mod RegionLaws

@@ -12,7 +12,7 @@ use Rattle.sdf_check.specs.Rules.{IsMultiple, Range}
 use Rattle.cargo_core.specs.Capacities.{IsCapacity}
 use Rattle.sdf_check.specs.ClassRules.{IsBufferCount}
 use Rattle.region_layout.specs.Bases.{bases_of}
-use Rattle.class_table.specs.Sizes.{entry_size}
+use Rattle.sdf_plan.specs.ClassTable.Sizes.{entry_size}
 use Rattle.region_layout.specs.Rows.{acting_count, actors_of, actor_named, queues_of, pools_of}
 
 -- a queue begins at a multiple of 64, and its header and its entries end inside the region

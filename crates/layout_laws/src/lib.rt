@@ -14,6 +14,7 @@ ghost use Rattle.layout_laws.specs.Sound.{IsSoundQueue, IsSoundPool, IsOwned, Is
 ghost use Rattle.layout_laws.specs.Sound.{NoNameTwice, ranges_of};
 
 pub mod jobs;
+pub mod region_laws;
 pub mod seats;
 
 /// In the layout of a valid plan each queue has a capacity that is a power of two from 1 to 32,768

@@ -2,6 +2,7 @@
 //! main calls of one library, and gives what they come to as a text, which is printed here.
 #![tactic(auto)]
 
+mod class_example;
 mod discipline;
 mod ring;
 mod seats;

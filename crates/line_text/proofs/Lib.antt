@@ -2,3 +2,4 @@ pub mod Numbers
 pub mod Pieces
 pub mod Rows
 pub mod DataPieces
+pub mod PortsText

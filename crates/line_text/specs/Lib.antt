@@ -4,3 +4,4 @@ pub mod Texts
 pub mod Data
 pub mod Lists
 pub mod Reading
+pub mod PortsText

@@ -4,7 +4,7 @@ use Rattle.cargo_core.specs.Lists.{IsPrefix}
 use Rattle.frame_core.specs.declared.mac.Mac.{Mac}
 use Rattle.frame_core.specs.Frames.{turned_round, is_frame_for}
 use Rattle.wire_core.specs.Lists.{Passed}
-use Rattle.net_expect.specs.Expecting.{frames_for, answers_for, is_for_client, sends_of}
+use Rattle.class_expect.specs.NetExpect.Expecting.{frames_for, answers_for, is_for_client, sends_of}
 use Rattle.buffer_kit.specs.Entries.{frame_of, all_filled}
 use Rattle.buffer_kit.specs.Pools.{given_entry}
 use Rattle.client_programs.specs.declared.net.program.NetProgram.{NetProgram}

@@ -11,7 +11,7 @@ use Rattle.pipe_driver.specs.declared.pipes.Pipes.{Pipes}
 use Rattle.eth_driver.specs.Four.{four_pipes}
 use Rattle.buffer_kit.specs.Entries.{frame_of, all_filled}
 use Rattle.buffer_kit.specs.Virtualising.{from_queues, to_queues}
-use Rattle.net_expect.specs.Expecting.{frames_for, is_for_client}
+use Rattle.class_expect.specs.NetExpect.Expecting.{frames_for, is_for_client}
 use Rattle.device_model.specs.declared.ethernet.EthDevice.{EthDevice}
 use Rattle.net_copier.specs.Copying.{leased_bytes}
 use Rattle.net_copier.specs.declared.NetCopier.{NetCopier}

@@ -10,7 +10,7 @@ use Rattle.turn_kit.specs.declared.pipe.Pipe.{Pipe}
 use Rattle.pipe_driver.specs.Drivers.{PipesRow}
 use Rattle.pipe_driver.specs.declared.pipes.Pipes.{Pipes}
 use Rattle.eth_driver.specs.Four.{four_pipes}
-use Rattle.net_expect.specs.Expecting.{Program, Sink, Source, Echo, frames_for}
+use Rattle.class_expect.specs.NetExpect.Expecting.{Program, Sink, Source, Echo, frames_for}
 use Rattle.device_model.specs.Ethernet.Devices.{DeviceRow, accepted}
 use Rattle.device_model.specs.declared.ethernet.EthDevice.{EthDevice}
 use Rattle.net_copier.specs.Copying.{CopierRow, leased_bytes, leases_dropped}

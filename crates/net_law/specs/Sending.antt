@@ -3,7 +3,7 @@ use Rattle.std.specs.Prelude.{◌≡◌, ℕ, List, ◌++◌, map}
 use Rattle.cargo_core.specs.Lists.{IsPrefix}
 use Rattle.frame_core.specs.declared.mac.Mac.{Mac}
 use Rattle.wire_core.specs.Lists.{Passed}
-use Rattle.net_expect.specs.Expecting.{frames_for}
+use Rattle.class_expect.specs.NetExpect.Expecting.{frames_for}
 use Rattle.buffer_kit.specs.Entries.{frame_of}
 use Rattle.buffer_kit.specs.Pools.{given_entry}
 use Rattle.client_programs.specs.Net.Programs.{frames_out}

@@ -9,7 +9,7 @@ ghost use Rattle.wire_core.specs.Fates.{without};
 ghost use Rattle.wire_core.specs.Lists.{Passed};
 ghost use Rattle.turn_kit.specs.declared.pipe.Pipe.{Pipe};
 ghost use Rattle.pipe_driver.specs.declared.pipes.Pipes.{Pipes};
-ghost use Rattle.net_expect.specs.Expecting.{frames_for, sends_of};
+ghost use Rattle.class_expect.specs.NetExpect.Expecting.{frames_for, sends_of};
 ghost use Rattle.device_model.specs.Ethernet.Devices.{DeviceRow, accepted, rx_active as filled_out};
 ghost use Rattle.device_model.specs.declared.ethernet.EthDevice.{EthDevice};
 ghost use Rattle.net_copier.specs.Copying.{CopierRow, leases_dropped};

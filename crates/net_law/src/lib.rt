@@ -10,7 +10,7 @@ ghost use Rattle.frame_core.specs.declared.mac.Mac.{Mac};
 ghost use Rattle.wire_core.specs.Lists.{Passed};
 ghost use Rattle.turn_kit.specs.declared.pipe.Pipe.{Pipe};
 ghost use Rattle.pipe_driver.specs.declared.pipes.Pipes.{Pipes};
-ghost use Rattle.net_expect.specs.Expecting.{frames_for, sends_of};
+ghost use Rattle.class_expect.specs.NetExpect.Expecting.{frames_for, sends_of};
 ghost use Rattle.device_model.specs.declared.ethernet.EthDevice.{EthDevice};
 ghost use Rattle.net_copier.specs.declared.NetCopier.{NetCopier};
 ghost use Rattle.net_virt_rx.specs.declared.NetVirtRx.{NetVirtRx};

@@ -14,7 +14,7 @@ ghost use Rattle.owner_law.specs.Keeping.{PutsItsOwn};
 ghost use Rattle.turn_kit.specs.declared.pipe.Pipe.{Pipe};
 ghost use Rattle.pipe_driver.specs.Drivers.{PipesRow};
 ghost use Rattle.pipe_driver.specs.declared.pipes.Pipes.{Pipes};
-ghost use Rattle.net_expect.specs.Expecting.{Program, frames_for};
+ghost use Rattle.class_expect.specs.NetExpect.Expecting.{Program, frames_for};
 ghost use Rattle.buffer_kit.specs.Entries.{frame_of};
 ghost use Rattle.device_model.specs.Ethernet.Devices.{HoldingDeviceRow};
 ghost use Rattle.device_model.specs.declared.ethernet.EthDevice.{EthDevice};

@@ -12,7 +12,7 @@ use Rattle.play_core.specs.Moved.{Moved}
 use Rattle.play_core.proofs.Lists.{some_is}
 use Rattle.owner_law.specs.Things.{Buffer, Window, buffer_of, names_in, times}
 use Rattle.owner_law.proofs.Counting.{below_none}
-use Rattle.net_expect.specs.Expecting.{is_for_client, frames_for}
+use Rattle.class_expect.specs.NetExpect.Expecting.{is_for_client, frames_for}
 use Rattle.owner_law.specs.Pools.Places.{PoolAt, by_address, by_offset}
 use Rattle.net_law.specs.Owners.Lending.{names_where, leases_due, leases_back}
 use Rattle.net_law.specs.Parts.Parts.{Lessee}

@@ -19,7 +19,7 @@ use Rattle.play_core.proofs.OneQueue.{whole_prefix}
 use Rattle.play_core.proofs.Lists.{map_from, prefix_trans, there_is, there_below}
 use Rattle.play_core.proofs.Merges.{merge_total}
 use Rattle.play_core.proofs.Walks.{begins_few, needs_as, flow, drained, roomy}
-use Rattle.net_expect.specs.Expecting.{Program, Sink, Source, Echo, frames_for, answers_for, sends_of}
+use Rattle.class_expect.specs.NetExpect.Expecting.{Program, Sink, Source, Echo, frames_for, answers_for, sends_of}
 use Rattle.net_law.specs.Owners.Names.{ClientPools}
 use Rattle.net_law.specs.Parts.Parts.{Lessee}
 use Rattle.net_law.specs.Parts.Numbers.{client_first, device_at, driver_at, receiver_at, copier_at, client_at, lessees_from}

@@ -19,7 +19,7 @@ use Rattle.play_core.proofs.OneQueue.{whole_prefix}
 use Rattle.play_core.proofs.Lists.{map_get, map_from, there_below}
 use Rattle.play_core.proofs.Merges.{prefix_merge_whole}
 use Rattle.play_core.proofs.Walks.{needs_as, drained, paid, roomy}
-use Rattle.net_expect.specs.Expecting.{Program}
+use Rattle.class_expect.specs.NetExpect.Expecting.{Program}
 use Rattle.buffer_kit.specs.Entries.{addr_of}
 use Rattle.net_virt_tx.specs.Descriptors.{with_addr}
 use Rattle.net_law.specs.Owners.Names.{ClientPools}

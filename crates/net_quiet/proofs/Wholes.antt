@@ -17,7 +17,7 @@ use Rattle.play_core.specs.Wants.{Needful}
 use Rattle.play_core.proofs.OneQueue.{whole_prefix}
 use Rattle.play_core.proofs.Merges.{prefix_merge_whole}
 use Rattle.play_core.specs.Rests.Showing.{HaveItems}
-use Rattle.net_expect.specs.Expecting.{Program, frames_for}
+use Rattle.class_expect.specs.NetExpect.Expecting.{Program, frames_for}
 use Rattle.buffer_kit.specs.Entries.{frame_of}
 use Rattle.client_programs.specs.declared.net.NetClient.{NetClient}
 use Rattle.net_law.specs.Owners.Names.{ClientPools}

@@ -11,7 +11,7 @@ use Rattle.play_core.specs.Sheets.{Scene}
 use Rattle.play_core.specs.Still.{Plays, Holds}
 use Rattle.play_core.specs.Totals.{total}
 use Rattle.play_core.specs.Wants.{Needful}
-use Rattle.net_expect.specs.Expecting.{Program, frames_for, sends_of}
+use Rattle.class_expect.specs.NetExpect.Expecting.{Program, frames_for, sends_of}
 use Rattle.net_law.specs.Owners.Names.{ClientPools}
 use Rattle.owner_law.specs.Pools.Places.{PoolAt}
 use Rattle.net_law.specs.Parts.Numbers.{client_first, device_at, driver_at, receiver_at}

@@ -7,7 +7,7 @@ ghost use Rattle.std.specs.Prelude.{◌≡◌, ◌<◌, ℕ, Some, List, [], len
 ghost use Rattle.cargo_core.specs.Lists.{IsPrefix};
 ghost use Rattle.frame_core.specs.declared.mac.Mac.{Mac};
 ghost use Rattle.wire_core.specs.Lists.{Passed};
-ghost use Rattle.net_expect.specs.Expecting.{frames_for};
+ghost use Rattle.class_expect.specs.NetExpect.Expecting.{frames_for};
 ghost use Rattle.client_programs.specs.declared.net.NetClient.{NetClient};
 ghost use Rattle.net_virt_rx.specs.Receiving.{RxRow};
 ghost use Rattle.owner_law.specs.Pools.Places.{PoolAt};

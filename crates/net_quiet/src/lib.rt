@@ -18,7 +18,7 @@ ghost use Rattle.play_core.specs.Sheets.{Scene};
 ghost use Rattle.play_core.specs.Still.{IsStill};
 ghost use Rattle.play_core.specs.Wants.{Needful};
 ghost use Rattle.play_core.specs.Rests.Showing.{HaveItems};
-ghost use Rattle.net_expect.specs.Expecting.{Program, frames_for};
+ghost use Rattle.class_expect.specs.NetExpect.Expecting.{Program, frames_for};
 ghost use Rattle.client_programs.specs.declared.net.NetClient.{NetClient};
 ghost use Rattle.net_law.specs.Owners.Names.{ClientPools};
 ghost use Rattle.net_law.specs.TxParts.Numbers.{NetPlace};

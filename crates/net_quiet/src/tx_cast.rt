@@ -10,7 +10,7 @@ ghost use Rattle.frame_core.specs.declared.mac.Mac.{Mac};
 ghost use Rattle.wire_core.specs.Lists.{Passed};
 ghost use Rattle.wire_core.specs.Queues.{items_of};
 ghost use Rattle.play_core.specs.Names.{Wild};
-ghost use Rattle.net_expect.specs.Expecting.{Program, sends_of};
+ghost use Rattle.class_expect.specs.NetExpect.Expecting.{Program, sends_of};
 ghost use Rattle.buffer_kit.specs.Entries.{frame_of};
 ghost use Rattle.client_programs.specs.declared.net.NetClient.{NetClient};
 ghost use Rattle.net_virt_tx.specs.Sending.{TxRow};

@@ -6,7 +6,7 @@ use Rattle.std.proofs.lemmas.Bool.{cases_Bool, cases_lt, eqb-true, eq-eqb}
 use Rattle.std.proofs.lemmas.List.{length-append, length-map, length-set, map-append, drop-append-le}
 use Rattle.std.proofs.lemmas.List.Elements.{filter-append}
 use Rattle.frame_core.specs.declared.mac.Mac.{Mac}
-use Rattle.net_expect.specs.Expecting.{is_for_client}
+use Rattle.class_expect.specs.NetExpect.Expecting.{is_for_client}
 use Rattle.wire_core.specs.Bells.{bit}
 use Rattle.wire_core.specs.Deeds.{Cargo}
 use Rattle.wire_core.specs.Lists.{Passed}

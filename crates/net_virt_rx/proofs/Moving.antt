@@ -18,7 +18,7 @@ use Rattle.wire_core.specs.Lists.{if_there}
 use Rattle.wire_core.proofs.Places.{slice_get_written}
 use Rattle.turn_kit.specs.Hands.{bodies_of}
 use Rattle.turn_kit.proofs.Holding.{buffers-append, buffers-cons}
-use Rattle.net_expect.specs.Expecting.{is_for_client}
+use Rattle.class_expect.specs.NetExpect.Expecting.{is_for_client}
 use Rattle.buffer_kit.specs.Entries.{addr_of, frame_of, len_of}
 use Rattle.buffer_kit.specs.Pools.{given_entry, page_bodies}
 use Rattle.buffer_kit.specs.Stocks.{stock_list, stock_hand}

@@ -18,7 +18,7 @@ use Rattle.wire_core.specs.Bells.{bit}
 use Rattle.wire_core.specs.Deeds.{Cargo}
 use Rattle.wire_core.specs.Lists.{if_there}
 use Rattle.turn_kit.specs.Hands.{bodies_of}
-use Rattle.net_expect.specs.Expecting.{is_for_client}
+use Rattle.class_expect.specs.NetExpect.Expecting.{is_for_client}
 use Rattle.buffer_kit.specs.Entries.{addr_of, frame_of}
 use Rattle.buffer_kit.specs.Pools.{given_entry}
 use Rattle.buffer_kit.specs.Stocks.{IsStock, IsStart, SameStock, stock_list, stock_hand}

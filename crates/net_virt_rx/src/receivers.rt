@@ -2,12 +2,12 @@
 ghost use Rattle.std.specs.Prelude.{◌≡◌, ◌<◌, ◌≤◌, ◌^◌, false, true, nat_lt, IfOk, length, map};
 ghost use Rattle.std.specs.Prelude.{replicate, slice_index_or, slice_set};
 ghost use Rattle.frame_core.specs.declared.mac.Mac.{Mac};
-ghost use Rattle.net_expect.specs.Expecting.{is_for_client};
+ghost use Rattle.class_expect.specs.NetExpect.Expecting.{is_for_client};
 ghost use Rattle.net_virt_rx.specs.Sharing.{how_many};
 
 use cargo_core::Memory;
+use class_expect::net_expect::is_for_client;
 use frame_core::Mac;
-use net_expect::is_for_client;
 use std::alloc::Global;
 use std::marker::Model;
 

@@ -4,3 +4,4 @@ pub mod Rising
 pub mod Places
 pub mod Listing
 pub mod Showing
+pub mod Calls

@@ -1,2 +1,3 @@
 -- The kept list of the runnable actors (Runnings).
 pub mod Runnings
+pub mod Calls

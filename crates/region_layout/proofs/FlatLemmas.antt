@@ -1,6 +1,6 @@
 -- What each client of a class gives by its number.
 use Rattle.std.proofs.Common.{◌≡◌, ℕ, ◌+◌, List, [], ◌∷◌, flat_map, refl}
-use Rattle.class_table.specs.Table.{numbered}
+use Rattle.sdf_plan.specs.ClassTable.Table.{numbered}
 use Rattle.region_layout.specs.Rows.{each_client}
 
 pub flat-numbered : {C X T : Type 0} (give : X → List T) (element : ℕ → C → X) (rows : ℕ → C → List T) (c : ℕ) (clients : List C)

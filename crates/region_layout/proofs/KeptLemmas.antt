@@ -10,7 +10,7 @@ use Rattle.sdf_plan.specs.declared.plan.Serial.{Serial}
 use Rattle.sdf_plan.specs.declared.plan.SerialClient.{SerialClient}
 use Rattle.sdf_plan.specs.declared.plan.Blk.{Blk}
 use Rattle.sdf_plan.specs.declared.plan.BlkClient.{BlkClient}
-use Rattle.class_table.specs.Table.{net_element, net_client_element, serial_element, serial_client_element, blk_element, blk_client_element}
+use Rattle.sdf_plan.specs.ClassTable.Table.{net_element, net_client_element, serial_element, serial_client_element, blk_element, blk_client_element}
 use Rattle.sdf_check.specs.Valid.{Valid, BreaksByRows, first_rule, last_rule}
 use Rattle.sdf_check.proofs.SoughtLemmas.{here-some}
 use Rattle.region_layout.proofs.WalkLemmas.{rows_kept, net_walked, net_client_walked, serial_walked, serial_client_walked, blk_walked, blk_client_walked}

@@ -6,14 +6,14 @@ use Rattle.std.proofs.lemmas.List.Elements.{All-nil, All-cons, All-head, All-tai
 use Rattle.std.proofs.lemmas.List.Folds.{flat_map-map}
 use Rattle.std.proofs.lemmas.Option.{slice_get-map, slice_get-get_or}
 use denote.Ref.{Bor}
-use Rattle.class_table.specs.declared.uses.ClassElement.{ClassElement}
-use Rattle.class_table.specs.declared.uses.QueueUse.{QueueUse}
-use Rattle.class_table.specs.declared.uses.PoolUse.{PoolUse}
-use Rattle.class_table.specs.Numbers.{seen}
-use Rattle.class_table.specs.Rows.{Name}
-use Rattle.class_table.specs.Shown.{Shelved, queue_shown, pool_shown}
-use Rattle.class_table.specs.Table.{Element}
-use Rattle.class_table.proofs.Everywhere.{all-at}
+use Rattle.sdf_plan.specs.declared.class_table.uses.ClassElement.{ClassElement}
+use Rattle.sdf_plan.specs.declared.class_table.uses.QueueUse.{QueueUse}
+use Rattle.sdf_plan.specs.declared.class_table.uses.PoolUse.{PoolUse}
+use Rattle.sdf_plan.specs.ClassTable.Numbers.{seen}
+use Rattle.sdf_plan.specs.ClassTable.Rows.{Name}
+use Rattle.sdf_plan.specs.ClassTable.Shown.{Shelved, queue_shown, pool_shown}
+use Rattle.sdf_plan.specs.ClassTable.Table.{Element}
+use Rattle.sdf_plan.proofs.ClassTable.Everywhere.{all-at}
 use Rattle.region_layout.specs.Uses.{IsSmallQueue, IsSmallPool, IsSmallElement}
 
 -- what holds of all that a function gives

@@ -9,9 +9,9 @@ use Rattle.sdf_plan.specs.declared.plan.Serial.{Serial}
 use Rattle.sdf_plan.specs.declared.plan.SerialClient.{SerialClient}
 use Rattle.sdf_plan.specs.declared.plan.Blk.{Blk}
 use Rattle.sdf_plan.specs.declared.plan.BlkClient.{BlkClient}
-use Rattle.class_table.specs.Table.{Element, table_of, net_element, net_client_element, net_elements, serial_client_element, serial_elements, blk_element, blk_client_element, blk_elements}
+use Rattle.sdf_plan.specs.ClassTable.Table.{Element, table_of, net_element, net_client_element, net_elements, serial_client_element, serial_elements, blk_element, blk_client_element, blk_elements}
 use Rattle.region_layout.specs.Rows.{each_client, queue_span, queue_pair, eth_rx_queues, eth_tx_queues, net_rx_queues, net_tx_queues, lease_queues, client_rx_queues, client_tx_queues, net_client_queues, net_queues, uart_queues, shared_serial_queues, serial_client_queues, serial_queues, disk_queues, shared_blk_queues, blk_client_queues, blk_queues, queues_of, queue_rows, class_queues, net_client_pools, net_pools, blk_client_pools, blk_pools, pools_of, pool_rows, class_pools}
-use Rattle.class_table.proofs.Flat.{flat-nothing, flat-class, flat-three}
+use Rattle.sdf_plan.proofs.ClassTable.Flat.{flat-nothing, flat-class, flat-three}
 use Rattle.region_layout.proofs.FlatLemmas.{flat-numbered}
 
 -- queues

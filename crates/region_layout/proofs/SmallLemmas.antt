@@ -7,12 +7,12 @@ use Rattle.sdf_plan.specs.declared.plan.Plan.{Plan}
 use Rattle.sdf_plan.specs.declared.plan.Net.{Net}
 use Rattle.sdf_plan.specs.declared.plan.Serial.{Serial}
 use Rattle.sdf_plan.specs.declared.plan.Blk.{Blk}
-use Rattle.class_table.specs.declared.uses.PoolUse.{PoolUse}
-use Rattle.class_table.specs.declared.uses.QueueUse.{QueueUse}
-use Rattle.class_table.specs.Numbers.{AreNumbered}
-use Rattle.class_table.specs.Rows.{Name, net_queues, net_pools, net_client_queues, net_client_pools, serial_queues, serial_client_queues, blk_queues, blk_pools, blk_client_queues, blk_client_pools}
-use Rattle.class_table.specs.Table.{Element, table_of}
-use Rattle.class_table.proofs.Everywhere.{each-all, all-table}
+use Rattle.sdf_plan.specs.declared.class_table.uses.PoolUse.{PoolUse}
+use Rattle.sdf_plan.specs.declared.class_table.uses.QueueUse.{QueueUse}
+use Rattle.sdf_plan.specs.ClassTable.Numbers.{AreNumbered}
+use Rattle.sdf_plan.specs.ClassTable.Rows.{Name, net_queues, net_pools, net_client_queues, net_client_pools, serial_queues, serial_client_queues, blk_queues, blk_pools, blk_client_queues, blk_client_pools}
+use Rattle.sdf_plan.specs.ClassTable.Table.{Element, table_of}
+use Rattle.sdf_plan.proofs.ClassTable.Everywhere.{each-all, all-table}
 use Rattle.sdf_check.specs.ClassRules.{IsClientCount}
 use Rattle.sdf_check.specs.Valid.{Valid}
 use Rattle.region_layout.specs.Sizes.{HasSmallNumbers}

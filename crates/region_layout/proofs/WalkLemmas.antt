@@ -8,7 +8,7 @@ use Rattle.sdf_plan.specs.declared.plan.Net.{Net}
 use Rattle.sdf_plan.specs.declared.plan.Serial.{Serial}
 use Rattle.sdf_plan.specs.declared.plan.Blk.{Blk}
 use Rattle.sdf_plan.specs.Elements.{outline_of, domain_parts}
-use Rattle.class_table.specs.Table.{OfElement}
+use Rattle.sdf_plan.specs.ClassTable.Table.{OfElement}
 use Rattle.sdf_check.specs.Valid.{Valid, BreaksAtPlace, BreaksByRows, first_rule, last_rule}
 use Rattle.sdf_check.proofs.ListLemmas.{get-left, get-right}
 use Rattle.region_layout.proofs.NameLemmas.{length_map}

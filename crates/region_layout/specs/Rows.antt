@@ -20,14 +20,14 @@ use Rattle.sdf_plan.specs.declared.plan.Serial.{Serial}
 use Rattle.sdf_plan.specs.declared.plan.SerialClient.{SerialClient}
 use Rattle.sdf_plan.specs.declared.plan.Blk.{Blk}
 use Rattle.sdf_plan.specs.declared.plan.BlkClient.{BlkClient}
-use Rattle.class_table.specs.declared.uses.Ends.{Ends}
-use Rattle.class_table.specs.declared.uses.Ends.TheVariants as Way
-use Rattle.class_table.specs.declared.uses.QueueUse.{QueueUse}
-use Rattle.class_table.specs.declared.uses.PoolUse.{PoolUse}
-use Rattle.class_table.specs.Named.{text_of}
-use Rattle.class_table.specs.Rows.{Name, blk_buffer}
-use Rattle.class_table.specs.Sizes.{entry_size, offset_behind}
-use Rattle.class_table.specs.Table.{Element, table_of}
+use Rattle.sdf_plan.specs.declared.class_table.uses.Ends.{Ends}
+use Rattle.sdf_plan.specs.declared.class_table.uses.Ends.TheVariants as Way
+use Rattle.sdf_plan.specs.declared.class_table.uses.QueueUse.{QueueUse}
+use Rattle.sdf_plan.specs.declared.class_table.uses.PoolUse.{PoolUse}
+use Rattle.sdf_plan.specs.ClassTable.Named.{text_of}
+use Rattle.sdf_plan.specs.ClassTable.Rows.{Name, blk_buffer}
+use Rattle.sdf_plan.specs.ClassTable.Sizes.{entry_size, offset_behind}
+use Rattle.sdf_plan.specs.ClassTable.Table.{Element, table_of}
 use Rattle.sdf_check.specs.Names.{place_of, region_named}
 use Rattle.region_layout.specs.Bases.{round_up, bases_of}
 

@@ -1,8 +1,8 @@
 -- The numbers for which the rows of the table of classes have room.
 use Rattle.std.specs.Prelude.{ℕ, ◌^◌, ◌<◌, All}
-use Rattle.class_table.specs.declared.uses.QueueUse.{QueueUse}
-use Rattle.class_table.specs.declared.uses.PoolUse.{PoolUse}
-use Rattle.class_table.specs.declared.uses.ClassElement.{ClassElement}
+use Rattle.sdf_plan.specs.declared.class_table.uses.QueueUse.{QueueUse}
+use Rattle.sdf_plan.specs.declared.class_table.uses.PoolUse.{PoolUse}
+use Rattle.sdf_plan.specs.declared.class_table.uses.ClassElement.{ClassElement}
 
 -- a queue whose capacity has 32 bits
 abbrev pub IsSmallQueue : {T : Type 0} → QueueUse T → Type 0

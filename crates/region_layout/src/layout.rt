@@ -1,6 +1,6 @@
 //! The layout of a plan, and how a valid plan is laid out.
 ghost use Rattle.std.specs.Prelude.{◌≡◌, ◌<◌, length, slice_get, Some, IfOk};
-ghost use Rattle.class_table.specs.Numbers.{AreNumbered};
+ghost use Rattle.sdf_plan.specs.ClassTable.Numbers.{AreNumbered};
 ghost use Rattle.sdf_check.specs.Valid.{Valid};
 ghost use Rattle.region_layout.specs.Bases.{AreDisjoint, AreGivenApart};
 ghost use Rattle.region_layout.specs.Layouts.{layout_of};
@@ -11,8 +11,8 @@ use crate::bases::bases_of;
 use crate::pools::pools_of;
 use crate::queues::queues_of;
 use cargo_core::{Memory, Series, Text};
-use class_table::classes_of_few;
 use sdf_plan::Plan;
+use sdf_plan::class_table::classes_of_few;
 use std::alloc::Global;
 use wire_core::{PoolRow, QueueRow};
 

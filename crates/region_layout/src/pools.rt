@@ -1,14 +1,14 @@
 //! The rows of pools, read off the table of what classes use: each fills a region from its base on.
 ghost use Rattle.std.specs.Prelude.{◌≡◌, ◌++◌, All, IfOk, OnOk};
-ghost use Rattle.class_table.specs.Shown.{AreClasses, element_shown, pool_shown};
-ghost use Rattle.class_table.specs.Table.{table_of};
+ghost use Rattle.sdf_plan.specs.ClassTable.Shown.{AreClasses, element_shown, pool_shown};
+ghost use Rattle.sdf_plan.specs.ClassTable.Table.{table_of};
 ghost use Rattle.region_layout.specs.Rows.{pool_in, pool_row, pool_rows, pools_of};
 ghost use Rattle.region_layout.specs.Uses.{IsSmallElement, IsSmallPool};
 
 use crate::actors::Names;
 use crate::texts::text_of;
 use cargo_core::{Memory, Series};
-use class_table::{ClassElement, Classes, PoolUse};
+use sdf_plan::class_table::{ClassElement, Classes, PoolUse};
 use std::alloc::Global;
 use wire_core::PoolRow;
 

@@ -1,8 +1,8 @@
 //! The rows of queues, read off the table of what classes use: what each carries, between whom, and
 //! where it stands.
 ghost use Rattle.std.specs.Prelude.{◌≡◌, ◌++◌, All, IfOk, OnOk};
-ghost use Rattle.class_table.specs.Shown.{AreClasses, element_shown, ends_shown, queue_shown};
-ghost use Rattle.class_table.specs.Table.{table_of};
+ghost use Rattle.sdf_plan.specs.ClassTable.Shown.{AreClasses, element_shown, ends_shown, queue_shown};
+ghost use Rattle.sdf_plan.specs.ClassTable.Table.{table_of};
 ghost use Rattle.region_layout.specs.Rows.{consumer_of, producer_of, queue_in, queue_row};
 ghost use Rattle.region_layout.specs.Rows.{queue_rows, queues_of, region_of};
 ghost use Rattle.region_layout.specs.Uses.{IsSmallElement, IsSmallQueue};
@@ -10,8 +10,8 @@ ghost use Rattle.region_layout.specs.Uses.{IsSmallElement, IsSmallQueue};
 use crate::actors::Names;
 use crate::texts::text_of;
 use cargo_core::{Memory, Series};
-use class_table::{ClassElement, Classes, Ends, QueueUse, queue_offset};
 use sdf_plan::Place;
+use sdf_plan::class_table::{ClassElement, Classes, Ends, QueueUse, queue_offset};
 use std::alloc::Global;
 use wire_core::{ActorId, QueueRow};
 

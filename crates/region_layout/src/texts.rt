@@ -1,10 +1,10 @@
 //! The names of queues and pools, as texts.
 ghost use Rattle.std.specs.Prelude.{◌≡◌, IfOk};
-ghost use Rattle.class_table.specs.Named.{text_of};
-ghost use Rattle.class_table.specs.Shown.{use_name_shown};
+ghost use Rattle.sdf_plan.specs.ClassTable.Named.{text_of};
+ghost use Rattle.sdf_plan.specs.ClassTable.Shown.{use_name_shown};
 
 use cargo_core::{Memory, Text};
-use class_table::UseName;
+use sdf_plan::class_table::UseName;
 use std::alloc::Global;
 
 // The text of a name: a client's number stands between its two parts.

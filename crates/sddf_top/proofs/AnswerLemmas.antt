@@ -14,8 +14,8 @@ use Rattle.decision_core.specs.declared.showing.Alone.TheVariants as Only
 use Rattle.decision_core.specs.Decisions.{Decision, Say, Play, Run, PlayBus, PlayPorts, AloneDecides, long_text_alone, bad_text, good_text, alone, asked_on, Decides, TextDecides, PlanDecides, TraceDecides, GeneratedDecides, long_trace, bad_trace, good_trace, checked, laid_out, traced, long_description, refused, accepted, no_command, described, generated, IsStatusOf}
 use Rattle.sddf_top.specs.Shown.{ending_of}
 use Rattle.sddf_top.specs.Answers.{Answers, Comes, Shows, ShowsRun, Serves, IsEnough, IsFault, no_reading, no_writing, no_memory}
-use Rattle.shelf_core.specs.Reading.{WasRead, IsTold}
-use Rattle.shelf_core.specs.Outside.{appended}
+use Rattle.decision_core.specs.ShelfCore.Reading.{WasRead, IsTold}
+use Rattle.decision_core.specs.ShelfCore.Outside.{appended}
 use Rattle.decision_core.proofs.DecisionLemmas.{one-decision, plan-read, text-read}
 
 -- what was read of a told text is its bytes

@@ -4,14 +4,14 @@ use Rattle.cargo_core.specs.declared.memory.Memory.{Memory}
 use Rattle.command_words.specs.declared.command.Command.{Command}
 use Rattle.command_words.specs.Words.{Spells, IsGen}
 use Rattle.sddf_top.specs.declared.answering.Outcome.{Outcome}
-use Rattle.shelf_core.specs.declared.reading.ReadStop.{ReadStop}
-use Rattle.shelf_core.specs.declared.reading.ReadStop.TheVariants as Stop
+use Rattle.decision_core.specs.declared.shelf_core.reading.ReadStop.{ReadStop}
+use Rattle.decision_core.specs.declared.shelf_core.reading.ReadStop.TheVariants as Stop
 use Rattle.decision_core.specs.declared.status.Status.{Status}
 use Rattle.decision_core.specs.declared.status.Status.TheVariants as Ended
 use Rattle.sddf_top.specs.declared.played.Played.{Played}
-use Rattle.shelf_core.specs.Shelves.{ReadsFrom}
+use Rattle.decision_core.specs.ShelfCore.Shelves.{ReadsFrom}
 use Rattle.decision_core.specs.Decisions.{Decides}
-use Rattle.shelf_core.specs.Reading.{WasRead}
+use Rattle.decision_core.specs.ShelfCore.Reading.{WasRead}
 use Rattle.sddf_top.specs.Answers.{IsFault, no_reading, no_writing, no_memory}
 use Rattle.decision_core.specs.Readings.{ReadLast, OpensInTurn}
 use Rattle.sddf_top.specs.Outcomes.{FollowsBy, EndsAfter, HasTold}

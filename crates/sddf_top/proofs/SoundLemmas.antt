@@ -12,7 +12,7 @@ use Rattle.decision_core.specs.declared.showing.Showing.TheVariants as Show
 use Rattle.decision_core.specs.Judged.{IsAcceptedPlan}
 use Rattle.decision_core.specs.Decided.{decision_of, IsSound, AsksToRun}
 use Rattle.i2c_text.specs.Buses.{IsReadBus}
-use Rattle.ports_text.specs.Given.{ArePorts}
+use Rattle.line_text.specs.PortsText.Given.{ArePorts}
 use Rattle.decision_core.specs.declared.showing.Alone.{Alone}
 use Rattle.decision_core.specs.declared.showing.Alone.TheVariants as Only
 use Rattle.decision_core.specs.Decisions.{Decision, Say, Play, Run, PlayBus, PlayPorts, AloneDecides, long_text_alone, bad_text, good_text, alone as of_one_text, asked_on, AsksFor, to_play, to_run, Decides, TextDecides, PlanDecides, TraceDecides, GeneratedDecides, long_trace, bad_trace, good_trace, checked, laid_out, traced, long_description, refused, accepted, no_command, described, generated}

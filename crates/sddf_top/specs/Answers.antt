@@ -18,8 +18,8 @@ use Rattle.i2c_text.specs.declared.report.BusReport.{BusReport}
 use Rattle.i2c_play.specs.Bounds.{bus_bound}
 use Rattle.i2c_play.specs.Playing.{BusPlayed}
 use Rattle.i2c_play.specs.Texts.{bus_text}
-use Rattle.ports_text.specs.declared.ports.Ports.{Ports}
-use Rattle.ports_text.specs.declared.report.PortReport.{PortReport}
+use Rattle.line_text.specs.declared.ports_text.ports.Ports.{Ports}
+use Rattle.line_text.specs.declared.ports_text.report.PortReport.{PortReport}
 use Rattle.switch_play.specs.Bounds.{ports_bound}
 use Rattle.switch_play.specs.Playing.{PortsPlayed}
 use Rattle.switch_play.specs.Texts.{ports_text}
@@ -31,7 +31,7 @@ use Rattle.sddf_top.specs.declared.played.Played.TheVariants as Was
 use Rattle.decision_core.specs.Decisions.{Decision, Say, Play, Run, PlayBus, PlayPorts, Decides}
 use Rattle.sddf_top.specs.Shown.{seed_of, limit_of, limit_or_budget, ending_of, shown_text}
 use Rattle.sddf_top.specs.Shown.{bus_limit, ports_limit}
-use Rattle.shelf_core.specs.Outside.{appended}
+use Rattle.decision_core.specs.ShelfCore.Outside.{appended}
 
 -- a trace was played on a plan: the system that was built and played, the status by whether it is
 -- quiet, and the text of its report, with its journal where the options ask for it, or its summary.

@@ -2,15 +2,15 @@
 use Rattle.std.specs.Prelude.{◌≡◌, ◌⊎◌, ◌<◌, ℕ, Option, Result, Ok, Err, IfOk, OnErr, List}
 use Rattle.std.specs.Prelude.{string_bytes, Bool}
 use Rattle.sddf_top.specs.declared.answering.Outcome.{Outcome}
-use Rattle.shelf_core.specs.declared.reading.ReadStop.{ReadStop}
-use Rattle.shelf_core.specs.declared.reading.ReadStop.TheVariants as Stop
+use Rattle.decision_core.specs.declared.shelf_core.reading.ReadStop.{ReadStop}
+use Rattle.decision_core.specs.declared.shelf_core.reading.ReadStop.TheVariants as Stop
 use Rattle.sddf_top.specs.declared.played.Played.{Played}
 use Rattle.decision_core.specs.declared.status.Status.{Status}
 use Rattle.decision_core.specs.declared.status.Status.TheVariants as Ended
-use Rattle.shelf_core.specs.Outside.{FailsLast}
+use Rattle.decision_core.specs.ShelfCore.Outside.{FailsLast}
 use Rattle.decision_core.specs.Decisions.{Decision, Decides}
 use Rattle.sddf_top.specs.Answers.{Comes, ComesBy, Serves}
-use Rattle.shelf_core.specs.Reading.{WasRead}
+use Rattle.decision_core.specs.ShelfCore.Reading.{WasRead}
 
 -- an answer follows from a decision
 abbrev pub Follows : Decision → Outcome → Type 0

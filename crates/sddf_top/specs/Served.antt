@@ -6,10 +6,10 @@ use Rattle.command_words.specs.Words.{Spells, IsGen}
 use Rattle.decision_core.specs.declared.status.Status.{Status}
 use Rattle.decision_core.specs.declared.status.Status.TheVariants as Ended
 use Rattle.sddf_top.specs.declared.played.Played.{Played}
-use Rattle.shelf_core.specs.Outside.{FailsLast}
+use Rattle.decision_core.specs.ShelfCore.Outside.{FailsLast}
 use Rattle.decision_core.specs.Decisions.{Decision, Decides, IsStatusOf}
 use Rattle.sddf_top.specs.Answers.{Serves, IsFault, IsEnough}
-use Rattle.shelf_core.specs.Reading.{WasRead, IsTold}
+use Rattle.decision_core.specs.ShelfCore.Reading.{WasRead, IsTold}
 use Rattle.decision_core.specs.Readings.{ReadLast, OpensInTurn}
 
 -- the words were served over a shelf, which tells texts, what is left of the open one, which were

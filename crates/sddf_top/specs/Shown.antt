@@ -11,7 +11,7 @@ use Rattle.report_text.specs.Journals.{journal_text}
 use Rattle.command_words.specs.declared.command.Schedule.{Schedule}
 use Rattle.i2c_text.specs.declared.bus.Bus.{Bus}
 use Rattle.i2c_play.specs.Bounds.{bus_bound}
-use Rattle.ports_text.specs.declared.ports.Ports.{Ports}
+use Rattle.line_text.specs.declared.ports_text.ports.Ports.{Ports}
 use Rattle.switch_play.specs.Bounds.{ports_bound}
 use Rattle.decision_core.specs.declared.showing.Showing.{Showing}
 use Rattle.decision_core.specs.declared.showing.Showing.TheVariants as Show

@@ -4,8 +4,8 @@ use Rattle.cargo_core.specs.declared.memory.Memory.{Memory}
 use Rattle.decision_core.specs.declared.status.Status.{Status}
 use Rattle.decision_core.specs.declared.status.Status.TheVariants as Ended
 use Rattle.decision_core.specs.Decisions.{Decision, Decides}
-use Rattle.shelf_core.specs.Reading.{IsTold}
-use Rattle.shelf_core.specs.Sure.{Sure, sure_text}
+use Rattle.decision_core.specs.ShelfCore.Reading.{IsTold}
+use Rattle.decision_core.specs.ShelfCore.Sure.{Sure, sure_text}
 use Rattle.sddf_top.specs.Answers.{IsEnough}
 
 -- no fault of reading or writing comes; and where the words, the texts and the limit of steps are

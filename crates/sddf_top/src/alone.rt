@@ -1,7 +1,7 @@
 //! A bus or a switch is played, and its report is made the answer.
 ghost use Rattle.std.specs.Prelude.{◌≡◌, IfOk};
 ghost use Rattle.i2c_text.specs.Buses.{IsReadBus};
-ghost use Rattle.ports_text.specs.Given.{ArePorts};
+ghost use Rattle.line_text.specs.PortsText.Given.{ArePorts};
 ghost use Rattle.decision_core.specs.Decisions.{PlayBus, PlayPorts};
 ghost use Rattle.sddf_top.specs.Shown.{bus_limit, ports_limit};
 ghost use Rattle.sddf_top.specs.Outcomes.{Follows};
@@ -13,7 +13,7 @@ use cargo_core::Memory;
 use command_words::Schedule;
 use i2c_play::{bus_bound, play_bus, write_bus};
 use i2c_text::Bus;
-use ports_text::Ports;
+use line_text::ports_text::Ports;
 use std::alloc::Global;
 use switch_play::{play_ports, ports_bound, write_ports};
 

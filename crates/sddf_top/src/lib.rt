@@ -15,18 +15,18 @@ mod sure;
 pub mod system_run;
 
 pub use command_words::begins_run;
+pub use decision_core::shelf_core::{
+    Failed, FileShelf, MemShelf, MemSink, NamedText, OutSink, READ_MOST, ReadStop, Shelf, Sink,
+    SureShelf, SureSink, read_text, write_text,
+};
 pub use decision_core::{Asked, Showing, Status, judge};
 pub use hosting::serve_host;
 pub use i2c_text::{BusReply, BusReport, BusStatus};
 pub use isolation::isolation_law;
+pub use line_text::ports_text::PortReport;
 pub use pd_runner::{Gate, OpenGate};
 pub use played::Played;
-pub use ports_text::PortReport;
 pub use sdf_model::TEXT_MOST;
 pub use serving::{serve, serve_alone};
-pub use shelf_core::{
-    Failed, FileShelf, MemShelf, MemSink, NamedText, OutSink, READ_MOST, ReadStop, Shelf, Sink,
-    SureShelf, SureSink, read_text, write_text,
-};
 pub use sure::serve_surely;
 pub use system_core::System;

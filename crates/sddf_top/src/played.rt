@@ -3,7 +3,7 @@
 ghost use Rattle.std.specs.Prelude.{◌≡◌};
 
 use i2c_text::BusReport;
-use ports_text::PortReport;
+use line_text::ports_text::PortReport;
 use std::mem::replace;
 use system_core::System;
 

@@ -1,9 +1,9 @@
 //! The program as one call: the answer is made whole, and then written.
 ghost use Rattle.std.specs.Prelude.{◌≡◌, ◌⊎◌, ◌<◌, ℕ, Option, List, string_bytes};
 ghost use Rattle.command_words.specs.Words.{texts_of, BeginsRun};
-ghost use Rattle.shelf_core.specs.Outside.{FailsLast};
+ghost use Rattle.decision_core.specs.ShelfCore.Outside.{FailsLast};
 ghost use Rattle.sddf_top.specs.Answers.{Answers, Serves};
-ghost use Rattle.shelf_core.specs.Reading.{WasRead};
+ghost use Rattle.decision_core.specs.ShelfCore.Reading.{WasRead};
 ghost use Rattle.sddf_top.specs.Outcomes.{HasTold};
 ghost use Rattle.sddf_top.specs.Served.{IsServed};
 
@@ -11,8 +11,8 @@ use crate::Played;
 use crate::answering::{Outcome, answer_words, answer_words_alone};
 use command_words::begins_run;
 use decision_core::Status;
+use decision_core::shelf_core::{ReadStop, Shelf, Sink, write_text};
 use pd_runner::Gate;
-use shelf_core::{ReadStop, Shelf, Sink, write_text};
 use std::alloc::Global;
 use std::sync::Wait;
 use std::thread::Threads;

@@ -4,7 +4,7 @@ ghost use Rattle.sddf_top.specs.Sure.{IsSure};
 
 use crate::{Played, serve_alone};
 use decision_core::Status;
-use shelf_core::{SureShelf, SureSink};
+use decision_core::shelf_core::{SureShelf, SureSink};
 use std::alloc::Global;
 
 /// What `serve_alone` does, over a shelf and a sink that never fail: so it answers no fault of

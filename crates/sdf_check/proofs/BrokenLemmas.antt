@@ -4,7 +4,7 @@ use Rattle.sdf_plan.specs.declared.place.Place.{Place}
 use Rattle.sdf_plan.specs.declared.plan.Plan.{Plan}
 use Rattle.sdf_check.proofs.LoopLemmas.{not-so}
 use Rattle.sdf_check.specs.Priors.{IsPrior, OrPrior}
-use Rattle.class_table.specs.Table.{OfElement}
+use Rattle.sdf_plan.specs.ClassTable.Table.{OfElement}
 use Rattle.sdf_check.specs.Valid.{broken, BreaksAtPlace, BreaksByRows, BreaksPlanRule}
 
 on-true : (P Q : Type 0) (b : Bool) → b ≡ true → P → MatchBool b P Q

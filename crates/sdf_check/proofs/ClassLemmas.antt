@@ -4,9 +4,9 @@ use Rattle.sdf_plan.specs.declared.plan.Plan.{Plan}
 use Rattle.sdf_plan.specs.declared.plan.Net.{Net}
 use Rattle.sdf_plan.specs.declared.plan.Serial.{Serial}
 use Rattle.sdf_plan.specs.declared.plan.Blk.{Blk}
-use Rattle.class_table.specs.Names.{domains_of, regions_of}
-use Rattle.class_table.specs.Table.{net_client_element, net_elements, serial_client_element, serial_elements, blk_client_element, blk_elements}
-use Rattle.class_table.proofs.Flat.{flat-names, flat-class, flat-three}
+use Rattle.sdf_plan.specs.ClassTable.Names.{domains_of, regions_of}
+use Rattle.sdf_plan.specs.ClassTable.Table.{net_client_element, net_elements, serial_client_element, serial_elements, blk_client_element, blk_elements}
+use Rattle.sdf_plan.proofs.ClassTable.Flat.{flat-names, flat-class, flat-three}
 use Rattle.sdf_check.specs.Names.{net_domains, net_client_domains, serial_domains, serial_client_domains, blk_domains, blk_client_domains, net_regions, net_client_regions, serial_regions, serial_client_regions, blk_regions, blk_client_regions}
 use Rattle.sdf_check.specs.ClassRules.{class_domains, class_regions, net_names, serial_names, blk_names}
 

@@ -8,10 +8,10 @@ use Rattle.std.proofs.lemmas.Option.{slice_get_within, slice_get-get_or, get_or_
 use denote.Ref.{Bor}
 use Rattle.sdf_plan.specs.declared.place.Place.{Place}
 use Rattle.sdf_plan.specs.declared.plan.Plan.{Plan}
-use Rattle.class_table.specs.Order.{number_of}
-use Rattle.class_table.proofs.Order.{of-element}
-use Rattle.class_table.specs.Rows.{Name}
-use Rattle.class_table.specs.Table.{Element, OfElement, table_of}
+use Rattle.sdf_plan.specs.ClassTable.Order.{number_of}
+use Rattle.sdf_plan.proofs.ClassTable.Order.{of-element}
+use Rattle.sdf_plan.specs.ClassTable.Rows.{Name}
+use Rattle.sdf_plan.specs.ClassTable.Table.{Element, OfElement, table_of}
 use Rattle.sdf_check.specs.ClassRules.{SomeOf, RepeatsName}
 use Rattle.sdf_check.specs.Keys.{AreFlags, Tells}
 use Rattle.sdf_check.specs.Lookups.{names_shown}

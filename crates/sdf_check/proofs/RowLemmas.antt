@@ -7,11 +7,11 @@ use Rattle.std.proofs.lemmas.Option.{slice_get-map}
 use Rattle.sdf_plan.specs.declared.place.Place.{Place}
 use Rattle.sdf_plan.specs.declared.place.Place.TheVariants as At
 use Rattle.sdf_plan.specs.declared.plan.Plan.{Plan}
-use Rattle.class_table.specs.declared.uses.Grant.{Grant}
-use Rattle.class_table.specs.declared.uses.PoolUse.{PoolUse}
-use Rattle.class_table.specs.Rows.{Name}
-use Rattle.class_table.specs.Shown.{Shelved, grant_shown, name_shown, pool_shown}
-use Rattle.class_table.specs.Table.{Element, OfElement, net_element, net_client_element, serial_element, serial_client_element, blk_element, blk_client_element}
+use Rattle.sdf_plan.specs.declared.class_table.uses.Grant.{Grant}
+use Rattle.sdf_plan.specs.declared.class_table.uses.PoolUse.{PoolUse}
+use Rattle.sdf_plan.specs.ClassTable.Rows.{Name}
+use Rattle.sdf_plan.specs.ClassTable.Shown.{Shelved, grant_shown, name_shown, pool_shown}
+use Rattle.sdf_plan.specs.ClassTable.Table.{Element, OfElement, net_element, net_client_element, serial_element, serial_client_element, blk_element, blk_client_element}
 use Rattle.sdf_check.specs.ClassRules.{SomeOf, allowed}
 use Rattle.sdf_check.specs.Lookups.{names_shown}
 use Rattle.sdf_check.proofs.LoopLemmas.{not-so, some-append}

@@ -20,19 +20,19 @@ use Rattle.sdf_plan.specs.declared.plan.Serial.{Serial}
 use Rattle.sdf_plan.specs.declared.plan.SerialClient.{SerialClient}
 use Rattle.sdf_plan.specs.declared.plan.Blk.{Blk}
 use Rattle.sdf_plan.specs.declared.plan.BlkClient.{BlkClient}
-use Rattle.class_table.specs.declared.uses.Link.{Link}
-use Rattle.class_table.specs.declared.uses.Ends.{Ends}
-use Rattle.class_table.specs.declared.uses.Ends.TheVariants as Way
-use Rattle.class_table.specs.declared.uses.RoleUse.{RoleUse}
-use Rattle.class_table.specs.declared.uses.QueueUse.{QueueUse}
-use Rattle.class_table.specs.declared.uses.Grant.{Grant}
-use Rattle.class_table.specs.declared.uses.PoolUse.{PoolUse}
-use Rattle.class_table.specs.Rows.{Name}
-use Rattle.class_table.specs.Sizes.{queue_end, pool_bytes}
-use Rattle.class_table.specs.Names.{domains_of, regions_of}
-use Rattle.class_table.specs.Order.{elements_before}
-use Rattle.class_table.specs.Table.{Element, table_of}
-use Rattle.class_table.specs.Roles.{IsProgramOf}
+use Rattle.sdf_plan.specs.declared.class_table.uses.Link.{Link}
+use Rattle.sdf_plan.specs.declared.class_table.uses.Ends.{Ends}
+use Rattle.sdf_plan.specs.declared.class_table.uses.Ends.TheVariants as Way
+use Rattle.sdf_plan.specs.declared.class_table.uses.RoleUse.{RoleUse}
+use Rattle.sdf_plan.specs.declared.class_table.uses.QueueUse.{QueueUse}
+use Rattle.sdf_plan.specs.declared.class_table.uses.Grant.{Grant}
+use Rattle.sdf_plan.specs.declared.class_table.uses.PoolUse.{PoolUse}
+use Rattle.sdf_plan.specs.ClassTable.Rows.{Name}
+use Rattle.sdf_plan.specs.ClassTable.Sizes.{queue_end, pool_bytes}
+use Rattle.sdf_plan.specs.ClassTable.Names.{domains_of, regions_of}
+use Rattle.sdf_plan.specs.ClassTable.Order.{elements_before}
+use Rattle.sdf_plan.specs.ClassTable.Table.{Element, table_of}
+use Rattle.sdf_plan.specs.ClassTable.Roles.{IsProgramOf}
 use Rattle.sdf_plan.specs.Elements.{OfDomain, OfNetClient, OfSerialClient, OfBlkClient}
 use Rattle.sdf_check.specs.Names.{StandsBefore, region_named, domain_named}
 use Rattle.sdf_check.specs.Rules.{the_region, count_of}

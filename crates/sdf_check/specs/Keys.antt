@@ -2,9 +2,9 @@
 use Rattle.std.specs.Prelude.{◌≡◌, ◌↔◌, ℕ, ◌<◌, Bool, List, length, take, Some, slice_get, IsTrue}
 use Rattle.std.specs.List.{flat_map}
 use Rattle.sdf_plan.specs.declared.plan.Plan.{Plan}
-use Rattle.class_table.specs.Names.{domains_of, regions_of}
-use Rattle.class_table.specs.Rows.{Name}
-use Rattle.class_table.specs.Table.{Element, table_of}
+use Rattle.sdf_plan.specs.ClassTable.Names.{domains_of, regions_of}
+use Rattle.sdf_plan.specs.ClassTable.Rows.{Name}
+use Rattle.sdf_plan.specs.ClassTable.Table.{Element, table_of}
 use Rattle.sdf_check.specs.declared.keys.Keys.{Keys}
 use Rattle.sdf_check.specs.declared.keys.Named.{Named}
 use Rattle.sdf_check.specs.declared.keys.Named.TheVariants as Which

@@ -5,9 +5,9 @@ use Rattle.std.specs.BTreeMap.{get}
 use Rattle.sdf_plan.specs.declared.place.Place.{Place}
 use Rattle.sdf_plan.specs.declared.place.Place.TheVariants as At
 use Rattle.sdf_plan.specs.declared.plan.Plan.{Plan}
-use Rattle.class_table.specs.Shown.{AreClasses}
+use Rattle.sdf_plan.specs.ClassTable.Shown.{AreClasses}
 use Rattle.sdf_check.specs.declared.judge.Tables.{Tables}
-use Rattle.class_table.specs.Names.{domains_of, regions_of}
+use Rattle.sdf_plan.specs.ClassTable.Names.{domains_of, regions_of}
 use Rattle.sdf_check.specs.Keys.{AreKeys}
 use Rattle.sdf_check.specs.Rules.{given_range}
 use Rattle.sdf_check.specs.Meetings.{IsFirstMeeting, AreFirstMaps}

@@ -7,7 +7,7 @@ use Rattle.sdf_plan.specs.declared.place.SdfFault.{SdfFault}
 use Rattle.sdf_plan.specs.declared.place.SdfFault.TheVariants as Fault
 use Rattle.sdf_plan.specs.declared.plan.Plan.{Plan}
 use Rattle.sdf_plan.specs.Elements.{outline_of}
-use Rattle.class_table.specs.Table.{Element, OfElement}
+use Rattle.sdf_plan.specs.ClassTable.Table.{Element, OfElement}
 use Rattle.sdf_check.specs.ClassRules.{UsesNoRegion, UsesNoDomain, LacksRole, GivesWrongRole}
 use Rattle.sdf_check.specs.ClassRules.{NamesDomainAgain, LacksChannel, LacksRight}
 use Rattle.sdf_check.specs.ClassRules.{IsSharedWithStranger, NamesRegionAgain, HasBadCapacity}

@@ -5,12 +5,12 @@ ghost use Rattle.sdf_plan.specs.declared.plan.Map.{Map};
 ghost use Rattle.sdf_check.specs.Lookups.{FindsPlaces, names_shown};
 ghost use Rattle.sdf_check.specs.ClassRules.{SomeOf, the_domain, Joins, AreJoined, HasInterrupt};
 ghost use Rattle.sdf_check.specs.ClassRules.{Grants, IsGranted, IsStranger, HasStranger, IsSmaller};
-ghost use Rattle.class_table.specs.Roles.{IsProgramOf};
+ghost use Rattle.sdf_plan.specs.ClassTable.Roles.{IsProgramOf};
 
 use crate::judge::{Judge, at, is_same};
 use crate::names::{Places, place_of};
 use crate::sizes::allow_use;
-use class_table::{Role, is_program_of, nth};
+use sdf_plan::class_table::{Role, is_program_of, nth};
 use sdf_plan::{Channel, Domain, Map};
 
 /// The domain that has a name.

@@ -15,7 +15,7 @@ use crate::names::{Places, place_of};
 use crate::numbers::{are_permissions, ends_above, is_multiple, is_page_size};
 use crate::uses::Uses;
 use cargo_core::Series;
-use class_table::{Classes, nth};
+use sdf_plan::class_table::{Classes, nth};
 use sdf_plan::{Place, Plan, Region};
 
 /// What is found out once about a plan: its classes, its ranges and its ids.

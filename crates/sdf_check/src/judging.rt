@@ -3,9 +3,9 @@ ghost use Rattle.std.specs.Prelude.{◌≡◌, ◌↔◌, ℕ, MatchOption, Matc
 ghost use Rattle.std.specs.Prelude.{OnOk, slice_get};
 ghost use Rattle.std.specs.BTreeMap.{get};
 ghost use Rattle.sdf_plan.specs.Places.{walk, IsKept, IsFirstBroken};
-ghost use Rattle.class_table.specs.Order.{number_of};
-ghost use Rattle.class_table.specs.Shown.{element_shown};
-ghost use Rattle.class_table.specs.Table.{OfElement, table_of};
+ghost use Rattle.sdf_plan.specs.ClassTable.Order.{number_of};
+ghost use Rattle.sdf_plan.specs.ClassTable.Shown.{element_shown};
+ghost use Rattle.sdf_plan.specs.ClassTable.Table.{OfElement, table_of};
 ghost use Rattle.sdf_plan.specs.Elements.{outline_of, IsNumbered};
 ghost use Rattle.sdf_check.specs.Priors.{OrPrior, AreTables};
 ghost use Rattle.sdf_check.specs.Valid.{Valid, IsRefused, IfRefused, broken, BreaksAtPlace};
@@ -26,7 +26,7 @@ use crate::sought::{meets_given_range, meets_map, takes_id};
 use crate::tables::{first_given, first_maps};
 use crate::uses::uses_of;
 use cargo_core::{Memory, Series};
-use class_table::{ClassElement, classes_of};
+use sdf_plan::class_table::{ClassElement, classes_of};
 use sdf_plan::{Place, Plan, Refusal, SdfFault, places_of};
 use std::alloc::Global;
 

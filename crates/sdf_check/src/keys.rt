@@ -3,11 +3,11 @@
 ghost use Rattle.std.specs.Prelude.{◌≡◌, ◌↔◌, ◌⊎◌, ◌++◌, ◌∷◌, [], List, ℕ, true, Some, map};
 ghost use Rattle.std.specs.Prelude.{slice_get, IsTrue, IfOk, OnOk};
 ghost use Rattle.sdf_plan.specs.declared.plan.Plan.{Plan};
-ghost use Rattle.class_table.specs.Names.{domains_of, regions_of, queue_region, pool_region};
-ghost use Rattle.class_table.specs.Order.{number_of};
-ghost use Rattle.class_table.specs.Shown.{AreClasses, element_shown, pool_shown, queue_shown};
-ghost use Rattle.class_table.specs.Table.{table_of, Element};
-ghost use Rattle.class_table.specs.Rows.{Name};
+ghost use Rattle.sdf_plan.specs.ClassTable.Names.{domains_of, regions_of, queue_region, pool_region};
+ghost use Rattle.sdf_plan.specs.ClassTable.Order.{number_of};
+ghost use Rattle.sdf_plan.specs.ClassTable.Shown.{AreClasses, element_shown, pool_shown, queue_shown};
+ghost use Rattle.sdf_plan.specs.ClassTable.Table.{table_of, Element};
+ghost use Rattle.sdf_plan.specs.ClassTable.Rows.{Name};
 ghost use Rattle.sdf_check.specs.ClassRules.{RepeatsName, SomeOf};
 ghost use Rattle.sdf_check.specs.Keys.{AreKeys, names_of};
 ghost use Rattle.sdf_check.specs.Lookups.{FindsPlaces, names_shown};
@@ -15,7 +15,7 @@ ghost use Rattle.sdf_check.specs.Lookups.{FindsPlaces, names_shown};
 use crate::class::is_named;
 use crate::names::{Places, note};
 use cargo_core::{Memory, Series};
-use class_table::{ClassElement, Classes, Ends, PoolUse, QueueUse};
+use sdf_plan::class_table::{ClassElement, Classes, Ends, PoolUse, QueueUse};
 use std::alloc::Global;
 use std::collections::BTreeMap;
 

@@ -1,9 +1,9 @@
 //! The rules on what is named: that a domain which isn't idle has a role, and that nothing is named
 //! twice.
 ghost use Rattle.std.specs.Prelude.{◌≡◌, ◌↔◌, ◌⊎◌, IsTrue, Some, slice_get};
-ghost use Rattle.class_table.specs.Order.{number_of};
-ghost use Rattle.class_table.specs.Shown.{element_shown};
-ghost use Rattle.class_table.specs.Table.{table_of};
+ghost use Rattle.sdf_plan.specs.ClassTable.Order.{number_of};
+ghost use Rattle.sdf_plan.specs.ClassTable.Shown.{element_shown};
+ghost use Rattle.sdf_plan.specs.ClassTable.Table.{table_of};
 ghost use Rattle.sdf_check.specs.Priors.{AreTables};
 ghost use Rattle.sdf_check.specs.ClassRules.{LacksRole, NamesDomainAgain, NamesRegionAgain};
 ghost use Rattle.sdf_check.specs.ClassRules.{GivesWrongRole, IsSharedWithStranger, SomeOf};
@@ -13,8 +13,8 @@ use crate::class::is_named;
 use crate::judge::{Judge, Tables, at};
 use crate::keys::names_again;
 use crate::rows::{gives_wrong_role, is_shared_with_stranger};
-use class_table::ClassElement;
 use sdf_plan::Place;
+use sdf_plan::class_table::ClassElement;
 
 // Whether the domain of a name has a role.
 fn has_role(judge: &Judge<'_>, tables: &Tables<'_>, name: &str) -> bool

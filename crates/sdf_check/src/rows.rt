@@ -1,7 +1,7 @@
 //! The rules that are told of the rows of an element of a class: for each of them the question on
 //! one row, and a loop over the queues, the pools or the roles.
 ghost use Rattle.std.specs.Prelude.{◌≡◌, ◌↔◌, ◌<◌, IsTrue, IsSomeAnd};
-ghost use Rattle.class_table.specs.Shown.{element_shown, pool_shown, queue_shown, role_shown};
+ghost use Rattle.sdf_plan.specs.ClassTable.Shown.{element_shown, pool_shown, queue_shown, role_shown};
 ghost use Rattle.cargo_core.specs.Capacities.{IsCapacity};
 ghost use Rattle.sdf_check.specs.ClassRules.{SomeOf, IsGranted, HasInterrupt, QueueHasNoRegion};
 ghost use Rattle.sdf_check.specs.ClassRules.{PoolHasNoRegion, UsesNoRegion, RoleHasNoDomain};
@@ -17,8 +17,10 @@ use crate::class::{
 };
 use crate::judge::{Judge, is_same};
 use crate::sizes::is_capacity;
-use class_table::{ClassElement, Ends, Grant, PoolUse, QueueUse, RoleUse, pool_bytes, queue_end};
 use sdf_plan::Domain;
+use sdf_plan::class_table::{
+    ClassElement, Ends, Grant, PoolUse, QueueUse, RoleUse, pool_bytes, queue_end,
+};
 
 fn queue_has_no_region(judge: &Judge<'_>, queue: &QueueUse<&str>) -> bool
     ensures { IsTrue result ↔ QueueHasNoRegion judge.now.plan.now (queue_shown queue.now) }

@@ -13,7 +13,7 @@ use crate::judge::{Judge, Tables, at};
 use crate::names::place_of;
 use crate::uses::{Uses, is_used_before};
 use cargo_core::Series;
-use class_table::nth;
+use sdf_plan::class_table::nth;
 use sdf_plan::{Irq, Place};
 
 // Whether the first place that was found is this one or before it.

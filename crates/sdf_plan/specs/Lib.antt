@@ -3,3 +3,4 @@
 pub mod Elements
 pub mod Places
 pub mod Walks
+pub mod ClassTable

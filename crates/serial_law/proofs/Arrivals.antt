@@ -7,8 +7,8 @@ use Rattle.wire_core.specs.declared.names.Entry.{Entry}
 use Rattle.wire_core.specs.Journal.{History, Hostiles, QueuesFlow}
 use Rattle.wire_core.specs.Fates.{without}
 use Rattle.wire_core.proofs.Fating.{without_more}
-use Rattle.serial_switch.specs.Carried.{byte_of}
-use Rattle.serial_switch.specs.Switching.{input_of}
+use Rattle.class_expect.specs.SerialSwitch.Carried.{byte_of}
+use Rattle.class_expect.specs.SerialSwitch.Switching.{input_of}
 use Rattle.play_core.specs.Moved.{Moved, moved, sent, taken}
 use Rattle.play_core.specs.Still.{Holds}
 use Rattle.play_core.specs.Names.{by_sort}

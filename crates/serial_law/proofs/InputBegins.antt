@@ -2,7 +2,7 @@ use Rattle.std.proofs.Common.{◌≡◌, ◌==◌, ◌&&◌, nat_lt, Bool, true,
 use Rattle.std.specs.Char.{is_ascii_digit}
 use Rattle.std.proofs.lemmas.List.{append-nil}
 use Rattle.cargo_core.specs.Lists.{IsPrefix}
-use Rattle.serial_switch.specs.Switching.{Piece, Plain, Split, split_next, split_from, split_of, ended, escape, selected, given_by, given_after, given_of, input_of}
+use Rattle.class_expect.specs.SerialSwitch.Switching.{Piece, Plain, Split, split_next, split_from, split_of, ended, escape, selected, given_by, given_after, given_of, input_of}
 
 split_from-append : (ps : List Piece) (rest xs ys : List ℕ) → split_from ps rest (xs ++ ys) ≡ split_from (split_from ps rest xs).pieces (split_from ps rest xs).rest ys
 split_from-append ps rest [] ys = refl

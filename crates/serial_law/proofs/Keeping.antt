@@ -3,7 +3,7 @@ use Rattle.cargo_core.specs.Lists.{IsPrefix}
 use Rattle.wire_core.specs.Ends.{Producer}
 use Rattle.wire_core.specs.Fates.{without, marked}
 use Rattle.wire_core.proofs.Fating.{without_none}
-use Rattle.serial_switch.specs.Switching.{input_of}
+use Rattle.class_expect.specs.SerialSwitch.Switching.{input_of}
 use Rattle.serial_virt.specs.Shares.{AllHold, policy_at}
 use Rattle.play_core.specs.Moved.{Moved}
 use Rattle.serial_law.specs.Bytes.{bytes_in, byte_items}

@@ -8,7 +8,7 @@ use Rattle.play_core.specs.Moved.{Moved, with_put}
 use Rattle.play_core.proofs.OneQueue.{whole_prefix}
 use Rattle.play_core.proofs.Puts.{copy_more, copy_shorter}
 use Rattle.play_core.proofs.Lists.{prefix_flat}
-use Rattle.serial_switch.specs.Carried.{byte_of}
+use Rattle.class_expect.specs.SerialSwitch.Carried.{byte_of}
 use Rattle.serial_law.specs.Bytes.{bytes_in, byte_items, is_owed}
 
 pub bytes_items : (bs : List ℕ) → bytes_in (byte_items bs) ≡ bs

@@ -9,7 +9,7 @@ use Rattle.cargo_core.specs.Lists.{Merge}
 use Rattle.wire_core.specs.Ends.{Producer}
 use Rattle.wire_core.specs.Fates.{without, marked}
 use Rattle.wire_core.proofs.Fating.{without_length}
-use Rattle.serial_switch.specs.Switching.{input_of}
+use Rattle.class_expect.specs.SerialSwitch.Switching.{input_of}
 use Rattle.serial_virt.specs.Shares.{policy_at}
 use Rattle.play_core.specs.Moved.{Moved, Seat, gone_at, with_put}
 use Rattle.play_core.specs.Wants.{Want, seat_of, intake, outlet, intake_want, outlet_want}

@@ -7,8 +7,8 @@ use Rattle.wire_core.specs.Ends.{Producer}
 use Rattle.wire_core.specs.Fates.{without, marked, noes_at}
 use Rattle.wire_core.specs.Lists.{Passed}
 use Rattle.wire_core.specs.Queues.{items_of}
-use Rattle.serial_switch.specs.Carried.{byte_of, byte_cargo, bytes_carried}
-use Rattle.serial_switch.specs.Switching.{input_of}
+use Rattle.class_expect.specs.SerialSwitch.Carried.{byte_of, byte_cargo, bytes_carried}
+use Rattle.class_expect.specs.SerialSwitch.Switching.{input_of}
 use Rattle.serial_virt.specs.Shares.{Taker, byte_fate}
 use Rattle.serial_virt.specs.Receiving.{RxRow, clients_of, policy_of, taker_of}
 use Rattle.serial_virt.specs.declared.rx.SerialVirtRx.{SerialVirtRx}

@@ -6,8 +6,8 @@ use Rattle.wire_core.specs.declared.names.QueueRow.{QueueRow}
 use Rattle.wire_core.specs.declared.names.Entry.{Entry}
 use Rattle.wire_core.specs.Journal.{History, Hostiles}
 use Rattle.wire_core.specs.Fates.{without}
-use Rattle.serial_switch.specs.Carried.{byte_of}
-use Rattle.serial_switch.specs.Switching.{input_of}
+use Rattle.class_expect.specs.SerialSwitch.Carried.{byte_of}
+use Rattle.class_expect.specs.SerialSwitch.Switching.{input_of}
 use Rattle.play_core.specs.Moved.{Moved, moved, sent, taken}
 use Rattle.play_core.specs.Wants.{Want, Needful}
 use Rattle.play_core.specs.Totals.{total}

@@ -2,7 +2,7 @@
 use Rattle.std.specs.Prelude.{ℕ, Bool, nat_lt, List, length, map, flat_map}
 use Rattle.cargo_core.specs.declared.item.Item.{Item}
 use Rattle.cargo_core.specs.declared.item.Item.TheVariants as ItemOf
-use Rattle.serial_switch.specs.Carried.{byte_of}
+use Rattle.class_expect.specs.SerialSwitch.Carried.{byte_of}
 
 -- the bytes that items are
 abbrev pub bytes_in : List Item → List ℕ

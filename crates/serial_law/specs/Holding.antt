@@ -4,7 +4,7 @@ use Rattle.std.specs.Prelude.{◌≡◌, ◌==◌, ◌≤◌, ℕ, if◌then◌e
 use Rattle.std.specs.Prelude.{slice_get}
 use Rattle.cargo_core.specs.Lists.{IsPrefix, Merge, PrefixMerge}
 use Rattle.cargo_core.specs.declared.item.Item.{Item}
-use Rattle.serial_switch.specs.Switching.{input_of}
+use Rattle.class_expect.specs.SerialSwitch.Switching.{input_of}
 use Rattle.play_core.specs.Moved.{Moved}
 use Rattle.serial_law.specs.Bytes.{bytes_in, byte_items}
 use Rattle.serial_law.specs.Serial.{SerialClass}

@@ -5,7 +5,7 @@ use Rattle.cargo_core.specs.Lists.{IsPrefix, Merge}
 use Rattle.cargo_core.specs.declared.item.Item.{Item}
 use Rattle.wire_core.specs.Ends.{Producer}
 use Rattle.wire_core.specs.Fates.{without, marked}
-use Rattle.serial_switch.specs.Switching.{input_of}
+use Rattle.class_expect.specs.SerialSwitch.Switching.{input_of}
 use Rattle.serial_virt.specs.Shares.{policy_at}
 use Rattle.play_core.specs.Moved.{Moved, gone_at}
 use Rattle.play_core.specs.Wants.{Want, intake, outlet, intake_want, outlet_want}

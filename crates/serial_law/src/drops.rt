@@ -3,7 +3,7 @@
 
 ghost use Rattle.std.specs.Prelude.{◌≡◌, ℕ, Bool, List, length};
 ghost use Rattle.wire_core.specs.Lists.{Passed};
-ghost use Rattle.serial_switch.specs.Switching.{input_of};
+ghost use Rattle.class_expect.specs.SerialSwitch.Switching.{input_of};
 ghost use Rattle.serial_virt.specs.Shares.{AllHold};
 ghost use Rattle.serial_virt.specs.Receiving.{RxRow};
 ghost use Rattle.serial_virt.specs.declared.rx.SerialVirtRx.{SerialVirtRx};

@@ -9,8 +9,8 @@ use Rattle.turn_kit.specs.Posts.{intake_post, outlet_post}
 use Rattle.turn_kit.specs.ManyEnds.{outlet_queues, needs_from, is_here}
 use Rattle.turn_kit.specs.Dropping.{dropping, with_drops}
 use Rattle.turn_kit.specs.declared.ends.Outlet.{Outlet}
-use Rattle.serial_switch.specs.Carried.{byte_cargo, bytes_carried}
-use Rattle.serial_switch.specs.Switching.{input_of}
+use Rattle.class_expect.specs.SerialSwitch.Carried.{byte_cargo, bytes_carried}
+use Rattle.class_expect.specs.SerialSwitch.Switching.{input_of}
 use Rattle.serial_virt.specs.declared.rx.SerialVirtRx.{SerialVirtRx}
 use Rattle.serial_virt.specs.Shares.{AllHold, byte_fate}
 use Rattle.serial_virt.specs.Receiving.{RxStandsFor, RxRow, HoldingRxStands, HoldingRxRow, rx_round, holding_rx_round, clients_of, taker_of, owed_to, place_loaded}

@@ -9,9 +9,9 @@ use Rattle.wire_core.specs.Lists.{Lists, Passed}
 use Rattle.turn_kit.specs.ManyEnds.{intake_queues, outlet_queues}
 use Rattle.turn_kit.specs.Hands.{bodies_of, bodies_at}
 use Rattle.turn_kit.proofs.Holding.{cargo-append, cargo-cons, at_one, at_more}
-use Rattle.serial_switch.specs.Carried.{byte_cargo, bytes_carried}
-use Rattle.serial_switch.specs.Switching.{input_of}
-use Rattle.serial_switch.proofs.Carrying.{bytes_hold_none}
+use Rattle.class_expect.specs.SerialSwitch.Carried.{byte_cargo, bytes_carried}
+use Rattle.class_expect.specs.SerialSwitch.Switching.{input_of}
+use Rattle.class_expect.proofs.SerialSwitch.Carrying.{bytes_hold_none}
 use Rattle.serial_virt.specs.declared.rx.SerialVirtRx.{SerialVirtRx}
 use Rattle.serial_virt.specs.declared.tx.SerialVirtTx.{SerialVirtTx}
 use Rattle.wire_core.specs.Fates.{without}

@@ -17,9 +17,9 @@ use Rattle.wire_core.specs.Ends.{Role, Consumer, Producer, role_of}
 use Rattle.wire_core.specs.Marks.{is_vain_look, is_role}
 use Rattle.turn_kit.specs.ManyEnds.{AreApart, outlet_queues}
 use Rattle.turn_kit.specs.declared.outlets.Outlets.{Outlets}
-use Rattle.serial_switch.specs.Standing.{StandsAfter}
-use Rattle.serial_switch.specs.Carried.{byte_cargo, byte_of, bytes_carried}
-use Rattle.serial_switch.specs.Switching.{input_of, given_to}
+use Rattle.class_expect.specs.SerialSwitch.Standing.{StandsAfter}
+use Rattle.class_expect.specs.SerialSwitch.Carried.{byte_cargo, byte_of, bytes_carried}
+use Rattle.class_expect.specs.SerialSwitch.Switching.{input_of, given_to}
 use Rattle.wire_core.specs.Lists.{Passed}
 use Rattle.wire_core.specs.Fates.{Word, Came, Served, Refused, Other, fate_after, is_take_at, is_vain_at, noes_at}
 use Rattle.wire_core.proofs.Fating.{fate_more, noes_more}

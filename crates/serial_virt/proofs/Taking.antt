@@ -3,7 +3,7 @@ use Rattle.std.proofs.lemmas.List.{append-nil, map-append, length-append}
 use Rattle.wire_core.specs.declared.names.Event.{Event}
 use Rattle.wire_core.specs.Deeds.{Cargo}
 use Rattle.wire_core.specs.Ends.{Producer}
-use Rattle.serial_switch.specs.Carried.{byte_cargo}
+use Rattle.class_expect.specs.SerialSwitch.Carried.{byte_cargo}
 use Rattle.wire_core.specs.Fates.{Came, Served, Refused, Other, IsRefused, Fate, fate_after, is_take_at, is_vain_at, noes_at, without, marked}
 use Rattle.wire_core.proofs.Fating.{marked-append, without_more, without_last, without_settled, without_none, settled_none, settled_length, few_dropped, none_dropped}
 use Rattle.wire_core.proofs.Readings.{both_true}

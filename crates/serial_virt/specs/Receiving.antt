@@ -22,9 +22,9 @@ use Rattle.turn_kit.specs.ManyEnds.{FitsOutlets, outlet_queues, outlet_posts, ne
 use Rattle.turn_kit.specs.declared.ends.Outlet.{Outlet}
 use Rattle.serial_virt.specs.Forgetting.{intake_forgotten, outlet_forgotten}
 use Rattle.serial_virt.specs.Shares.{Taker, taker_at, policy_at, heard, byte_fate, ClientStands}
-use Rattle.serial_switch.specs.Carried.{byte_cargo, bytes_carried}
-use Rattle.serial_switch.specs.Switching.{input_of}
-use Rattle.serial_switch.specs.Standing.{StandsAfter}
+use Rattle.class_expect.specs.SerialSwitch.Carried.{byte_cargo, bytes_carried}
+use Rattle.class_expect.specs.SerialSwitch.Switching.{input_of}
+use Rattle.class_expect.specs.SerialSwitch.Standing.{StandsAfter}
 use Rattle.serial_virt.specs.declared.rx.SerialVirtRx.{SerialVirtRx}
 
 -- the virtualiser's ends are its own, and as it keeps them; all are queues of bytes; and each

@@ -12,8 +12,8 @@ use Rattle.wire_core.specs.Deeds.{Cargo}
 use Rattle.wire_core.specs.Ends.{Producer}
 use Rattle.wire_core.specs.Fates.{Reading, Came, Served, Refused, Other, Fate, fate_of, is_take_at}
 use Rattle.wire_core.specs.Fates.{is_vain_at, without, marked}
-use Rattle.serial_switch.specs.Carried.{byte_of, byte_cargo}
-use Rattle.serial_switch.specs.Switching.{input_of}
+use Rattle.class_expect.specs.SerialSwitch.Carried.{byte_of, byte_cargo}
+use Rattle.class_expect.specs.SerialSwitch.Switching.{input_of}
 
 -- it is a put
 abbrev pub is_put : Op → Bool

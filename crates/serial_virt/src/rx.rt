@@ -14,9 +14,9 @@ ghost use Rattle.turn_kit.specs.Turns.{Post, last_after, is_at_rest, is_drop, is
 ghost use Rattle.turn_kit.specs.Posts.{intake_post};
 ghost use Rattle.cargo_core.specs.Bodies.{buffers_of};
 ghost use Rattle.turn_kit.specs.ManyEnds.{AreApart, outlet_queues, outlet_posts};
-ghost use Rattle.serial_switch.specs.Carried.{bytes_carried, byte_cargo};
-ghost use Rattle.serial_switch.specs.Standing.{StandsAfter};
-ghost use Rattle.serial_switch.specs.Switching.{input_of, given_to};
+ghost use Rattle.class_expect.specs.SerialSwitch.Carried.{bytes_carried, byte_cargo};
+ghost use Rattle.class_expect.specs.SerialSwitch.Standing.{StandsAfter};
+ghost use Rattle.class_expect.specs.SerialSwitch.Switching.{input_of, given_to};
 ghost use Rattle.serial_virt.specs.Forgetting.{outlet_forgotten};
 ghost use Rattle.serial_virt.specs.Receiving.{FitsRx, RxStandsFor, RxRow, RxBalances, RxEnd};
 ghost use Rattle.serial_virt.specs.Receiving.{IsNewRx, RxForgot, new_outlet, rx_queues, rx_round};
@@ -26,7 +26,7 @@ ghost use Rattle.serial_virt.specs.Receiving.{HoldingRxStands, HoldingRxRow, hol
 ghost use Rattle.serial_virt.specs.Shares.{AllHold, byte_fate, is_byte_drop};
 
 use cargo_core::{Body, Item, Memory, PoolId};
-use serial_switch::Switch;
+use class_expect::serial_switch::Switch;
 use std::alloc::Global;
 use turn_kit::{Intake, Lowest, Outlet, Outlets, Turn, count_held, pull, put_or_drop_at};
 use wire_core::{Event, QueueId, Wires};

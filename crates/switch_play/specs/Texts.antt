@@ -2,7 +2,7 @@
 use Rattle.std.specs.Prelude.{ℕ, List, [], ◌∷◌, ◌++◌, length, map, codes}
 use Rattle.std.specs.Fmt.{decimal}
 use Rattle.hex.specs.Hex.{encode_lower}
-use Rattle.ports_text.specs.declared.report.PortReport.{PortReport}
+use Rattle.line_text.specs.declared.ports_text.report.PortReport.{PortReport}
 use Rattle.report_text.specs.Lines.{text_of}
 use Rattle.report_text.specs.Reports.{ending_line, steps_line, pool_line, each_numbered}
 

@@ -1,11 +1,11 @@
 //! How many steps are enough for the ports of a switch.
 
 ghost use Rattle.std.specs.Prelude.{◌≡◌, ◌<◌, ◌^◌, length, sum_by};
-ghost use Rattle.ports_text.specs.Given.{ArePorts};
+ghost use Rattle.line_text.specs.PortsText.Given.{ArePorts};
 ghost use Rattle.switch_play.specs.Bounds.{ports_bound};
 
 use cargo_core::FrameLog;
-use ports_text::Ports;
+use line_text::ports_text::Ports;
 use step_bound::bound;
 use text_limits::ports_limits_law;
 

@@ -6,7 +6,7 @@ ghost use Rattle.report_text.specs.Reports.{each_numbered};
 ghost use Rattle.switch_play.specs.Texts.{frames_line, frames_lines, lost_line, ports_text};
 
 use cargo_core::{FrameLog, Memory, Series};
-use ports_text::PortReport;
+use line_text::ports_text::PortReport;
 use report_text::{add_frames, add_head, add_pools};
 use std::alloc::Global;
 

@@ -2,15 +2,15 @@
 use Rattle.std.proofs.Common.{◌≡◌, ◌⊎◌, ◌==◌, ◌+◌, ◌*◌, ◌<◌, ◌≤◌, ℕ, zero, suc, Bool, true, false, Some, List, [], ◌∷◌, length, slice_get, refl, sym, ap, ◌∙◌, subst, arith, inl, inr}
 use Rattle.std.proofs.lemmas.Bool.{cases_Bool, cases_lt, eqb-true, ne_eqb}
 use Rattle.std.proofs.lemmas.List.{length-map}
-use Rattle.ports_text.specs.declared.ports.Ports.{Ports}
+use Rattle.line_text.specs.declared.ports_text.ports.Ports.{Ports}
 use Rattle.wire_core.specs.declared.names.QueueRow.{QueueRow}
 use Rattle.wire_core.specs.Bells.{bit}
 use Rattle.wire_core.specs.Deeds.{Cargo}
 use Rattle.wire_core.specs.Journal.{start_history, track}
 use Rattle.wire_core.specs.Marks.{ends_of, all_sent, sum_below}
 use Rattle.small_system.specs.Tales.{Turn, journal_of, passed_by}
-use Rattle.switch_class.specs.declared.member.Member.{Member}
-use Rattle.switch_class.specs.Queues.{AreQueues, GoesAt}
+use Rattle.switched_law.specs.declared.switch_class.member.Member.{Member}
+use Rattle.switched_law.specs.SwitchClass.Queues.{AreQueues, GoesAt}
 use Rattle.switched_law.specs.SwitchMoment.Puts.{all_put}
 use Rattle.switched_law.proofs.SwitchMoment.Sums.{sum_same}
 use Rattle.switched_law.specs.Playing.{IsPlayed}

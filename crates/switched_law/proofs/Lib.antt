@@ -7,3 +7,4 @@ pub mod Resting
 pub mod SwitchLaw
 pub mod SwitchMoment
 pub mod SwitchOwners
+pub mod SwitchClass

@@ -4,16 +4,16 @@ use Rattle.frame_core.specs.declared.mac.Mac.{Mac}
 use Rattle.line_text.specs.Lists.{per_client}
 use Rattle.owner_law.specs.Pools.Places.{PoolAt}
 use Rattle.wire_core.specs.declared.names.QueueId.{QueueId}
-use Rattle.ports_text.specs.declared.ports.Ports.{Ports}
+use Rattle.line_text.specs.declared.ports_text.ports.Ports.{Ports}
 use Rattle.client_programs.specs.declared.net.NetClient.{NetClient}
 use Rattle.client_programs.specs.declared.net.program.ClientProgram.{ClientProgram}
 use Rattle.client_programs.specs.Net.Clients.{rx_active, rx_free, tx_active, tx_free}
 use Rattle.net_switch.specs.declared.switch.NetSwitch.{NetSwitch}
 use Rattle.net_switch.specs.Ends.{come_queues, back_queues, room_queues, copy_queues}
-use Rattle.switch_class.specs.declared.member.Member.{Member}
-use Rattle.switch_class.specs.declared.member.Member.TheVariants as Members
-use Rattle.switch_class.specs.Members.{Runs, Switches, made_of, pool_of}
-use Rattle.switch_class.specs.Casting.{client_made, switch_made, queues_at}
+use Rattle.switched_law.specs.declared.switch_class.member.Member.{Member}
+use Rattle.switched_law.specs.declared.switch_class.member.Member.TheVariants as Members
+use Rattle.switched_law.specs.SwitchClass.Members.{Runs, Switches, made_of, pool_of}
+use Rattle.switched_law.specs.SwitchClass.Casting.{client_made, switch_made, queues_at}
 use Rattle.switched_law.specs.SwitchMoment.Scene.{AreAt, IsClientOf, IsSwitchOf}
 
 -- what a client has

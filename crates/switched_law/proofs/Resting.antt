@@ -1,7 +1,7 @@
 -- Where nobody is runnable, the queues of each port rest.
 use Rattle.std.proofs.Common.{◌≡◌, ◌+◌, ◌*◌, ◌<◌, ◌++◌, ℕ, zero, suc, Bool, true, Some, List, [], ◌∷◌, length, map, slice_get, refl, sym, ap, ◌∙◌, arith}
 use Rattle.std.proofs.lemmas.List.{length-map}
-use Rattle.ports_text.specs.declared.ports.Ports.{Ports}
+use Rattle.line_text.specs.declared.ports_text.ports.Ports.{Ports}
 use Rattle.wire_core.specs.declared.names.QueueId.{QueueId}
 use Rattle.wire_core.specs.declared.names.QueueRow.{QueueRow}
 use Rattle.wire_core.specs.declared.names.Entry.{Entry}
@@ -20,9 +20,9 @@ use Rattle.net_switch.specs.SwitchDesk.Desks.{is_taking, is_returning, is_wantin
 use Rattle.net_switch.specs.declared.switch.NetSwitch.{NetSwitch}
 use Rattle.net_switch.specs.Ends.{come_queues, back_queues, room_queues, copy_queues}
 use Rattle.small_system.specs.Tales.{Moment, Turn, start_of, after_tale, journal_of, passed_by}
-use Rattle.switch_class.specs.declared.member.Member.{Member}
-use Rattle.switch_class.specs.declared.member.Member.TheVariants as Members
-use Rattle.switch_class.specs.Queues.{GoesAt}
+use Rattle.switched_law.specs.declared.switch_class.member.Member.{Member}
+use Rattle.switched_law.specs.declared.switch_class.member.Member.TheVariants as Members
+use Rattle.switched_law.specs.SwitchClass.Queues.{GoesAt}
 use Rattle.switched_law.specs.SwitchMoment.Scene.{AreAt, IsClientOf}
 use Rattle.switched_law.specs.SwitchMoment.Quiet.{RestsAt, PortRests, AllRest}
 use Rattle.switched_law.specs.Playing.{IsPlayed}

@@ -1,7 +1,7 @@
 -- A moment of a play: its actors stand for what passed.
 use Rattle.std.proofs.Common.{◌≡◌, ◌+◌, ◌<◌, ℕ, Some, List, length, slice_get, sym, ap, ◌∙◌, subst, arith, inl, inr}
 use Rattle.std.proofs.lemmas.Bool.{cases_lt}
-use Rattle.ports_text.specs.declared.ports.Ports.{Ports}
+use Rattle.line_text.specs.declared.ports_text.ports.Ports.{Ports}
 use Rattle.wire_core.specs.declared.names.QueueRow.{QueueRow}
 use Rattle.wire_core.specs.declared.names.Entry.{Entry}
 use Rattle.wire_core.specs.Ends.{Role, End}
@@ -13,9 +13,9 @@ use Rattle.client_programs.specs.Net.Clients.{ClientStandsFor}
 use Rattle.net_switch.specs.declared.switch.NetSwitch.{NetSwitch}
 use Rattle.small_system.specs.Tales.{Moment, Turn, start_of, IsTale, after_tale, journal_of, passed_by}
 use Rattle.small_system.specs.Standing.{Begins, Holds}
-use Rattle.switch_class.specs.declared.member.Member.{Member}
-use Rattle.switch_class.specs.declared.member.Member.TheVariants as Members
-use Rattle.switch_class.specs.Members.{member_means, made_of}
+use Rattle.switched_law.specs.declared.switch_class.member.Member.{Member}
+use Rattle.switched_law.specs.declared.switch_class.member.Member.TheVariants as Members
+use Rattle.switched_law.specs.SwitchClass.Members.{member_means, made_of}
 use Rattle.switched_law.specs.SwitchMoment.Scene.{HasClient, IsClientOf, IsSwitchOf, IsSwitched}
 use Rattle.switched_law.specs.SwitchMoment.Takes.{frames_taken}
 use Rattle.switched_law.specs.Playing.{IsPlayed, taken_by}

@@ -1,7 +1,7 @@
 -- The ends that an actor keeps are those that it wants, by its own state and by the journal.
 use Rattle.std.proofs.Common.{◌≡◌, ◌+◌, ◌++◌, ℕ, suc, Bool, cond, Some, List, [], ◌∷◌, length, map, slice_get, refl, sym, ap, ◌∙◌, subst, arith, inl, inr}
 use Rattle.std.proofs.lemmas.Bool.{cases_lt, ne_eqb, eq-eqb}
-use Rattle.ports_text.specs.declared.ports.Ports.{Ports}
+use Rattle.line_text.specs.declared.ports_text.ports.Ports.{Ports}
 use Rattle.wire_core.specs.declared.names.QueueId.{QueueId}
 use Rattle.wire_core.specs.declared.names.QueueRow.{QueueRow}
 use Rattle.wire_core.specs.declared.names.Entry.{Entry}
@@ -29,9 +29,9 @@ use Rattle.small_system.specs.Tales.{Moment, Turn, start_of, IsTale, after_tale,
 use Rattle.small_system.specs.Standing.{Holds}
 use Rattle.small_system.specs.Wants.{RestsBy, calls_in}
 use Rattle.small_system.specs.SmallLaw.Wants.{WantsAre}
-use Rattle.switch_class.specs.declared.member.Member.{Member}
-use Rattle.switch_class.specs.declared.member.Member.TheVariants as Members
-use Rattle.switch_class.specs.Members.{member_means}
+use Rattle.switched_law.specs.declared.switch_class.member.Member.{Member}
+use Rattle.switched_law.specs.declared.switch_class.member.Member.TheVariants as Members
+use Rattle.switched_law.specs.SwitchClass.Members.{member_means}
 use Rattle.switched_law.specs.SwitchMoment.Scene.{IsClientOf, IsSwitched}
 use Rattle.switched_law.specs.SwitchMoment.Takes.{frames_taken}
 use Rattle.switched_law.specs.SwitchMoment.Wants.{client_wants, switch_wants, port_wants}

@@ -5,3 +5,4 @@ pub mod Wants
 pub mod SwitchLaw
 pub mod SwitchMoment
 pub mod SwitchOwners
+pub mod SwitchClass

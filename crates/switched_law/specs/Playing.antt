@@ -1,15 +1,15 @@
 -- A play of a switch between clients: its turns from the start state on.
 use Rattle.std.specs.Prelude.{List, length}
-use Rattle.ports_text.specs.declared.ports.Ports.{Ports}
+use Rattle.line_text.specs.declared.ports_text.ports.Ports.{Ports}
 use Rattle.wire_core.specs.declared.names.QueueRow.{QueueRow}
 use Rattle.wire_core.specs.declared.names.Entry.{Entry}
 use Rattle.small_system.specs.Tales.{Turn, start_of, IsTale, after_tale}
 use Rattle.small_system.specs.Standing.{Begins}
 use Rattle.small_system.specs.Wants.{calls_in}
-use Rattle.switch_class.specs.declared.member.Member.{Member}
-use Rattle.switch_class.specs.Members.{member_means}
-use Rattle.switch_class.specs.Queues.{AreQueues}
-use Rattle.switch_class.specs.Casting.{AreMade}
+use Rattle.switched_law.specs.declared.switch_class.member.Member.{Member}
+use Rattle.switched_law.specs.SwitchClass.Members.{member_means}
+use Rattle.switched_law.specs.SwitchClass.Queues.{AreQueues}
+use Rattle.switched_law.specs.SwitchClass.Casting.{AreMade}
 use Rattle.switched_law.specs.SwitchMoment.Scene.{ArePlayable}
 use Rattle.switched_law.specs.SwitchMoment.Takes.{FromPort, frames_taken}
 

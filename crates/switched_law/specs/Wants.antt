@@ -7,8 +7,8 @@ use Rattle.client_programs.specs.Net.Clients.{rx_free, tx_active, tx_free}
 use Rattle.client_programs.specs.Net.Sending.{needs_buffer, is_sending}
 use Rattle.net_switch.specs.SwitchDesk.Desks.{is_taking, is_returning, is_wanting, is_loaded}
 use Rattle.net_switch.specs.Ends.{come_queues, back_queues, room_queues, copy_queues}
-use Rattle.switch_class.specs.declared.member.Member.{Member}
-use Rattle.switch_class.specs.declared.member.Member.TheVariants as Members
+use Rattle.switched_law.specs.declared.switch_class.member.Member.{Member}
+use Rattle.switched_law.specs.declared.switch_class.member.Member.TheVariants as Members
 
 -- what is wanted of each of these queues, the first of which has this place
 abbrev pub queue_wants : (want : ℕ → Bool → Want) → (need : ℕ → Bool) → (place : ℕ)

@@ -8,8 +8,8 @@ ghost use Rattle.std.specs.Prelude.{◌≡◌, ◌+◌, ◌*◌, ◌<◌, ◌≤
 ghost use Rattle.std.specs.Prelude.{count_by};
 ghost use Rattle.cargo_core.specs.Lists.{IsPrefix, Merge, PrefixMerge};
 ghost use Rattle.frame_core.specs.declared.mac.Mac.{Mac};
-ghost use Rattle.ports_text.specs.declared.ports.Ports.{Ports};
-ghost use Rattle.ports_text.specs.Given.{ArePorts};
+ghost use Rattle.line_text.specs.declared.ports_text.ports.Ports.{Ports};
+ghost use Rattle.line_text.specs.PortsText.Given.{ArePorts};
 ghost use Rattle.wire_core.specs.declared.names.QueueRow.{QueueRow};
 ghost use Rattle.wire_core.specs.Journal.{start_history};
 ghost use Rattle.wire_core.specs.Marks.{ends_of, all_sent};
@@ -20,10 +20,10 @@ ghost use Rattle.net_switch.specs.declared.switch.NetSwitch.{NetSwitch};
 ghost use Rattle.small_system.specs.Tales.{Turn, start_of, after_tale, journal_of, running_in};
 ghost use Rattle.small_system.specs.Tales.{PickedBy};
 ghost use Rattle.small_system.specs.Wants.{RestsBy, runs_by, wanted_by, calm};
-ghost use Rattle.switch_class.specs.declared.member.Member.{Member};
-ghost use Rattle.switch_class.specs.declared.member.Member.TheVariants as Members;
-ghost use Rattle.switch_class.specs.Members.{member_means};
-ghost use Rattle.switch_class.specs.Queues.{AreQueues};
+ghost use Rattle.switched_law.specs.declared.switch_class.member.Member.{Member};
+ghost use Rattle.switched_law.specs.declared.switch_class.member.Member.TheVariants as Members;
+ghost use Rattle.switched_law.specs.SwitchClass.Members.{member_means};
+ghost use Rattle.switched_law.specs.SwitchClass.Queues.{AreQueues};
 ghost use Rattle.switched_law.specs.SwitchLaw.Ports.{all_to};
 ghost use Rattle.switched_law.specs.SwitchMoment.Scene.{ArePlayable};
 ghost use Rattle.switched_law.specs.SwitchMoment.Takes.{reaches_none, reaching, frames_in, sent_by};
@@ -31,10 +31,12 @@ ghost use Rattle.switched_law.specs.SwitchMoment.Puts.{puts_most};
 ghost use Rattle.switched_law.specs.SwitchMoment.Wants.{port_wants};
 ghost use Rattle.switched_law.specs.Playing.{IsPlayed, actors_after, taken_by};
 
+pub mod switch_class;
 pub mod switch_law;
 pub mod switch_moment;
 pub mod switch_owners;
 
+use crate::switch_class::Member;
 use crate::switch_moment::{
     put_law, record_law, take_law, wants_law as moment_wants_law, whole_law as moment_whole_law,
 };
@@ -42,7 +44,7 @@ use play_core::quiet_law;
 use play_core::rests::rest_law;
 use small_system::small_law::{bound_law, still_law};
 use small_system::tale_law;
-use switch_class::Member;
+pub use switch_class::{BUFFERS, switch_actors, switch_queues};
 pub use switch_owners::switch_owner_law;
 use text_limits::{ports_frames_law, ports_limits_law};
 

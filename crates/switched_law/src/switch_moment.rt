@@ -6,7 +6,7 @@ ghost use Rattle.std.specs.Prelude.{slice_get, count_by};
 ghost use Rattle.std.specs.Prelude.{sum_by};
 ghost use Rattle.cargo_core.specs.Lists.{IsPrefix, Merge, PrefixMerge};
 ghost use Rattle.frame_core.specs.declared.mac.Mac.{Mac};
-ghost use Rattle.ports_text.specs.declared.ports.Ports.{Ports};
+ghost use Rattle.line_text.specs.declared.ports_text.ports.Ports.{Ports};
 ghost use Rattle.wire_core.specs.Ends.{Role, End};
 ghost use Rattle.wire_core.specs.Lists.{Passed};
 ghost use Rattle.wire_core.specs.Queues.{Queue, end_at};

@@ -7,22 +7,22 @@ ghost use Rattle.wire_core.specs.Journal.{start_history, EachMoment};
 ghost use Rattle.owner_law.specs.Owners.{OneOwner};
 ghost use Rattle.owner_law.specs.Keeping.{start_table};
 ghost use Rattle.owner_law.specs.Census.{census};
-ghost use Rattle.ports_text.specs.declared.ports.Ports.{Ports};
+ghost use Rattle.line_text.specs.declared.ports_text.ports.Ports.{Ports};
 ghost use Rattle.small_system.specs.Tales.{Turn, start_of, IsTale, after_tale, journal_of};
 ghost use Rattle.small_system.specs.Standing.{Begins};
 ghost use Rattle.small_system.specs.SmallLaw.Keepers.{HaveKeepers};
-ghost use Rattle.switch_class.specs.declared.member.Member.{Member};
-ghost use Rattle.switch_class.specs.declared.actors.TheConstants.{BUFFERS};
-ghost use Rattle.switch_class.specs.Members.{member_means};
-ghost use Rattle.switch_class.specs.Queues.{AreQueues};
-ghost use Rattle.switch_class.specs.Casting.{CanBeMade, AreMade};
+ghost use Rattle.switched_law.specs.declared.switch_class.member.Member.{Member};
+ghost use Rattle.switched_law.specs.declared.switch_class.actors.TheConstants.{BUFFERS};
+ghost use Rattle.switched_law.specs.SwitchClass.Members.{member_means};
+ghost use Rattle.switched_law.specs.SwitchClass.Queues.{AreQueues};
+ghost use Rattle.switched_law.specs.SwitchClass.Casting.{CanBeMade, AreMade};
 ghost use Rattle.switched_law.specs.SwitchOwners.Owning.{switch_naming, switch_keepers};
 ghost use Rattle.switched_law.specs.SwitchOwners.Lines.{table_after, queued, IsLine};
 
+use crate::switch_class::Member;
 use owner_law::census_law;
 use owner_law::pools::{line_law, spread_law};
 use small_system::small_law::keeper_law;
-use switch_class::Member;
 
 /// Each client puts only buffers of its own and those that came to it, and the switch puts those
 /// that came, each port's in their order.

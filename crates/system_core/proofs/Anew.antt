@@ -6,7 +6,7 @@ use Rattle.std.proofs.lemmas.List.{append-nil}
 use Rattle.wire_core.specs.declared.names.Event.{Event}
 use Rattle.wire_core.specs.Ends.{Producer}
 use Rattle.wire_core.specs.Fates.{Came, Served, Refused, Other, Fate, Reading, no_fate, fate_after, fate_from, is_take_at, is_vain_at}
-use Rattle.serial_switch.specs.Switching.{input_of}
+use Rattle.class_expect.specs.SerialSwitch.Switching.{input_of}
 use Rattle.serial_virt.specs.Shares.{Taker, byte_fate, byte_told, came_to, heard, is_put_at, policy_at, serial_word}
 use Rattle.serial_law.specs.Dropped.{taker, told_marks}
 

@@ -10,7 +10,7 @@ use Rattle.sdf_plan.specs.declared.plan.Serial.{Serial}
 use Rattle.trace_text.specs.declared.trace.Trace.{Trace}
 use Rattle.trace_text.specs.Traces.{IsReadFor}
 use Rattle.trace_text.specs.Events.{is_serial_rogue}
-use Rattle.serial_switch.specs.Switching.{input_of}
+use Rattle.class_expect.specs.SerialSwitch.Switching.{input_of}
 use Rattle.cast_core.specs.Sources.{first_serial}
 use Rattle.play_core.specs.Looks.{events_of}
 use Rattle.play_core.specs.Moved.{Moved, moved, taken}

@@ -6,7 +6,7 @@ use Rattle.cargo_core.specs.Lists.{IsPrefix}
 use Rattle.sdf_plan.specs.declared.plan.Plan.{Plan}
 use Rattle.sdf_plan.specs.declared.plan.Serial.{Serial}
 use Rattle.sdf_plan.specs.declared.plan.SerialClient.{SerialClient as Client}
-use Rattle.serial_switch.specs.Switching.{input_of}
+use Rattle.class_expect.specs.SerialSwitch.Switching.{input_of}
 use Rattle.trace_text.specs.declared.trace.Trace.{Trace}
 use Rattle.trace_text.specs.Events.{is_serial_rogue}
 use Rattle.wire_core.specs.declared.names.QueueRow.{QueueRow}

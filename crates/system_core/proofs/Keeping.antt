@@ -10,7 +10,7 @@ use Rattle.actor_set.specs.Actors.{part_of}
 use Rattle.actor_set.specs.declared.actor.Actor.{Actor}
 use Rattle.actor_set.specs.Laws.Kinds.{AllCalm, hostiles, manner_of}
 use Rattle.actor_set.proofs.LawsLemmas.Told.{none_wild}
-use Rattle.noted_wires.specs.Noting.{kept_at}
+use Rattle.player_kit.specs.Calls.Noting.{kept_at}
 
 -- none of these actors is hostile
 abbrev pub AreQuiet : List Actor → Type 0

@@ -8,7 +8,7 @@ use Rattle.wire_core.specs.Marks.{sum_below}
 use Rattle.cargo_core.specs.Bodies.{buffers_of}
 use Rattle.cargo_core.specs.declared.census.Census.{Census}
 use Rattle.turn_kit.specs.Hands.{bodies_of}
-use Rattle.page_law.proofs.ActorsLemmas.Pages.{same_sum}
+use Rattle.wired_law.proofs.PageLaw.ActorsLemmas.Pages.{same_sum}
 use Rattle.buffer_kit.specs.Conserving.{Count, the_page, of_other_length}
 use Rattle.owner_law.specs.Owners.{OneOwner, Table, replay}
 use Rattle.owner_law.specs.Keeping.{start_table}

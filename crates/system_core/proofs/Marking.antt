@@ -9,7 +9,7 @@ use Rattle.wire_core.specs.Journal.{EachMoment, History, history_at}
 use Rattle.wire_core.specs.Deeds.{Cargo}
 use Rattle.wire_core.specs.Lists.{Passed}
 use Rattle.wire_core.specs.Queues.{items_of}
-use Rattle.serial_switch.specs.Carried.{byte_of, bytes_carried}
+use Rattle.class_expect.specs.SerialSwitch.Carried.{byte_of, bytes_carried}
 use Rattle.serial_virt.specs.Shares.{heard, policy_at}
 use Rattle.wire_core.proofs.Tracks.{EachFrom-append}
 use Rattle.serial_virt.specs.declared.rx.SerialVirtRx.{SerialVirtRx}

@@ -9,7 +9,7 @@ use Rattle.sdf_plan.specs.declared.plan.NetClient.{NetClient as Client}
 use Rattle.trace_text.specs.declared.trace.Trace.{Trace}
 use Rattle.trace_text.specs.Events.{net_clients, is_net_rogue}
 use Rattle.region_layout.specs.Rows.{eth_number}
-use Rattle.net_expect.specs.Expecting.{frames_for}
+use Rattle.class_expect.specs.NetExpect.Expecting.{frames_for}
 use Rattle.net_law.specs.Owners.Names.{ClientPools}
 use Rattle.net_law.specs.Parts.Numbers.{client_first, device_at}
 use Rattle.net_law.proofs.WireLemmas.Telling.{told_long}

@@ -23,9 +23,9 @@ use Rattle.actor_set.specs.Laws.Kinds.{AllCalm, manner_of}
 use Rattle.actor_set.proofs.LawsLemmas.Rounds.{calm_or_rogue, may_is}
 use Rattle.actor_set.proofs.LawsLemmas.Told.{none_wild}
 use Rattle.actor_set.proofs.RogueLemmas.Playing.{runs as acts_run}
-use Rattle.noted_wires.specs.Noting.{NotedHappens, kept_at, last_put, notes_in}
-use Rattle.noted_wires.specs.declared.wires.NotedWires.{NotedWires}
-use Rattle.noted_wires.proofs.Lasting.{last_notes}
+use Rattle.player_kit.specs.Calls.Noting.{NotedHappens, kept_at, last_put, notes_in}
+use Rattle.player_kit.specs.declared.noted_wires.wires.NotedWires.{NotedWires}
+use Rattle.player_kit.proofs.Calls.Lasting.{last_notes}
 use Rattle.system_core.specs.Inside.{setting_of, IsSystem}
 use Rattle.system_core.specs.Lawful.{IsFitted}
 use Rattle.system_core.specs.Shows.{Setting, hostile_in}

@@ -4,7 +4,7 @@ use Rattle.std.specs.Option.{option_map, option_map_or}
 use Rattle.cargo_core.specs.Lists.{IsPrefix, PrefixMerge}
 use Rattle.cargo_core.specs.declared.item.Ask.{Ask}
 use Rattle.cargo_core.specs.declared.item.Reply.{Reply}
-use Rattle.blk_expect.specs.Replies.{replies_of}
+use Rattle.class_expect.specs.BlkExpect.Replies.{replies_of}
 use Rattle.blk_law.specs.Sheets.Numbers.{BlkPlace, blk_client_at}
 use Rattle.frame_core.specs.declared.mac.Mac.{Mac}
 use Rattle.wire_core.specs.declared.names.QueueRow.{QueueRow}
@@ -13,7 +13,7 @@ use Rattle.wire_core.specs.Deeds.{Cargo}
 use Rattle.wire_core.specs.Lists.{Passed}
 use Rattle.wire_core.specs.Queues.{Queue, end_at}
 use Rattle.wire_core.specs.Journal.{History}
-use Rattle.net_expect.specs.Expecting.{Program, frames_for}
+use Rattle.class_expect.specs.NetExpect.Expecting.{Program, frames_for}
 use Rattle.buffer_kit.specs.Entries.{frame_of}
 use Rattle.net_law.specs.Owners.Names.{ClientPools}
 use Rattle.owner_law.specs.Pools.Places.{PoolAt, own_pool}

@@ -10,7 +10,7 @@ use Rattle.sdf_plan.specs.declared.plan.BlkClient.{BlkClient as Client}
 use Rattle.trace_text.specs.declared.trace.Trace.{Trace}
 use Rattle.trace_text.specs.Events.{blk_clients, is_blk_rogue}
 use Rattle.region_layout.specs.Rows.{disk_number}
-use Rattle.blk_expect.specs.Replies.{replies_of}
+use Rattle.class_expect.specs.BlkExpect.Replies.{replies_of}
 use Rattle.blk_law.specs.Sheets.Numbers.{BlkPlace, blk_client_at}
 use Rattle.layout_laws.specs.Jobs.Jobs as jobs
 use Rattle.layout_laws.specs.Jobs.Jobs.{HasJob}

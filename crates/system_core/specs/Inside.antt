@@ -2,7 +2,7 @@
 use Rattle.std.specs.Prelude.{◌≡◌, ◌≤◌, ◌++◌, ℕ, None, length}
 use Rattle.wire_core.specs.Journal.{EachMoment}
 use Rattle.wire_core.specs.Marks.{Brisk}
-use Rattle.noted_wires.specs.Noting.{kept_at}
+use Rattle.player_kit.specs.Calls.Noting.{kept_at}
 use Rattle.play_core.specs.Names.{wild_in}
 use Rattle.cast_bound.specs.Dropping.{drops_in}
 use Rattle.system_core.specs.Shows.{Setting, Shown, hostile_in, runs, NamesTell, RowsStand}

@@ -7,8 +7,8 @@ use Rattle.wire_core.specs.Fates.{without}
 use Rattle.sdf_plan.specs.declared.plan.Plan.{Plan}
 use Rattle.trace_text.specs.declared.trace.Trace.{Trace}
 use Rattle.trace_text.specs.Events.{net_clients, serial_clients, blk_clients}
-use Rattle.net_expect.specs.Expecting.{frames_for}
-use Rattle.serial_switch.specs.Switching.{input_of}
+use Rattle.class_expect.specs.NetExpect.Expecting.{frames_for}
+use Rattle.class_expect.specs.SerialSwitch.Switching.{input_of}
 use Rattle.serial_virt.specs.Shares.{policy_at}
 use Rattle.expect_core.specs.Expected.{client_asks, client_entry, replies_in}
 use Rattle.expect_core.specs.Isolation.{AgreeOnFrames, AgreeOnInput, AgreeOnPartition}

@@ -8,9 +8,9 @@ use Rattle.wire_core.specs.Fates.{marked, noes_at, without}
 use Rattle.wire_core.specs.Picks.{PickedFrom}
 use Rattle.wire_core.specs.Journal.{EachMoment, history_at}
 use Rattle.wire_core.specs.Lists.{Passed}
-use Rattle.serial_switch.specs.Switching.{input_of}
+use Rattle.class_expect.specs.SerialSwitch.Switching.{input_of}
 use Rattle.frame_core.specs.declared.mac.Mac.{Mac}
-use Rattle.net_expect.specs.Expecting.{frames_for}
+use Rattle.class_expect.specs.NetExpect.Expecting.{frames_for}
 use Rattle.net_law.specs.Parts.Numbers.{client_first}
 use Rattle.net_law.specs.TxParts.Numbers.{NetPlace}
 use Rattle.net_quiet.specs.TxCast.Casting.{sends_at, sends_beside, wire_beside}
@@ -26,7 +26,7 @@ use Rattle.sdf_plan.specs.declared.plan.Net.{Net}
 use Rattle.sdf_plan.specs.declared.plan.Blk.{Blk}
 use Rattle.cargo_core.specs.declared.item.Ask.{Ask}
 use Rattle.cargo_core.specs.declared.item.Reply.{Reply}
-use Rattle.blk_expect.specs.Replies.{replies_of}
+use Rattle.class_expect.specs.BlkExpect.Replies.{replies_of}
 use Rattle.blk_law.specs.Sheets.Numbers.{BlkPlace}
 use Rattle.sdf_plan.specs.declared.plan.Serial.{Serial}
 use Rattle.trace_text.specs.declared.trace.Trace.{Trace}

@@ -1,14 +1,14 @@
 //! The names that a system keeps of what is put to queues with a hostile end.
 ghost use Rattle.std.specs.Prelude.{◌≡◌, ◌<◌, ◌-◌, ◌++◌, ℕ, true, false, is_some, length, map, take};
 ghost use Rattle.std.specs.Prelude.{IfOk, None, OnOk, vec_len, vec_capacity};
-ghost use Rattle.noted_wires.specs.Noting.{kept_at, notes_in};
+ghost use Rattle.player_kit.specs.Calls.Noting.{kept_at, notes_in};
 ghost use Rattle.play_core.specs.Names.{carries_pages, is_wild, wild_in};
 ghost use Rattle.actor_set.specs.Actors.{part_of};
 ghost use Rattle.actor_set.specs.Laws.Kinds.{AllCalm, hostiles};
 
 use actor_set::Actor;
 use cargo_core::{Memory, QueueKind};
-use noted_wires::{Noted, Tag};
+use player_kit::noted_wires::{Noted, Tag};
 use std::alloc::Global;
 use wire_core::{ActorId, Entry, QueueId, QueueRow};
 

@@ -9,11 +9,11 @@ use Rattle.frame_core.specs.Macs.{mac_of}
 use Rattle.line_text.specs.Texts.{lines_of, words_of, same_text, is_skipped}
 use Rattle.line_text.specs.Data.{data_of}
 use Rattle.line_text.specs.Lists.{per_client}
-use Rattle.ports_text.specs.declared.line.Line.{Line}
-use Rattle.ports_text.specs.declared.line.Line.TheVariants as Says
-use Rattle.ports_text.specs.declared.ports.Ports.{Ports}
-use Rattle.ports_text.specs.Lines.{port_of, if_frame, frame_of, send_said, words_say, meaning}
-use Rattle.ports_text.specs.Given.{macs_in, sends_said, lines_before, ports_from, ports_of, ArePorts}
+use Rattle.line_text.specs.declared.ports_text.line.Line.{Line}
+use Rattle.line_text.specs.declared.ports_text.line.Line.TheVariants as Says
+use Rattle.line_text.specs.declared.ports_text.ports.Ports.{Ports}
+use Rattle.line_text.specs.PortsText.Lines.{port_of, if_frame, frame_of, send_said, words_say, meaning}
+use Rattle.line_text.specs.PortsText.Given.{macs_in, sends_said, lines_before, ports_from, ports_of, ArePorts}
 
 abbrev IsShort : List ℕ → Type 0
 IsShort frame = length frame ≤ 1514

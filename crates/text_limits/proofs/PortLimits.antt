@@ -8,12 +8,12 @@ use Rattle.std.proofs.lemmas.Option.{slice_get-get_or}
 use Rattle.line_text.specs.Texts.{lines_of}
 use Rattle.line_text.specs.Lists.{per_client}
 use Rattle.line_text.proofs.Rows.{length_per_client}
-use Rattle.ports_text.specs.declared.line.Line.{Line}
-use Rattle.ports_text.specs.declared.line.Line.TheVariants as Says
-use Rattle.ports_text.specs.declared.ports.Ports.{Ports}
-use Rattle.ports_text.specs.Lines.{meaning}
-use Rattle.ports_text.specs.Given.{macs_said, macs_in, sends_said, is_send, is_among, is_out_of_place, is_bad_after, lines_before, ports_from, ports_of, HasNoBadLine, ArePorts}
-use Rattle.ports_text.proofs.SoFar.{said_more, bad_line, bad_end, no_lines}
+use Rattle.line_text.specs.declared.ports_text.line.Line.{Line}
+use Rattle.line_text.specs.declared.ports_text.line.Line.TheVariants as Says
+use Rattle.line_text.specs.declared.ports_text.ports.Ports.{Ports}
+use Rattle.line_text.specs.PortsText.Lines.{meaning}
+use Rattle.line_text.specs.PortsText.Given.{macs_said, macs_in, sends_said, is_send, is_among, is_out_of_place, is_bad_after, lines_before, ports_from, ports_of, HasNoBadLine, ArePorts}
+use Rattle.line_text.proofs.PortsText.SoFar.{said_more, bad_line, bad_end, no_lines}
 use Rattle.text_limits.specs.Limits.{KeepsPortLimits}
 use Rattle.text_limits.proofs.Totals.{sum_more, none_total, one_total, total}
 

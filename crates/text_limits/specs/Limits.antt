@@ -2,8 +2,8 @@
 use Rattle.std.specs.Prelude.{◌≡◌, ◌≤◌, length, sum_by}
 use Rattle.i2c_text.specs.declared.bus.Bus.{Bus}
 use Rattle.i2c_text.specs.Buses.{asks_most}
-use Rattle.ports_text.specs.declared.ports.Ports.{Ports}
-use Rattle.ports_text.specs.Given.{ports_fewest, ports_most, sends_most}
+use Rattle.line_text.specs.declared.ports_text.ports.Ports.{Ports}
+use Rattle.line_text.specs.PortsText.Given.{ports_fewest, ports_most, sends_most}
 
 -- there are 1 to 8 clients, a list of requests for each, and not too many requests
 pub record KeepsBusLimits (bus : Bus) : Type 0 where

@@ -2,8 +2,8 @@
 ghost use Rattle.std.specs.Prelude.{◌≡◌, ◌≤◌, ℕ, Some, List, All, length, slice_get};
 ghost use Rattle.i2c_text.specs.declared.bus.Bus.{Bus};
 ghost use Rattle.i2c_text.specs.Buses.{IsReadBus};
-ghost use Rattle.ports_text.specs.declared.ports.Ports.{Ports};
-ghost use Rattle.ports_text.specs.Given.{ArePorts};
+ghost use Rattle.line_text.specs.declared.ports_text.ports.Ports.{Ports};
+ghost use Rattle.line_text.specs.PortsText.Given.{ArePorts};
 ghost use Rattle.text_limits.specs.Limits.{KeepsBusLimits, KeepsPortLimits};
 
 /// A bus that was read has 1 to 8 clients, a list of requests for each of them, and at most 1,024

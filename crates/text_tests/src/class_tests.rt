@@ -3,7 +3,7 @@
 ghost use Rattle.sdf_plan.specs.Elements.{IsNumbered};
 
 use cargo_core::{Memory, Series, Text};
-use class_table::{Classes, classes_of};
+use sdf_plan::class_table::{Classes, classes_of};
 use sdf_plan::{Plan, Policy, Serial, SerialClient};
 use std::alloc::Global;
 use std::process::Abort;

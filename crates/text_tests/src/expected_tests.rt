@@ -1,8 +1,8 @@
 //! What clients must get of given frames and input.
 use cargo_core::{Bytes, FrameLog, Series};
+use class_expect::net_expect::{answers_for, frames_for};
 use expect_core::input_of;
 use frame_core::Mac;
-use net_expect::{answers_for, frames_for};
 use std::test::Fail;
 use trace_text::Trace;
 

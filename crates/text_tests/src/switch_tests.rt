@@ -1,7 +1,7 @@
 //! The switch and the plain program on the same inputs.
 
 use cargo_core::{Bytes, Memory};
-use serial_switch::{Switch, plain_input_of};
+use class_expect::serial_switch::{Switch, plain_input_of};
 use std::alloc::Global;
 
 // What a client of two gets by the switch.

@@ -13,7 +13,7 @@ use Rattle.decision_core.specs.Decisions.{Decision, Say, Play, Run, PlayBus, Pla
 use Rattle.decision_core.specs.declared.deciding.Decided.{Decided}
 use Rattle.decision_core.specs.declared.deciding.Decided.TheVariants as Kept
 use Rattle.decision_core.specs.Decided.{decision_of, IsPlayable}
-use Rattle.play_words.specs.declared.ask.Drawing.{Drawing}
+use Rattle.command_words.specs.declared.play_words.ask.Drawing.{Drawing}
 use Rattle.view_plays.specs.Deciding.{IsOnPlan, Answered, Drawn, Refused, DrawsPlay, no_drawing, refused, drawn, IsDrawnOf, drawn_of, ending_of}
 use Rattle.view_plays.specs.Viewed.{EndsFor}
 

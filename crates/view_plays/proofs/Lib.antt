@@ -4,3 +4,5 @@ mod CalmLemmas
 mod KindLemmas
 mod PlayLemmas
 pub mod ToldPlays
+pub mod ViewCore
+pub mod PlayView

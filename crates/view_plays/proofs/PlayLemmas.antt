@@ -15,9 +15,9 @@ use Rattle.decision_core.specs.Decisions.{Decides}
 use Rattle.system_core.specs.PlanPlays.{IsPlayed}
 use Rattle.system_core.specs.Reports.{report_of}
 use Rattle.system_core.specs.Shows.{Shown}
-use Rattle.play_words.specs.declared.ask.Drawing.{Drawing}
-use Rattle.play_words.specs.Words.{Spells, main_words}
-use Rattle.play_view.specs.Drawn.{drawn_text}
+use Rattle.command_words.specs.declared.play_words.ask.Drawing.{Drawing}
+use Rattle.command_words.specs.PlayWords.Words.{Spells, main_words}
+use Rattle.view_plays.specs.PlayView.Drawn.{drawn_text}
 use Rattle.view_plays.specs.Deciding.{Answered, Drawn, DrawsPlay, refused, drawn, IsDrawnOf, drawn_of, RepliesTo, ending_of, seed_of, limit_of}
 
 pub draws : (reads : List ℕ → List ℕ → Type 0) (words : List (List ℕ)) (drawing : Drawing) (d : Decided) (a : Answered) → Spells words drawing

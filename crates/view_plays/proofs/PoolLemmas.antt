@@ -11,7 +11,7 @@ use Rattle.sdf_plan.specs.declared.plan.Serial.{Serial}
 use Rattle.sdf_plan.specs.declared.plan.Blk.{Blk}
 use Rattle.sdf_plan.specs.Elements.{IsNumbered}
 use Rattle.trace_text.specs.declared.trace.Trace.{Trace}
-use Rattle.class_table.specs.Table.{Element, numbered, net_element, net_client_element, net_elements, serial_element, serial_client_element, serial_elements, blk_element, blk_client_element, blk_elements, table_of}
+use Rattle.sdf_plan.specs.ClassTable.Table.{Element, numbered, net_element, net_client_element, net_elements, serial_element, serial_client_element, serial_elements, blk_element, blk_client_element, blk_elements, table_of}
 use Rattle.region_layout.specs.Rows.{pool_row, pool_rows, pools_of}
 use Rattle.system_core.specs.Shows.{Shown}
 use Rattle.system_core.specs.PlanPlays.{IsSystemOf}

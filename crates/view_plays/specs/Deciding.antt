@@ -19,13 +19,13 @@ use Rattle.report_text.specs.Answers.{usage_text}
 use Rattle.system_core.specs.Reports.{report_of}
 use Rattle.system_core.specs.PlanPlays.{IsPlayed}
 use Rattle.system_core.specs.Shows.{Shown}
-use Rattle.play_words.specs.declared.ask.Drawing.{Drawing}
-use Rattle.play_words.specs.declared.options.Name.TheVariants as An
-use Rattle.play_words.specs.declared.options.Setting.{Setting}
+use Rattle.command_words.specs.declared.play_words.ask.Drawing.{Drawing}
+use Rattle.command_words.specs.declared.play_words.options.Name.TheVariants as An
+use Rattle.command_words.specs.declared.play_words.options.Setting.{Setting}
 use Rattle.view_plays.specs.declared.playing.Reply.{Reply}
 use Rattle.view_plays.specs.declared.playing.Reply.TheVariants as Is
-use Rattle.play_view.specs.Drawn.{drawn_text}
-use Rattle.play_words.specs.Words.{Spells, IsBadWord, main_words, number_of}
+use Rattle.view_plays.specs.PlayView.Drawn.{drawn_text}
+use Rattle.command_words.specs.PlayWords.Words.{Spells, IsBadWord, main_words, number_of}
 
 -- what is answered: a text for standard output, or a line for standard error, with a status
 pub data Answered : Type 0 where

@@ -3,3 +3,5 @@
 pub mod Deciding
 pub mod Viewed
 pub mod ToldPlays
+pub mod ViewCore
+pub mod PlayView

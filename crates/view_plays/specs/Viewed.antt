@@ -2,13 +2,13 @@
 use Rattle.std.specs.Prelude.{◌≡◌, ◌⊎◌, ℕ, Bool, Option, List}
 use Rattle.cargo_core.specs.Lists.{IsPrefix}
 use Rattle.cargo_core.specs.declared.memory.Memory.{Memory}
-use Rattle.shelf_core.specs.Outside.{FailsLast, appended}
-use Rattle.shelf_core.specs.Reading.{WasRead}
+use Rattle.decision_core.specs.ShelfCore.Outside.{FailsLast, appended}
+use Rattle.decision_core.specs.ShelfCore.Reading.{WasRead}
 use Rattle.decision_core.specs.declared.status.Status.{Status}
 use Rattle.decision_core.specs.declared.status.Status.TheVariants as Ended
 use Rattle.view_plays.specs.Deciding.{Answered, Drawn, Refused, DrawsPlay, OpensFor}
 use Rattle.view_plays.specs.ToldPlays.Progress.{IsProgress}
-use Rattle.play_words.specs.Words.{IsKind}
+use Rattle.command_words.specs.PlayWords.Words.{IsKind}
 
 -- a text was written to its end, or only its beginning, where the sink failed last
 pub data IsTold {K : Type 0} (written : K → Option (List ℕ)) (faults : K → ℕ) (failed : K → Bool)

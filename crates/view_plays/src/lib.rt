@@ -3,8 +3,10 @@
 #![tactic(auto)]
 
 mod hosting;
+pub mod play_view;
 mod playing;
 pub mod told_plays;
+pub mod view_core;
 mod viewing;
 
 pub use hosting::plays_host;

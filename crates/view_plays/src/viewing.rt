@@ -3,18 +3,18 @@
 ghost use Rattle.std.specs.Prelude.{◌≡◌, ◌↔◌, IsTrue};
 ghost use Rattle.command_words.specs.Words.{texts_of};
 ghost use Rattle.decision_core.specs.Codes.{code_of};
-ghost use Rattle.view_core.specs.Viewed.{IsViewed};
-ghost use Rattle.view_core.specs.Codes.{code_of as view_code};
-ghost use Rattle.view_core.specs.declared.ended.Ended.{Ended};
+ghost use Rattle.view_plays.specs.ViewCore.Viewed.{IsViewed};
+ghost use Rattle.view_plays.specs.ViewCore.Codes.{code_of as view_code};
+ghost use Rattle.view_plays.specs.declared.view_core.ended.Ended.{Ended};
 ghost use Rattle.view_plays.specs.Deciding.{decided_of};
 ghost use Rattle.view_plays.specs.Viewed.{IsTold, IsWritten, EndsFor, IsDrawn, BeginsPlay};
 
 use crate::playing::{Reply, decide_play};
+use crate::view_core::view;
 use command_words::{is_word, word_at};
 use decision_core::Status;
-use shelf_core::{ReadStop, Shelf, Sink, write_text};
+use decision_core::shelf_core::{ReadStop, Shelf, Sink, write_text};
 use std::alloc::Global;
-use view_core::view;
 
 // Writes a text to its end, and answers this status, or that it couldn't be written.
 fn write_to<K: Sink>(sink: &mut K, text: &[u8], status: Status) -> Status

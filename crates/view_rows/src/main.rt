@@ -4,7 +4,7 @@
 #![tactic(auto)]
 
 use cargo_core::Memory;
-use shelf_core::{FileShelf, MemSink};
+use decision_core::shelf_core::{FileShelf, MemSink};
 use std::alloc::{AllocError, Global};
 use std::{fs, io, str};
 use view_plays::view_any;

@@ -6,3 +6,4 @@ pub mod Wiring
 pub mod TurningLemmas
 pub mod BlkReplies
 pub mod QuietLemmas
+pub mod PageLaw

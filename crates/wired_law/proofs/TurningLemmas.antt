@@ -24,11 +24,11 @@ use Rattle.device_model.specs.Disk.Disks.{DiskRow, DiskStandsFor, req}
 use Rattle.device_model.specs.Disk.Serving.{is_stray}
 use Rattle.buffer_kit.specs.Conserving.{Count, counted, of_other_length, the_page, weighed}
 use Rattle.buffer_kit.proofs.Conserving.{counted-append, weighed-append}
-use Rattle.page_law.specs.Holders.{HasLength, HaveLength, queue_has, standing}
-use Rattle.page_law.specs.Paths.{AreGood, AreOnce, IsWay, on_way}
-use Rattle.page_law.proofs.LawLemmas.Lengths.{have_length}
-use Rattle.page_law.proofs.LawLemmas.Parts.{four_below, one_of, three_of}
-use Rattle.page_law.proofs.TurnsLemmas.Turning.{back_good, in_turn}
+use Rattle.wired_law.specs.PageLaw.Holders.{HasLength, HaveLength, queue_has, standing}
+use Rattle.wired_law.specs.PageLaw.Paths.{AreGood, AreOnce, IsWay, on_way}
+use Rattle.wired_law.proofs.PageLaw.LawLemmas.Lengths.{have_length}
+use Rattle.wired_law.proofs.PageLaw.LawLemmas.Parts.{four_below, one_of, three_of}
+use Rattle.wired_law.proofs.PageLaw.TurnsLemmas.Turning.{back_good, in_turn}
 use Rattle.net_virt_tx.specs.Sending.{FitsTx, TxRow, TxStandsFor}
 use Rattle.net_virt_tx.specs.Serving.{is_good_of, own_of}
 use Rattle.net_virt_tx.specs.declared.NetVirtTx.{NetVirtTx}

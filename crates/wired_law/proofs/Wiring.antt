@@ -18,7 +18,7 @@ use Rattle.device_model.specs.declared.ethernet.EthDevice.{EthDevice}
 use Rattle.device_model.specs.Ethernet.Devices.{HoldingDeviceRow}
 use Rattle.eth_driver.specs.Four.{four_pipes}
 use Rattle.pipe_driver.proofs.Holding.{row_of as driver_row}
-use Rattle.net_expect.specs.Expecting.{Program, frames_for}
+use Rattle.class_expect.specs.NetExpect.Expecting.{Program, frames_for}
 use Rattle.net_copier.proofs.Holding.{held_row as copier_row}
 use Rattle.net_virt_rx.proofs.Rounds.{row_of as receiver_row}
 use Rattle.net_virt_rx.specs.declared.NetVirtRx.{NetVirtRx}

@@ -7,7 +7,7 @@ use Rattle.wire_core.specs.declared.names.QueueRow.{QueueRow}
 use Rattle.wire_core.specs.Lists.{Passed}
 use Rattle.wire_core.specs.Marks.{sum_below}
 use Rattle.buffer_kit.specs.Conserving.{Count, counted, of_other_length, the_page}
-use Rattle.page_law.specs.Holders.{queue_has}
+use Rattle.wired_law.specs.PageLaw.Holders.{queue_has}
 use Rattle.blk_virt.specs.Desks.{holders}
 use Rattle.blk_virt.specs.declared.requests.Holder.{Holder}
 use Rattle.blk_virt.specs.declared.virtualiser.BlkVirt.{BlkVirt}

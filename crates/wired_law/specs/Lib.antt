@@ -2,3 +2,4 @@
 -- comes out of turn at any actor, and what it has of buffers (Buffers).
 pub mod Buffers
 pub mod Wiring
+pub mod PageLaw

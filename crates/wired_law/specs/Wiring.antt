@@ -15,7 +15,7 @@ use Rattle.wire_core.specs.Lists.{Passed}
 use Rattle.play_core.specs.Names.{Names, Wild, names_at, wild_in}
 use Rattle.play_core.specs.Sheets.{Scene, Sheet}
 use Rattle.net_law.specs.Receiving.{HandsOver}
-use Rattle.net_expect.specs.Expecting.{Program, Source}
+use Rattle.class_expect.specs.NetExpect.Expecting.{Program, Source}
 use Rattle.net_law.specs.Owners.Names.{ClientPools}
 use Rattle.owner_law.specs.Pools.Places.{PoolAt}
 use Rattle.net_law.specs.Parts.Parts.{NetPart}

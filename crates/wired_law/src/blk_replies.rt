@@ -9,7 +9,7 @@ ghost use Rattle.wire_core.specs.Ends.{Role, End};
 ghost use Rattle.wire_core.specs.Lists.{Passed};
 ghost use Rattle.play_core.specs.Sheets.{Scene};
 ghost use Rattle.owner_law.specs.Pools.Places.{PoolAt};
-ghost use Rattle.blk_expect.specs.Replies.{replies_of};
+ghost use Rattle.class_expect.specs.BlkExpect.Replies.{replies_of};
 ghost use Rattle.blk_law.specs.Sheets.Numbers.{BlkPlace, blk_client_at};
 ghost use Rattle.actor_set.specs.Parts.{Part, BlockPart};
 ghost use Rattle.actor_set.specs.Actors.{part_of};

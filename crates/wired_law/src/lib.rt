@@ -12,7 +12,7 @@ ghost use Rattle.wire_core.specs.Deeds.{Deed};
 ghost use Rattle.wire_core.specs.Ends.{Role, End};
 ghost use Rattle.wire_core.specs.Lists.{Passed, nothing_passed, with_deed};
 ghost use Rattle.wire_core.specs.Queues.{items_of};
-ghost use Rattle.net_expect.specs.Expecting.{Program, frames_for};
+ghost use Rattle.class_expect.specs.NetExpect.Expecting.{Program, frames_for};
 ghost use Rattle.play_core.specs.Names.{Names, wild_in};
 ghost use Rattle.play_core.specs.Sheets.{Scene};
 ghost use Rattle.net_law.specs.Owners.Names.{ClientPools};
@@ -30,6 +30,7 @@ ghost use Rattle.wired_law.specs.Wiring.{HasWholeIn, IsWiredIn, ClientsSendIn, A
 ghost use Rattle.wired_law.specs.Wiring.{AreInTurn, TellsKept};
 
 pub mod blk_replies;
+pub mod page_law;
 pub mod quiet;
 pub mod turning;
 

@@ -2,3 +2,4 @@
 pub mod Draws
 pub mod Lines
 pub mod Generated
+pub mod WorkloadLaw

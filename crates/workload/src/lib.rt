@@ -8,6 +8,7 @@ mod frames;
 mod generated;
 mod requests;
 mod streams;
+pub mod workload_law;
 
 pub use description::FULL_EXAMPLE;
 pub use generated::generate;

@@ -22,8 +22,8 @@ use Rattle.turn_kit.specs.ManyEnds.{intake_queues, outlet_queues, outlet_posts, 
 use Rattle.turn_kit.specs.Posts.{intake_post, outlet_post}
 use Rattle.turn_kit.specs.declared.ends.Intake.{Intake}
 use Rattle.turn_kit.specs.declared.ends.Outlet.{Outlet}
-use Rattle.serial_switch.specs.Carried.{byte_cargo, bytes_carried}
-use Rattle.serial_switch.specs.Switching.{input_of}
+use Rattle.class_expect.specs.SerialSwitch.Carried.{byte_cargo, bytes_carried}
+use Rattle.class_expect.specs.SerialSwitch.Switching.{input_of}
 use Rattle.actor_set.proofs.LawsLemmas.Rows.{carried_in}
 use Rattle.play_core.proofs.Merges.{merge_total}
 use Rattle.play_core.specs.Totals.{total}

@@ -6,7 +6,7 @@ use Rattle.cargo_core.specs.declared.item.Item.TheVariants as ItemOf
 use Rattle.wire_core.specs.Deeds.{Cargo}
 use Rattle.wire_core.specs.Queues.{items_of}
 use Rattle.wire_core.specs.Lists.{Passed}
-use Rattle.serial_switch.specs.Carried.{byte_cargo}
+use Rattle.class_expect.specs.SerialSwitch.Carried.{byte_cargo}
 use Rattle.device_model.specs.SerialTerminal.Terminals.{TerminalStandsFor}
 use Rattle.device_model.specs.declared.serial_terminal.Terminal.{Terminal}
 use Rattle.turn_kit.specs.Pipes.{PipeStandsFor}
@@ -14,7 +14,7 @@ use Rattle.turn_kit.specs.declared.pipe.Pipe.{Pipe}
 use Rattle.std.proofs.Common.{◌≤◌, Option, None, length, arith}
 use Rattle.wire_core.specs.declared.names.QueueId.{QueueId}
 use Rattle.turn_kit.specs.ManyEnds.{intake_queues}
-use Rattle.serial_switch.specs.Carried.{bytes_carried, byte_of}
+use Rattle.class_expect.specs.SerialSwitch.Carried.{bytes_carried, byte_of}
 use Rattle.serial_virt.specs.Receiving.{RxStandsFor}
 use Rattle.serial_virt.proofs.Sharing.{rx_row as rx_row_of}
 use Rattle.serial_law.specs.Dropped.{told_marks, client_queues}

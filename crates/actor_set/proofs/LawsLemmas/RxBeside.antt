@@ -17,9 +17,9 @@ use Rattle.wire_core.specs.Marks.{is_role, is_vain_look}
 use Rattle.wire_core.specs.Queues.{is_store}
 use Rattle.wire_core.proofs.Reasons.{fate_own}
 use Rattle.turn_kit.specs.ManyEnds.{outlet_queues}
-use Rattle.serial_switch.specs.Carried.{byte_cargo, bytes_carried}
-use Rattle.serial_switch.specs.Standing.{StandsAfter}
-use Rattle.serial_switch.specs.Switching.{input_of}
+use Rattle.class_expect.specs.SerialSwitch.Carried.{byte_cargo, bytes_carried}
+use Rattle.class_expect.specs.SerialSwitch.Standing.{StandsAfter}
+use Rattle.class_expect.specs.SerialSwitch.Switching.{input_of}
 use Rattle.serial_virt.specs.Shares.{Taker, is_put, is_put_at, byte_told, heard, serial_word, byte_fate, ClientStands}
 use Rattle.serial_virt.specs.Receiving.{RxStandsFor, RxEnd, clients_of, policy_of, taker_of, owed_to}
 use Rattle.serial_virt.specs.declared.rx.SerialVirtRx.{SerialVirtRx}

@@ -1,5 +1,5 @@
 //! The queues of a bus.
-use i2c_actors::{CLIENT_CAPACITY, SHARED_CAPACITY, bus_queues};
+use bus_law::i2c_actors::{CLIENT_CAPACITY, SHARED_CAPACITY, bus_queues};
 use std::test::Fail;
 
 #[test]

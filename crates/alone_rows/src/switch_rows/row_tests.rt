@@ -1,7 +1,7 @@
 //! What must come of two small texts, whatever the seed.
 
 use cargo_core::{Census, FrameLog, Memory};
-use ports_text::{PortFault, PortReport, read_ports};
+use line_text::ports_text::{PortFault, PortReport, read_ports};
 use std::alloc::Global;
 use std::test::Fail;
 use switch_play::switch_system::play_ports;

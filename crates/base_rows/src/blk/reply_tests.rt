@@ -2,8 +2,8 @@
 ghost use Rattle.std.specs.Prelude.{◌≡◌, ◌<◌, ◌≤◌, ◌+◌, ◌^◌, IfOk, length};
 
 use crate::blk::{entry, sector};
-use blk_expect::replies_of;
 use cargo_core::{Ask, BlkStatus, Bytes, Code, Memory, Reply};
+use class_expect::blk_expect::replies_of;
 use std::alloc::Global;
 use std::test::Fail;
 

@@ -13,7 +13,7 @@ use Rattle.play_core.specs.Totals.{total}
 use Rattle.play_core.proofs.Lists.{there_is, there_below}
 use Rattle.play_core.proofs.Walks.{begins_few}
 use Rattle.blk_mbr.specs.declared.part.Part.{Part}
-use Rattle.blk_expect.specs.Replies.{partition_in}
+use Rattle.class_expect.specs.BlkExpect.Replies.{partition_in}
 use Rattle.client_programs.specs.Blk.Asking.{needs_buffer, request_for}
 use Rattle.blk_virt.specs.Requests.{request_of}
 use Rattle.owner_law.specs.Pools.Places.{own_pool}

@@ -18,7 +18,7 @@ use Rattle.owner_law.specs.Keeping.{Keeps, at_start, all_taken, all_put}
 use Rattle.owner_law.proofs.Sums.{sum_none}
 use Rattle.owner_law.proofs.Named.{carried, buffers_are, buffers_none, keeps_plain}
 use Rattle.blk_mbr.specs.declared.part.Part.{Part}
-use Rattle.blk_expect.specs.Replies.{partition_in}
+use Rattle.class_expect.specs.BlkExpect.Replies.{partition_in}
 use Rattle.blk_virt.specs.Requests.{request_of}
 use Rattle.owner_law.specs.Pools.Places.{PoolAt, pool_hand, by_offset}
 use Rattle.blk_law.specs.Sheets.Parts.{BlkVirt, Sharer}

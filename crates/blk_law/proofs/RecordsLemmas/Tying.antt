@@ -16,8 +16,8 @@ use Rattle.cargo_core.specs.Items.{kind_of}
 use Rattle.cargo_core.specs.Lists.{IsPrefix}
 use Rattle.wire_core.specs.Deeds.{Cargo}
 use Rattle.blk_mbr.specs.declared.part.Part.{Part}
-use Rattle.blk_expect.specs.Judging.{status_of}
-use Rattle.blk_expect.specs.Replies.{has_partition, partition_bytes}
+use Rattle.class_expect.specs.BlkExpect.Judging.{status_of}
+use Rattle.class_expect.specs.BlkExpect.Replies.{has_partition, partition_bytes}
 use Rattle.device_model.specs.Disk.Serving.{answer_to, answers_to, done}
 use Rattle.blk_virt.specs.declared.requests.Holder.{Holder}
 use Rattle.blk_virt.specs.Requests.{asked_of_disk, for_disk, goes_on, is_at, is_bad, is_ok, is_own, moves_blocks, numbered, passed_on, refusal, request_of}

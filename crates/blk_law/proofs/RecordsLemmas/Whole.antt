@@ -7,7 +7,7 @@ use Rattle.cargo_core.specs.Items.{kind_of}
 use Rattle.cargo_core.specs.Lists.{IsPrefix}
 use Rattle.wire_core.specs.Deeds.{Cargo}
 use Rattle.blk_mbr.specs.declared.part.Part.{Part}
-use Rattle.blk_expect.specs.Replies.{has_partition, partition_bytes, partition_in}
+use Rattle.class_expect.specs.BlkExpect.Replies.{has_partition, partition_bytes, partition_in}
 use Rattle.client_programs.specs.Blk.Asking.{asked_from}
 use Rattle.blk_virt.specs.declared.requests.Holder.{Holder}
 use Rattle.blk_virt.specs.Requests.{is_bad}

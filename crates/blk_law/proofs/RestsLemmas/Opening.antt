@@ -19,7 +19,7 @@ use Rattle.net_law.specs.Parts.Table.{is_short}
 use Rattle.net_law.proofs.PartsLemmas.Items.{all_at}
 use Rattle.blk_mbr.specs.declared.part.Part.{Part}
 use Rattle.blk_mbr.specs.Partitions.{part_of}
-use Rattle.blk_expect.specs.Replies.{partition_in}
+use Rattle.class_expect.specs.BlkExpect.Replies.{partition_in}
 use Rattle.blk_virt.specs.declared.client.Client.{Client}
 use Rattle.blk_virt.specs.declared.opening.Block.{Block}
 use Rattle.blk_virt.specs.declared.requests.Holder.{Holder}

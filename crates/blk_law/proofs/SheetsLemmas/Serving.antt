@@ -24,7 +24,7 @@ use Rattle.net_law.proofs.PartsLemmas.Pairs.{twice, twice_same, pair_first, pair
 use Rattle.owner_law.proofs.PoolsLemmas.Merging.{Each, each_begun}
 use Rattle.net_law.proofs.TxParts.Growing.{merge_few, merge_grows}
 use Rattle.blk_virt.specs.Requests.{request_of, asked_of_disk, first_block}
-use Rattle.blk_expect.specs.Replies.{partition_in}
+use Rattle.class_expect.specs.BlkExpect.Replies.{partition_in}
 use Rattle.blk_law.specs.Sheets.Parts.{BlkVirt, Sharer}
 use Rattle.blk_law.specs.Sheets.Rows.{all_requests, answer_items, answers_due, first_item, goes_on_item, is_item_at, item_for_disk, items_back, numbered_item, requests_due, requests_on}
 use Rattle.blk_law.specs.Sheets.Table.{blk_sheet, sharer_wants}

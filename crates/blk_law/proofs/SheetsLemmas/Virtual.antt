@@ -22,8 +22,8 @@ use Rattle.play_core.proofs.Merges.{merge_map}
 use Rattle.play_core.proofs.Lists.{some_is, map_get, map_from}
 use Rattle.blk_mbr.specs.declared.part.Part.{Part}
 use Rattle.blk_mbr.specs.Partitions.{part_of}
-use Rattle.blk_expect.specs.Judging.{status_of}
-use Rattle.blk_expect.specs.Replies.{partition_in}
+use Rattle.class_expect.specs.BlkExpect.Judging.{status_of}
+use Rattle.class_expect.specs.BlkExpect.Replies.{partition_in}
 use Rattle.blk_virt.specs.Desks.{holders}
 use Rattle.blk_virt.specs.Openings.{KnowsParts, first_read}
 use Rattle.blk_virt.specs.Requests.{request_of, moves_blocks, is_own, is_bad, judged, is_ok, goes_on, for_disk, numbered, passed_on, is_at, range_of}

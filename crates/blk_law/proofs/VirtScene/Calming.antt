@@ -13,7 +13,7 @@ use Rattle.play_core.proofs.Lists.{map_alike}
 use Rattle.owner_law.specs.Pools.Places.{PoolAt}
 use Rattle.net_law.proofs.PartsLemmas.Pairs.{flat_alike}
 use Rattle.blk_mbr.specs.declared.part.Part.{Part}
-use Rattle.blk_expect.specs.Replies.{partition_in}
+use Rattle.class_expect.specs.BlkExpect.Replies.{partition_in}
 use Rattle.blk_virt.specs.Requests.{is_ok, request_of}
 use Rattle.blk_law.specs.Sheets.Parts.{BlkPart, DiskDevice, BlkDriver, BlkVirt, BlkClient, Sharer}
 use Rattle.blk_law.specs.Sheets.Rows.{ServesRequests, all_requests, answer_items, answers_due, goes_on_item, item_for_disk, items_back, numbered_item, passed_item, refusal_item, requests_on}

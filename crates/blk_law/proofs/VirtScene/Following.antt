@@ -20,7 +20,7 @@ use Rattle.net_law.proofs.PartsLemmas.Pairs.{twice, twice_same, pair_first, pair
 use Rattle.owner_law.proofs.PoolsLemmas.Merging.{Each, each_begun}
 use Rattle.net_law.proofs.TxParts.Growing.{merge_few, merge_grows}
 use Rattle.blk_virt.specs.Requests.{request_of, first_block, is_ok}
-use Rattle.blk_expect.specs.Replies.{partition_in}
+use Rattle.class_expect.specs.BlkExpect.Replies.{partition_in}
 use Rattle.blk_law.specs.Sheets.Parts.{Sharer}
 use Rattle.blk_law.specs.Sheets.Rows.{first_item, item_for_disk, items_back, numbered_item}
 use Rattle.blk_law.specs.VirtScene.Rows.{Judged, all_answers, all_told, answers_told, going_on, judge, owns, requests_told, told_due}

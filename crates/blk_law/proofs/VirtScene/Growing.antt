@@ -14,7 +14,7 @@ use Rattle.play_core.proofs.Lists.{map_alike}
 use Rattle.play_core.proofs.Naming.{still_named}
 use Rattle.owner_law.specs.Pools.Places.{PoolAt}
 use Rattle.net_law.proofs.PartsLemmas.Pairs.{flat_alike}
-use Rattle.blk_expect.specs.Replies.{partition_in}
+use Rattle.class_expect.specs.BlkExpect.Replies.{partition_in}
 use Rattle.blk_law.specs.Sheets.Parts.{BlkPart, DiskDevice, BlkDriver, BlkVirt, BlkClient, Sharer}
 use Rattle.blk_law.specs.Sheets.Rows.{items_back, numbered_item}
 use Rattle.blk_law.specs.VirtScene.Rows.{AnswersBoth, all_answers, all_told, answers_told, by_item, by_name, going_on, is_own_at, judge, owns, requests_told, told_due}

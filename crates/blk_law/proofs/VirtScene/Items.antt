@@ -16,7 +16,7 @@ use Rattle.play_core.proofs.Merges.{merge_map}
 use Rattle.play_core.proofs.Lists.{some_is, map_get, map_from}
 use Rattle.blk_mbr.specs.declared.part.Part.{Part}
 use Rattle.blk_mbr.specs.Partitions.{part_of}
-use Rattle.blk_expect.specs.Replies.{partition_in}
+use Rattle.class_expect.specs.BlkExpect.Replies.{partition_in}
 use Rattle.blk_virt.specs.Desks.{holders}
 use Rattle.blk_virt.specs.Openings.{KnowsParts, first_read}
 use Rattle.blk_virt.specs.Requests.{request_of, is_bad, goes_on, for_disk, numbered, is_at, range_of}

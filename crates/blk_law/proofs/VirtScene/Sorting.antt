@@ -12,7 +12,7 @@ use Rattle.play_core.proofs.Lists.{map_from}
 use Rattle.play_core.proofs.Naming.{told_is}
 use Rattle.net_law.proofs.PartsLemmas.Items.{all_at}
 use Rattle.blk_mbr.specs.declared.part.Part.{Part}
-use Rattle.blk_expect.specs.Replies.{partition_in}
+use Rattle.class_expect.specs.BlkExpect.Replies.{partition_in}
 use Rattle.blk_virt.specs.Requests.{is_own}
 use Rattle.blk_virt.specs.declared.requests.Holder.{Holder}
 use Rattle.blk_law.specs.Sheets.Parts.{Sharer}

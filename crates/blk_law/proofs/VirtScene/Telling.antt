@@ -8,7 +8,7 @@ use Rattle.wire_core.specs.Deeds.{Cargo}
 use Rattle.wire_core.specs.Queues.{items_of}
 use Rattle.play_core.specs.Names.{items_in, told}
 use Rattle.blk_mbr.specs.declared.part.Part.{Part}
-use Rattle.blk_expect.specs.Judging.{status_of}
+use Rattle.class_expect.specs.BlkExpect.Judging.{status_of}
 use Rattle.blk_virt.specs.Requests.{for_disk, goes_on, is_ok, is_own, judged, passed_on, refusal, request_of}
 use Rattle.blk_virt.specs.Serving.{answers_to}
 use Rattle.blk_virt.specs.declared.requests.Holder.{Holder}

@@ -7,7 +7,7 @@ use Rattle.cargo_core.specs.Lists.{IsPrefix}
 use Rattle.cargo_core.specs.Pages.{Paged}
 use Rattle.wire_core.specs.Deeds.{Cargo}
 use Rattle.blk_mbr.specs.declared.part.Part.{Part}
-use Rattle.blk_expect.specs.Replies.{partition_in, replies_of}
+use Rattle.class_expect.specs.BlkExpect.Replies.{partition_in, replies_of}
 use Rattle.client_programs.specs.Blk.Asking.{asked_from, replies_to}
 use Rattle.blk_virt.specs.declared.requests.Holder.{Holder}
 use Rattle.blk_virt.specs.Requests.{is_at, is_bad}

@@ -14,8 +14,8 @@ use Rattle.play_core.specs.Moved.{Moved}
 use Rattle.play_core.specs.Totals.{total}
 use Rattle.device_model.specs.Disk.Serving.{resp_to}
 use Rattle.blk_mbr.specs.declared.part.Part.{Part}
-use Rattle.blk_expect.specs.Judging.{status_of}
-use Rattle.blk_expect.specs.Replies.{partition_in}
+use Rattle.class_expect.specs.BlkExpect.Judging.{status_of}
+use Rattle.class_expect.specs.BlkExpect.Replies.{partition_in}
 use Rattle.client_programs.specs.Blk.Asking.{needs_buffer, request_for}
 use Rattle.blk_virt.specs.Requests.{request_of, response_of, is_ok, first_block, asked_of_disk}
 use Rattle.blk_virt.specs.Requests.{moves_blocks}

@@ -12,8 +12,8 @@ use Rattle.play_core.specs.Moved.{Moved}
 use Rattle.play_core.specs.Names.{Named, Names, Wild, by_sort, items_in, named}
 use Rattle.play_core.specs.Totals.{total}
 use Rattle.blk_mbr.specs.declared.part.Part.{Part}
-use Rattle.blk_expect.specs.Judging.{status_of}
-use Rattle.blk_expect.specs.Replies.{partition_in}
+use Rattle.class_expect.specs.BlkExpect.Judging.{status_of}
+use Rattle.class_expect.specs.BlkExpect.Replies.{partition_in}
 use Rattle.blk_virt.specs.Requests.{request_of, is_ok}
 use Rattle.owner_law.specs.Pools.Places.{PoolAt}
 use Rattle.blk_law.specs.Sheets.Parts.{Sharer}

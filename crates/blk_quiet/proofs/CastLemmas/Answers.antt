@@ -12,8 +12,8 @@ use Rattle.cargo_core.specs.declared.item.Code.TheVariants as Asked
 use Rattle.cargo_core.specs.declared.item.Item.TheVariants as ItemOf
 use Rattle.wire_core.specs.Deeds.{Cargo}
 use Rattle.play_core.proofs.Lists.{some_is}
-use Rattle.blk_expect.specs.BlkKit.Blocks.{blocks_at}
-use Rattle.blk_expect.specs.BlkKit.Pages.{filled_body}
+use Rattle.class_expect.specs.BlkExpect.BlkKit.Blocks.{blocks_at}
+use Rattle.class_expect.specs.BlkExpect.BlkKit.Pages.{filled_body}
 use Rattle.device_model.specs.Disk.Serving.{answer_to, answers_to, body_back, done}
 use Rattle.blk_virt.specs.Openings.{first_read, has_sector, sector_of}
 use Rattle.blk_virt.specs.Requests.{brings, page_named}

@@ -12,11 +12,11 @@ use Rattle.cargo_core.specs.declared.item.Code.TheVariants as Asked
 use Rattle.cargo_core.specs.declared.item.Item.TheVariants as ItemOf
 use Rattle.cargo_core.specs.declared.item.QueueKind.TheVariants as Kind
 use Rattle.wire_core.specs.Deeds.{Cargo}
-use Rattle.blk_expect.specs.BlkKit.Pages.{has_room}
+use Rattle.class_expect.specs.BlkExpect.BlkKit.Pages.{has_room}
 use Rattle.blk_mbr.specs.declared.part.Part.{Part}
 use Rattle.blk_mbr.proofs.Law.{law_to}
-use Rattle.blk_expect.specs.Judging.{can_move, status_of}
-use Rattle.blk_expect.specs.Replies.{partition_in}
+use Rattle.class_expect.specs.BlkExpect.Judging.{can_move, status_of}
+use Rattle.class_expect.specs.BlkExpect.Replies.{partition_in}
 use Rattle.device_model.specs.Disk.Serving.{is_stray, strays_by}
 use Rattle.blk_virt.specs.Requests.{asked_of_disk, first_block, for_disk, goes_on, is_bad, is_ok, is_own, moves_blocks, numbered, request_of}
 use Rattle.blk_virt.specs.declared.requests.Holder.{Holder}

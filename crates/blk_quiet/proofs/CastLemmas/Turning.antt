@@ -15,7 +15,7 @@ use Rattle.net_law.proofs.PartsLemmas.Leasing.{prefix_get}
 use Rattle.net_law.proofs.PartsLemmas.Items.{all_at}
 use Rattle.blk_mbr.specs.declared.part.Part.{Part}
 use Rattle.blk_mbr.specs.Partitions.{part_of}
-use Rattle.blk_expect.specs.Replies.{partition_in}
+use Rattle.class_expect.specs.BlkExpect.Replies.{partition_in}
 use Rattle.device_model.specs.Disk.Disks as disk
 use Rattle.device_model.specs.Disk.Serving.{answer_to, answers_to, done, is_stray}
 use Rattle.blk_virt.specs.Desks.{holders}

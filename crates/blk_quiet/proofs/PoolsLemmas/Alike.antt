@@ -12,8 +12,8 @@ use Rattle.wire_core.specs.Deeds.{Cargo}
 use Rattle.play_core.proofs.Lists.{some_is}
 use Rattle.owner_law.specs.Things.{Buffer}
 use Rattle.owner_law.specs.Pages.{as_page}
-use Rattle.blk_expect.specs.BlkKit.Blocks.{blocks_at}
-use Rattle.blk_expect.specs.BlkKit.Pages.{filled_body}
+use Rattle.class_expect.specs.BlkExpect.BlkKit.Blocks.{blocks_at}
+use Rattle.class_expect.specs.BlkExpect.BlkKit.Pages.{filled_body}
 use Rattle.blk_mbr.specs.declared.part.Part.{Part}
 use Rattle.device_model.specs.Disk.Serving.{answer_to, answers_to as disk_answers, body_back, done}
 use Rattle.blk_virt.specs.Requests.{goes_on, is_at, passed_on, refusal, request_of}

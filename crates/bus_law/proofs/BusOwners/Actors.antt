@@ -27,7 +27,7 @@ use Rattle.i2c_virt.specs.Desks.{forwarded}
 use Rattle.i2c_virt.specs.Works.{IsSomeones, judged_of, entries_of, of_client}
 use Rattle.i2c_virt.specs.Virtualising.{VirtRow, strays_back, strays_of}
 use Rattle.i2c_virt.specs.BusDevices.{BusRow}
-use Rattle.i2c_actors.specs.Casting.{AreEverySecond}
+use Rattle.bus_law.specs.I2cActors.Casting.{AreEverySecond}
 use Rattle.bus_law.specs.BusOwners.Naming.{bus_naming, own_window, shared_windows}
 use Rattle.bus_law.specs.BusOwners.Keepers.{pool_size, pool_owner, client_ends, served_ends, virt_ends, driver_ends, device_ends}
 use Rattle.bus_law.proofs.BusOwners.Names.{request_names, reply_names, shared_names}

@@ -28,9 +28,9 @@ use Rattle.i2c_virt.specs.declared.bus_device.BusDevice.{BusDevice}
 use Rattle.i2c_virt.specs.Virtualising.{I2cVirtStandsFor, VirtRow}
 use Rattle.i2c_virt.specs.Drivers.{DriverStandsFor, DriverRow}
 use Rattle.i2c_virt.specs.BusDevices.{BusStandsFor, BusRow}
-use Rattle.i2c_actors.specs.declared.member.Member.{Member}
-use Rattle.i2c_actors.specs.Members.{Made, Asks, made_of, member_means, MemberStandsFor}
-use Rattle.i2c_actors.specs.Casting.{StandsAt, AreMade}
+use Rattle.bus_law.specs.declared.i2c_actors.member.Member.{Member}
+use Rattle.bus_law.specs.I2cActors.Members.{Made, Asks, made_of, member_means, MemberStandsFor}
+use Rattle.bus_law.specs.I2cActors.Casting.{StandsAt, AreMade}
 use Rattle.bus_law.specs.Plays.{IsBusTale}
 use Rattle.bus_law.proofs.Staging.{client_of, virt_of, driver_of, bus_of}
 use Rattle.bus_law.specs.BusOwners.Naming.{bus_naming}

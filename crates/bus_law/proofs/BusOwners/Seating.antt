@@ -8,8 +8,8 @@ use Rattle.play_core.specs.Sheets.{AreApart, IsSeat}
 use Rattle.play_core.specs.Wants.{intake, outlet}
 use Rattle.play_core.proofs.Lists.{some_is, there_below}
 use Rattle.owner_law.specs.Keeping.{Keeper}
-use Rattle.i2c_actors.specs.Queues.{AreQueues}
-use Rattle.i2c_actors.proofs.Places.{get_split, Which, Request, Reply, ToDriver, FromDriver, ToBus, FromBus, which, holder, seat, row_held}
+use Rattle.bus_law.specs.I2cActors.Queues.{AreQueues}
+use Rattle.bus_law.proofs.I2cActors.Places.{get_split, Which, Request, Reply, ToDriver, FromDriver, ToBus, FromBus, which, holder, seat, row_held}
 use Rattle.bus_law.specs.BusOwners.Keepers.{keeper, client_ends, served_ends, virt_ends, driver_ends, device_ends, client_keepers, last_keepers, bus_keepers}
 
 -- an actor that keeps buffers, by its number

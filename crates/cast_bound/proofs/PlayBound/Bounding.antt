@@ -9,8 +9,8 @@ use Rattle.trace_text.specs.declared.trace.Trace.{Trace}
 use Rattle.region_layout.specs.Rows.{queues_of, actors_of}
 use Rattle.expect_core.specs.Budgets.{counts_of, hops_of, most_ends, budget_of}
 use Rattle.step_bound.proofs.Law.{bounded}
-use Rattle.region_laws.proofs.BudgetsLemmas.Actors.{actors_are}
-use Rattle.region_laws.proofs.BudgetsLemmas.Most.{most_is}
+use Rattle.layout_laws.proofs.RegionLaws.BudgetsLemmas.Actors.{actors_are}
+use Rattle.layout_laws.proofs.RegionLaws.BudgetsLemmas.Most.{most_is}
 use Rattle.cast_bound.proofs.PlayBound.Owners.{most_ends_have}
 
 -- a journal of a plan is shorter than its budget

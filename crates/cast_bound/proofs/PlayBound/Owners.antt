@@ -5,8 +5,8 @@ use Rattle.wire_core.specs.Ends.{Role, Consumer, Producer}
 use Rattle.wire_core.specs.Journal.{owner_of}
 use Rattle.wire_core.specs.Marks.{ends_of, AreOwned}
 use Rattle.wire_core.proofs.Sinces.{eqb_apart}
-use Rattle.region_laws.specs.Budgets.Ends as budget
-use Rattle.region_laws.specs.Budgets.Ends.{IsMostEnds}
+use Rattle.layout_laws.specs.RegionLaws.Budgets.Ends as budget
+use Rattle.layout_laws.specs.RegionLaws.Budgets.Ends.{IsMostEnds}
 
 -- counted in either order
 same_ends : (a : ℕ) (rows : List QueueRow) → ends_of a rows ≡ budget.ends_of a rows

@@ -30,7 +30,7 @@ use Rattle.blk_virt.specs.Requests.{moves_blocks, request_of}
 use Rattle.client_programs.specs.declared.rogue.Rogue.{Rogue}
 use Rattle.client_programs.specs.Rogue.Acts.{IsNextOf, item_for, next_acts}
 use Rattle.client_programs.specs.Rogue.Clients.{can_put, ends_of, left_of}
-use Rattle.page_law.specs.WildPages.Rounds.{AllMove}
+use Rattle.wired_law.specs.PageLaw.WildPages.Rounds.{AllMove}
 use Rattle.actor_set.specs.Parts.{HostilePart, Part, RoguePart}
 use Rattle.actor_set.specs.Actors.{ActorEnd, ActorTurned, FitsActor, part_of}
 use Rattle.actor_set.specs.declared.actor.Actor.{Actor}

@@ -59,7 +59,7 @@ use Rattle.blk_law.specs.VirtScene.Playing.{BothInTurn}
 use Rattle.blk_law.specs.Sheets.Playing.{sharers, virt_part}
 use Rattle.blk_law.specs.Sheets.Table.{sharer_ends}
 use Rattle.blk_quiet.proofs.CastLemmas.Numbers.{virt_queues}
-use Rattle.page_law.specs.WildPages.Rounds.{AllMove}
+use Rattle.wired_law.specs.PageLaw.WildPages.Rounds.{AllMove}
 use Rattle.actor_set.specs.Parts.{HostilePart, Part, RoguePart, ClientPart, NetworkPart, SendingPart, BlockPart}
 use Rattle.actor_set.specs.Actors.{part_of, rogue_part}
 use Rattle.actor_set.specs.declared.actor.Actor.{Actor}
@@ -235,7 +235,7 @@ module _ (rows : List QueueRow) (place : PoolPlace) (actors : List Actor) (passe
     pub client_calm : (k : ℕ) (q : ClientPools) → slice_get net.pools k ≡ Some q → (w (client_first net.first k + 2) ≡ false) ⊎ (w (client_first net.first k + 5) ≡ false) → (w (client_first net.first k + 4) ≡ false) × (w (client_first net.first k + 3) ≡ false)
     client_calm k q at some = by (w (client_first net.first k + 4)) refl
       where
-        aloof : (program : Rattle.net_expect.specs.Expecting.Program) (mac : Mac) → Serves (NetworkPart (client_at net.first k program mac (own_pools q))) → ⊥
+        aloof : (program : Rattle.class_expect.specs.NetExpect.Expecting.Program) (mac : Mac) → Serves (NetworkPart (client_at net.first k program mac (own_pools q))) → ⊥
         aloof program mac (inl x) = let e = x.5 in cc
         aloof program mac (inr (inl x)) = let e = x.2 in cc
         aloof program mac (inr (inr x)) = let e = x.2 in cc

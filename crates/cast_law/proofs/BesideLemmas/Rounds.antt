@@ -42,14 +42,14 @@ use Rattle.blk_law.specs.Sheets.Numbers.{BlkPlace, virt_at}
 use Rattle.blk_quiet.proofs.CastLemmas.Numbers.{sharers_are, virt_queues}
 use Rattle.client_programs.specs.declared.rogue.Rogue.{Rogue}
 use Rattle.client_programs.specs.Rogue.Clients.{left_at_start}
-use Rattle.page_law.specs.Paths.{IsWay}
-use Rattle.page_law.specs.WildPages.Rounds.{AllMove, IsClosed, Spares, blk_queues, put_there, queues_of}
-use Rattle.page_law.proofs.ActorsLemmas.Pages.{none_sum}
-use Rattle.page_law.proofs.ActorsLemmas.Plain.{copier_conserves}
-use Rattle.page_law.proofs.TurnsLemmas.Turning.{back_good}
-use Rattle.page_law.proofs.WildPages.Rounds.Asking.{asked_closed}
-use Rattle.page_law.proofs.WildPages.Rounds.Going.{goes_on}
-use Rattle.page_law.proofs.WildPages.Rounds.Serving.{closed}
+use Rattle.wired_law.specs.PageLaw.Paths.{IsWay}
+use Rattle.wired_law.specs.PageLaw.WildPages.Rounds.{AllMove, IsClosed, Spares, blk_queues, put_there, queues_of}
+use Rattle.wired_law.proofs.PageLaw.ActorsLemmas.Pages.{none_sum}
+use Rattle.wired_law.proofs.PageLaw.ActorsLemmas.Plain.{copier_conserves}
+use Rattle.wired_law.proofs.PageLaw.TurnsLemmas.Turning.{back_good}
+use Rattle.wired_law.proofs.PageLaw.WildPages.Rounds.Asking.{asked_closed}
+use Rattle.wired_law.proofs.PageLaw.WildPages.Rounds.Going.{goes_on}
+use Rattle.wired_law.proofs.PageLaw.WildPages.Rounds.Serving.{closed}
 use Rattle.actor_set.specs.Parts.{HostilePart, Part, RoguePart, BlockPart, NetworkPart, SendingPart}
 use Rattle.actor_set.specs.Actors.{FitsActor, part_of, rogue_part}
 use Rattle.actor_set.specs.declared.actor.Actor.{Actor}

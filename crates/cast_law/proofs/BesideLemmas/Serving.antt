@@ -24,7 +24,7 @@ use Rattle.play_core.proofs.Lists.{some_is, map_get, map_from, there_is, there_b
 use Rattle.owner_law.specs.Things.{Window, Naming, buffer_at, buffer_of, is_named}
 use Rattle.owner_law.specs.Pages.{as_page}
 use Rattle.buffer_kit.specs.Virtualising.{from_queues, to_queues}
-use Rattle.blk_expect.specs.Judging.{status_of}
+use Rattle.class_expect.specs.BlkExpect.Judging.{status_of}
 use Rattle.blk_mbr.specs.declared.part.Part.{Part}
 use Rattle.blk_mbr.specs.Partitions.{part_of}
 use Rattle.blk_virt.specs.Desks.{holders, IsSomeones}
@@ -53,7 +53,7 @@ use Rattle.blk_law.proofs.OwnersLemmas.Windows.{on_name, own_name}
 use Rattle.blk_law.proofs.OwnersLemmas.Serving.{numbered_name}
 use Rattle.blk_quiet.proofs.PoolsLemmas.Alike.{SamePage, ArePaired, own_paired, own_back_at, answers_paired}
 use Rattle.blk_quiet.proofs.PoolsLemmas.Carrying.{put_at, took_at, answer_carries, carries_answer}
-use Rattle.page_law.specs.WildPages.Rounds.{AllMove}
+use Rattle.wired_law.specs.PageLaw.WildPages.Rounds.{AllMove}
 
 -- a request in its client's own buffer is at the offset of that
 own_in : (h : Holder) (x : Cargo) → is_own h x ≡ true → (number : ℕ) × (number < h.buffers) × ((request_of x.0).addr ≡ number * blk_buffer_bytes)

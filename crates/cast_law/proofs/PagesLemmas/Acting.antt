@@ -18,12 +18,12 @@ use Rattle.buffer_kit.proofs.Conserving.{counted-append}
 use Rattle.net_virt_tx.specs.declared.client.Client.{Client as Shipping}
 use Rattle.net_virt_tx.specs.Traffics.{senders}
 use Rattle.blk_virt.specs.Desks.{holders}
-use Rattle.page_law.proofs.ActorsLemmas.Plain.{copier_conserves, client_conserves, driver_conserves, device_conserves}
-use Rattle.page_law.proofs.ActorsLemmas.Sending.{sender_conserves}
-use Rattle.page_law.proofs.ActorsLemmas.Receiving.{receiver_conserves}
-use Rattle.page_law.proofs.ActorsLemmas.Serial.{terminal_conserves, receiver_conserves as serial_receiver_conserves, sender_conserves as serial_sender_conserves}
-use Rattle.page_law.proofs.ActorsLemmas.Pages.{pool_weight}
-use Rattle.page_law.proofs.DiskLemmas.Answering.{disk_conserves}
+use Rattle.wired_law.proofs.PageLaw.ActorsLemmas.Plain.{copier_conserves, client_conserves, driver_conserves, device_conserves}
+use Rattle.wired_law.proofs.PageLaw.ActorsLemmas.Sending.{sender_conserves}
+use Rattle.wired_law.proofs.PageLaw.ActorsLemmas.Receiving.{receiver_conserves}
+use Rattle.wired_law.proofs.PageLaw.ActorsLemmas.Serial.{terminal_conserves, receiver_conserves as serial_receiver_conserves, sender_conserves as serial_sender_conserves}
+use Rattle.wired_law.proofs.PageLaw.ActorsLemmas.Pages.{pool_weight}
+use Rattle.wired_law.proofs.PageLaw.DiskLemmas.Answering.{disk_conserves}
 use Rattle.net_law.specs.Parts.Playing.{stock_pool}
 use Rattle.net_quiet.proofs.TxOwners.Holding.{shippers_came, shippers_went}
 use Rattle.net_quiet.proofs.PoolsLemmas.Lending.{lessees_came, lessees_went}

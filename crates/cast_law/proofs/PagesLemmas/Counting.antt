@@ -17,8 +17,8 @@ use Rattle.owner_law.specs.Pools.Places.{PoolAt, numbers_from, pool_hand}
 use Rattle.owner_law.proofs.Sums.{sum_flat, sum_none}
 use Rattle.owner_law.proofs.PoolsLemmas.Sizing.{number_there, spread_dealt}
 use Rattle.buffer_kit.specs.Conserving.{Count, the_page, of_other_length}
-use Rattle.page_law.proofs.ActorsLemmas.Pages.{same_sum, none_sum, first_sum}
-use Rattle.page_law.proofs.LawLemmas.Placing.{below_at}
+use Rattle.wired_law.proofs.PageLaw.ActorsLemmas.Pages.{same_sum, none_sum, first_sum}
+use Rattle.wired_law.proofs.PageLaw.LawLemmas.Placing.{below_at}
 use Rattle.net_law.specs.Parts.Parts.{NetDevice, NetDriver, NetReceiver, NetCopier, NetClient}
 use Rattle.blk_law.specs.Sheets.Parts.{DiskDevice, BlkDriver, BlkVirt, BlkClient}
 use Rattle.actor_set.specs.Parts.{PageAt, Part, UartPart, DriverPart, RxPart, TxPart, ClientPart, NetworkPart, SendingPart, BlockPart, HostilePart}

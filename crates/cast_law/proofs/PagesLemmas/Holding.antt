@@ -25,9 +25,9 @@ use Rattle.owner_law.proofs.PoolsLemmas.Handing.{carry_takes}
 use Rattle.buffer_kit.specs.Conserving.{Count, counted, weighed, the_page, of_other_length, Conserves}
 use Rattle.turn_kit.specs.Hands.{bodies_of}
 use Rattle.buffer_kit.proofs.Conserving.{counted-append}
-use Rattle.page_law.specs.Holders.{PageHolder, AreHeld, keeper, has, queue_has, start_counted}
-use Rattle.page_law.proofs.ActorsLemmas.Pages.{same_sum, first_sum}
-use Rattle.page_law.proofs.LawLemmas.Summing.{whole}
+use Rattle.wired_law.specs.PageLaw.Holders.{PageHolder, AreHeld, keeper, has, queue_has, start_counted}
+use Rattle.wired_law.proofs.PageLaw.ActorsLemmas.Pages.{same_sum, first_sum}
+use Rattle.wired_law.proofs.PageLaw.LawLemmas.Summing.{whole}
 use Rattle.actor_set.specs.Parts.{Part}
 use Rattle.actor_set.specs.Actors.{IsWhole, actor_hand, part_of}
 use Rattle.actor_set.specs.declared.actor.Actor.{Actor}

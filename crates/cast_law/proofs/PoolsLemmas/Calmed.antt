@@ -7,7 +7,7 @@ use Rattle.cargo_core.specs.declared.item.Ask.{Ask}
 use Rattle.frame_core.specs.declared.mac.Mac.{Mac}
 use Rattle.wire_core.specs.declared.names.QueueRow.{QueueRow}
 use Rattle.wire_core.specs.Marks.{sum_below}
-use Rattle.net_expect.specs.Expecting.{Program}
+use Rattle.class_expect.specs.NetExpect.Expecting.{Program}
 use Rattle.buffer_kit.specs.Conserving.{Count}
 use Rattle.play_core.specs.Manners.{Calm}
 use Rattle.play_core.specs.Moved.{Seat}
@@ -16,7 +16,7 @@ use Rattle.play_core.specs.Sheets.{AreSeated, IsSeat, Scene}
 use Rattle.play_core.specs.Wants.{intake, outlet}
 use Rattle.play_core.proofs.Lists.{some_is, there_below, there_is}
 use Rattle.owner_law.specs.Pools.Places.{PoolAt}
-use Rattle.page_law.proofs.ActorsLemmas.Pages.{first_sum}
+use Rattle.wired_law.proofs.PageLaw.ActorsLemmas.Pages.{first_sum}
 use Rattle.net_law.specs.Owners.Names.{ClientPools}
 use Rattle.net_law.specs.Parts.Parts.{NetPart}
 use Rattle.net_law.specs.Parts.Numbers.{client_at, client_first}

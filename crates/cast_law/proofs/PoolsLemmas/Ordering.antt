@@ -15,7 +15,7 @@ use Rattle.play_core.proofs.Lists.{some_is, there_is}
 use Rattle.play_core.proofs.Walks.{begins_few}
 use Rattle.owner_law.specs.Things.{Window, Answers, Naming}
 use Rattle.client_programs.specs.Blk.Asking.{needs_buffer, request_for}
-use Rattle.blk_expect.specs.Replies.{partition_in}
+use Rattle.class_expect.specs.BlkExpect.Replies.{partition_in}
 use Rattle.owner_law.specs.Pools.Places.{PoolAt, own_pool}
 use Rattle.net_law.specs.Parts.Parts.{Way}
 use Rattle.net_law.proofs.PartsLemmas.Leasing.{prefix_get}

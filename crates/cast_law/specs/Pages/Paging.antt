@@ -16,7 +16,7 @@ use Rattle.net_virt_rx.specs.Sharing.{lent_bodies}
 use Rattle.net_law.specs.Parts.Parts.{NetPart, NetDevice, NetDriver, NetReceiver, NetCopier}
 use Rattle.net_law.specs.Parts.Parts.{NetClient}
 use Rattle.blk_law.specs.Sheets.Parts.{BlkPart, DiskDevice, BlkDriver, BlkVirt, BlkClient}
-use Rattle.page_law.specs.Holders.{PageHolder}
+use Rattle.wired_law.specs.PageLaw.Holders.{PageHolder}
 use Rattle.actor_set.specs.Parts.{Part, UartPart, DriverPart, RxPart, TxPart, ClientPart}
 use Rattle.actor_set.specs.Parts.{NetworkPart, SendingPart, BlockPart, HostilePart, PageAt}
 use Rattle.actor_set.specs.Actors.{ActorStandsFor, actor_hand, part_of}

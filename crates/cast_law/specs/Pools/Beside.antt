@@ -18,7 +18,7 @@ use Rattle.net_law.specs.Owners.Names.{ClientPools}
 use Rattle.net_law.specs.Parts.Numbers.{client_first}
 use Rattle.net_law.specs.TxParts.Numbers.{NetPlace}
 use Rattle.blk_law.specs.Sheets.Numbers.{BlkPlace}
-use Rattle.page_law.specs.WildPages.Rounds.{AllMove}
+use Rattle.wired_law.specs.PageLaw.WildPages.Rounds.{AllMove}
 use Rattle.actor_set.specs.Actors.{ActorEnd, part_of}
 use Rattle.actor_set.specs.declared.actor.Actor.{Actor}
 use Rattle.actor_set.specs.Laws.Kinds.{hostiles, scene_of, sheet}

@@ -3,7 +3,7 @@
 use Rattle.std.specs.Prelude.{ℕ, Bool, true, false, nat_le, if◌then◌else◌, List, [], length, map}
 use Rattle.frame_core.specs.declared.mac.Mac.{Mac}
 use Rattle.frame_core.specs.Frames.{turned_round}
-use Rattle.net_expect.specs.Expecting.{Program, Sink, Source, Echo}
+use Rattle.class_expect.specs.NetExpect.Expecting.{Program, Sink, Source, Echo}
 use Rattle.client_programs.specs.declared.net.program.NetProgram.{NetProgram}
 use Rattle.client_programs.specs.declared.net.program.NetProgram.TheVariants as Kind
 use Rattle.client_programs.specs.declared.net.program.ClientProgram.{ClientProgram}

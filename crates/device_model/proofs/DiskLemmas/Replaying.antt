@@ -9,9 +9,9 @@ use Rattle.cargo_core.specs.Bodies.{buffers_in, buffers_of}
 use Rattle.wire_core.specs.Deeds.{Cargo}
 use Rattle.turn_kit.specs.Hands.{bodies_of}
 use Rattle.turn_kit.proofs.Holding.{cargo-cons}
-use Rattle.blk_expect.specs.BlkKit.Blocks.{blocks_at}
-use Rattle.blk_expect.specs.BlkKit.Pages.{has_room}
-use Rattle.blk_expect.proofs.BlkKit.Counts.{filled_in}
+use Rattle.class_expect.specs.BlkExpect.BlkKit.Blocks.{blocks_at}
+use Rattle.class_expect.specs.BlkExpect.BlkKit.Pages.{has_room}
+use Rattle.class_expect.proofs.BlkExpect.BlkKit.Counts.{filled_in}
 use Rattle.device_model.specs.Disk.Serving.{answer_to, answers_to, body_back, done, image_after, is_stray, strays_by}
 
 -- one entry more is answered on the image that those before it left

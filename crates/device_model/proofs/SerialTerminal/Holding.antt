@@ -3,7 +3,7 @@ use Rattle.wire_core.specs.Lists.{Passed}
 use Rattle.cargo_core.specs.Bodies.{buffers_of}
 use Rattle.turn_kit.specs.Hands.{bodies_of}
 use Rattle.turn_kit.proofs.Holding.{at_one}
-use Rattle.serial_switch.proofs.Carrying.{bytes_hold_none}
+use Rattle.class_expect.proofs.SerialSwitch.Carrying.{bytes_hold_none}
 use Rattle.device_model.specs.declared.serial_terminal.Terminal.{Terminal}
 use Rattle.device_model.specs.SerialTerminal.Terminals.{TerminalStandsFor, TerminalBalances}
 

@@ -5,7 +5,7 @@ use Rattle.std.proofs.lemmas.Option.{slice_get_within, get_or_from_slice_get}
 use Rattle.cargo_core.specs.declared.item.Item.{Item}
 use Rattle.wire_core.specs.Deeds.{Cargo, given}
 use Rattle.wire_core.specs.Lists.{Passed}
-use Rattle.serial_switch.specs.Carried.{byte_cargo}
+use Rattle.class_expect.specs.SerialSwitch.Carried.{byte_cargo}
 use Rattle.device_model.specs.declared.serial_terminal.Terminal.{Terminal}
 use Rattle.device_model.specs.SerialTerminal.Terminals.{TerminalStandsFor, TerminalRow}
 

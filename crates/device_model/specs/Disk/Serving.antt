@@ -8,8 +8,8 @@ use Rattle.cargo_core.specs.declared.item.Code.TheVariants as Asked
 use Rattle.cargo_core.specs.declared.item.Item.{Item}
 use Rattle.cargo_core.specs.declared.item.Item.TheVariants as ItemOf
 use Rattle.wire_core.specs.Deeds.{Cargo}
-use Rattle.blk_expect.specs.BlkKit.Blocks.{has_blocks, blocks_at, with_blocks, moved_blocks}
-use Rattle.blk_expect.specs.BlkKit.Pages.{has_room, carried_blocks, filled_body}
+use Rattle.class_expect.specs.BlkExpect.BlkKit.Blocks.{has_blocks, blocks_at, with_blocks, moved_blocks}
+use Rattle.class_expect.specs.BlkExpect.BlkKit.Pages.{has_room, carried_blocks, filled_body}
 
 -- a request is out of turn where it is a read or a write past the image, or a write without a page
 -- of its count of blocks

@@ -11,7 +11,7 @@ use Rattle.turn_kit.specs.Table.{Agrees, start_state}
 use Rattle.turn_kit.specs.Turns.{Round}
 use Rattle.turn_kit.specs.Posts.{intake_post, outlet_post}
 use Rattle.turn_kit.specs.Hands.{Balances, bodies_at}
-use Rattle.serial_switch.specs.Carried.{byte_cargo, bytes_carried}
+use Rattle.class_expect.specs.SerialSwitch.Carried.{byte_cargo, bytes_carried}
 use Rattle.device_model.specs.declared.serial_terminal.Terminal.{Terminal}
 
 -- both ends are the terminal's own, and as it keeps them; both are queues of bytes

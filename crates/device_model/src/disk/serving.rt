@@ -3,8 +3,10 @@ ghost use Rattle.std.specs.Prelude.{◌≡◌, ◌*◌, ◌≤◌, true, false, 
 ghost use Rattle.device_model.specs.Disk.Serving.{is_stray, strays_by, resp_to, body_back};
 ghost use Rattle.device_model.specs.Disk.Serving.{stored, answer_to, done};
 
-use blk_expect::blk_kit::{blocks_at, carried_blocks, fill, has_blocks, has_room, moved_blocks};
 use cargo_core::{BLOCK_BYTES, BlkReq, BlkResp, BlkStatus, Body, Bytes, Code, Item};
+use class_expect::blk_expect::blk_kit::{
+    blocks_at, carried_blocks, fill, has_blocks, has_room, moved_blocks,
+};
 
 // Whether a request is out of turn.
 fn strays(image: &[u8], r: BlkReq, body: &Body) -> bool

@@ -10,7 +10,7 @@ use Rattle.wire_core.proofs.Fating.{without-map}
 use Rattle.turn_kit.specs.declared.pipe.Pipe.{Pipe}
 use Rattle.pipe_driver.specs.declared.pipes.Pipes.{Pipes}
 use Rattle.buffer_kit.specs.Entries.{frame_of}
-use Rattle.net_expect.specs.Expecting.{Program, Sink, Source, Echo, frames_for, is_for_client, sends_of}
+use Rattle.class_expect.specs.NetExpect.Expecting.{Program, Sink, Source, Echo, frames_for, is_for_client, sends_of}
 use Rattle.device_model.specs.Ethernet.Devices.{accepted, frames_dropped}
 use Rattle.device_model.specs.declared.ethernet.EthDevice.{EthDevice}
 use Rattle.net_copier.specs.Copying.{leased_bytes, leases_dropped}

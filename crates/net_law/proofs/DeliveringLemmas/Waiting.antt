@@ -8,7 +8,7 @@ use Rattle.wire_core.specs.Lists.{Passed}
 use Rattle.wire_core.proofs.Fating.{without_none}
 use Rattle.turn_kit.specs.declared.pipe.Pipe.{Pipe}
 use Rattle.pipe_driver.specs.declared.pipes.Pipes.{Pipes}
-use Rattle.net_expect.specs.Expecting.{Program, Sink, Source, Echo, frames_for, sends_of}
+use Rattle.class_expect.specs.NetExpect.Expecting.{Program, Sink, Source, Echo, frames_for, sends_of}
 use Rattle.device_model.specs.Ethernet.Devices.{accepted}
 use Rattle.device_model.specs.declared.ethernet.EthDevice.{EthDevice}
 use Rattle.device_model.proofs.EthernetLemmas.Dropping.{all_accepted, held as device_held, holds as device_holds}

@@ -9,7 +9,7 @@ use Rattle.play_core.specs.Moved.{Moved, moved}
 use Rattle.play_core.specs.Sheets.{Scene}
 use Rattle.play_core.proofs.Lists.{there_is, there_below}
 use Rattle.frame_core.specs.declared.mac.Mac.{Mac}
-use Rattle.net_expect.specs.Expecting.{Program}
+use Rattle.class_expect.specs.NetExpect.Expecting.{Program}
 use Rattle.buffer_kit.specs.Entries.{len_of}
 use Rattle.net_law.specs.Owners.Names.{ClientPools}
 use Rattle.owner_law.specs.Pools.Places.{by_offset, numbers_from}

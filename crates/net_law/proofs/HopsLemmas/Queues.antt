@@ -13,7 +13,7 @@ use Rattle.play_core.proofs.Lists.{some_is}
 use Rattle.play_core.proofs.Merges.{merge_total}
 use Rattle.owner_law.specs.Things.{names_in, times}
 use Rattle.owner_law.proofs.Sums.{sum_both, sum_none}
-use Rattle.net_expect.specs.Expecting.{Program, Sink, Source, Echo, is_for_client, answers_for}
+use Rattle.class_expect.specs.NetExpect.Expecting.{Program, Sink, Source, Echo, is_for_client, answers_for}
 use Rattle.net_law.specs.Owners.Names.{ClientPools}
 use Rattle.owner_law.specs.Pools.Places.{PoolAt, by_address}
 use Rattle.net_law.specs.Parts.Parts.{Lessee}

@@ -13,7 +13,7 @@ use Rattle.play_core.proofs.Lists.{some_is}
 use Rattle.owner_law.specs.Things.{Window}
 use Rattle.turn_kit.specs.declared.pipe.Pipe.{Pipe}
 use Rattle.pipe_driver.specs.Drivers.{PipesRow}
-use Rattle.net_expect.specs.Expecting.{frames_for, answers_for}
+use Rattle.class_expect.specs.NetExpect.Expecting.{frames_for, answers_for}
 use Rattle.buffer_kit.specs.declared.stock.Stock.{Stock}
 use Rattle.buffer_kit.specs.Entries.{all_filled, frame_of, len_of}
 use Rattle.buffer_kit.specs.Pools.{given_entry}

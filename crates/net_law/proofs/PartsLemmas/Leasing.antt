@@ -20,7 +20,7 @@ use Rattle.play_core.specs.Moved.{Moved}
 use Rattle.play_core.specs.Sheets.{Scene}
 use Rattle.play_core.proofs.Lists.{some_is, map_from, prefix_trans}
 use Rattle.owner_law.specs.Things.{Buffer, Window, names_in, times}
-use Rattle.net_expect.specs.Expecting.{is_for_client}
+use Rattle.class_expect.specs.NetExpect.Expecting.{is_for_client}
 use Rattle.buffer_kit.specs.Entries.{addr_of, frame_of}
 use Rattle.buffer_kit.specs.Pools.{given_entry}
 use Rattle.buffer_kit.specs.Virtualising.{from_queues, to_queues}

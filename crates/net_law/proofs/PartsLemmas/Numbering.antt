@@ -3,7 +3,7 @@ use Rattle.frame_core.specs.declared.mac.Mac.{Mac}
 use Rattle.play_core.specs.Sheets.{Scene}
 use Rattle.play_core.proofs.Lists.{some_is, map_from, there_is, there_below}
 use Rattle.owner_law.specs.Things.{Names, NoBuffers, Leases, Returns}
-use Rattle.net_expect.specs.Expecting.{Program}
+use Rattle.class_expect.specs.NetExpect.Expecting.{Program}
 use Rattle.net_law.specs.Owners.Names.{ClientPools, client_names}
 use Rattle.owner_law.specs.Pools.Places.{PoolAt, by_address, by_offset}
 use Rattle.net_law.specs.Owners.Lending.{Borrower, receivers_of}

@@ -11,7 +11,7 @@ use Rattle.owner_law.specs.Things.{Buffer, Window, Naming, Thing, Nothing, Whole
 use Rattle.owner_law.specs.Keeping.{Keeps, PutsItsOwn, at_start, all_taken, all_put, things_in, things_out}
 use Rattle.owner_law.proofs.Sums.{sum_flat}
 use Rattle.owner_law.proofs.Named.{carried, buffers_are, buffers_none, leases_are, leases_none, returns_are, returns_none, keeps_plain, times_few}
-use Rattle.net_expect.specs.Expecting.{Program, is_for_client}
+use Rattle.class_expect.specs.NetExpect.Expecting.{Program, is_for_client}
 use Rattle.buffer_kit.specs.Entries.{addr_of, with_len}
 use Rattle.net_law.proofs.Beginnings.{begins_map}
 use Rattle.owner_law.specs.Pools.Places.{PoolAt, by_address, by_offset, numbers_from, pool_hand}

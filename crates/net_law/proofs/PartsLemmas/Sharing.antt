@@ -99,7 +99,7 @@ module _ (scene : Scene) (active free : ℕ) (pool : PoolAt) (clients : List Les
       gives = subst (AreIn w) gave h.gives;
       rising = λ k item lt at. h.rising k item lt (ap (λ xs. slice_get xs k) gave ∙ at);
       in_hand = λ x. omega (arith, h.in_hand x, ap bit (lent_same x), ap (λ xs. times x (names_in (w ∷ []) xs)) gave, ap (λ xs. times x (names_in (w ∷ []) xs)) took);
-      single = λ k c at x. omega (arith, h.single k c at x, ap (λ xs. times x (names_where (λ n. Rattle.net_expect.specs.Expecting.is_for_client c.mac (Rattle.net_law.specs.Parts.Rows.frame_at scene.frames n)) 0 (names_in (w ∷ []) xs))) took, ap (λ xs. times x (names_in (by_offset pool ∷ []) xs)) (back k c at));
+      single = λ k c at x. omega (arith, h.single k c at x, ap (λ xs. times x (names_where (λ n. Rattle.class_expect.specs.NetExpect.Expecting.is_for_client c.mac (Rattle.net_law.specs.Parts.Rows.frame_at scene.frames n)) 0 (names_in (w ∷ []) xs))) took, ap (λ xs. times x (names_in (by_offset pool ∷ []) xs)) (back k c at));
     }
 
   abbrev lessee_lent : Moved → Lessee → Want

@@ -14,7 +14,7 @@ use Rattle.play_core.proofs.Lists.{some_is, map_get}
 use Rattle.turn_kit.specs.declared.pipe.Pipe.{Pipe}
 use Rattle.pipe_driver.specs.declared.pipes.Pipes.{Pipes}
 use Rattle.device_model.specs.declared.ethernet.EthDevice.{EthDevice}
-use Rattle.net_expect.specs.Expecting.{is_for_client, frames_for}
+use Rattle.class_expect.specs.NetExpect.Expecting.{is_for_client, frames_for}
 use Rattle.buffer_kit.specs.Entries.{addr_of, frame_of, with_len, filled, all_filled}
 use Rattle.buffer_kit.specs.Virtualising.{from_queues}
 use Rattle.buffer_kit.specs.declared.stock.Stock.{Stock}

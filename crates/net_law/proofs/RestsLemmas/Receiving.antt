@@ -22,7 +22,7 @@ use Rattle.play_core.specs.Wants.{intake_want, outlet_want, all_settled}
 use Rattle.play_core.specs.Sheets.{Scene}
 use Rattle.owner_law.specs.Things.{Window, names_in, times}
 use Rattle.owner_law.proofs.Counting.{below_plus, below_same}
-use Rattle.net_expect.specs.Expecting.{is_for_client}
+use Rattle.class_expect.specs.NetExpect.Expecting.{is_for_client}
 use Rattle.buffer_kit.specs.Entries.{frame_of}
 use Rattle.buffer_kit.specs.Stocks.{stock_list}
 use Rattle.buffer_kit.specs.Virtualising.{from_queues, to_queues}

@@ -17,7 +17,7 @@ use Rattle.wire_core.specs.Queues.{items_of}
 use Rattle.play_core.specs.Moved.{Moved, went}
 use Rattle.owner_law.specs.Things.{Buffer, Window, Naming, names_in, times}
 use Rattle.owner_law.specs.Keeping.{is_out, all_taken}
-use Rattle.net_expect.specs.Expecting.{is_for_client}
+use Rattle.class_expect.specs.NetExpect.Expecting.{is_for_client}
 use Rattle.buffer_kit.specs.declared.stock.Stock.{Stock}
 use Rattle.buffer_kit.specs.Virtualising.{from_queues, to_queues}
 use Rattle.net_virt_rx.specs.Sharing.{how_many, named, leases_for, is_out as is_out_to}

@@ -16,7 +16,7 @@ use Rattle.play_core.specs.Moved.{Moved, went}
 use Rattle.play_core.proofs.Lists.{prefix_trans}
 use Rattle.owner_law.specs.Things.{Buffer, Window, names_in, is_named, times}
 use Rattle.owner_law.specs.Keeping.{at_start}
-use Rattle.net_expect.specs.Expecting.{is_for_client}
+use Rattle.class_expect.specs.NetExpect.Expecting.{is_for_client}
 use Rattle.buffer_kit.specs.Entries.{frame_of}
 use Rattle.buffer_kit.specs.declared.stock.Stock.{Stock}
 use Rattle.buffer_kit.specs.Virtualising.{from_queues, to_queues}

@@ -7,7 +7,7 @@ use Rattle.wire_core.specs.Deeds.{Cargo}
 use Rattle.play_core.specs.Moved.{Seat}
 use Rattle.play_core.specs.Wants.{intake, outlet}
 use Rattle.owner_law.specs.Things.{Buffer, Window, buffer_of}
-use Rattle.net_expect.specs.Expecting.{is_for_client}
+use Rattle.class_expect.specs.NetExpect.Expecting.{is_for_client}
 use Rattle.net_law.specs.Owners.Lending.{Borrower, borrower_ends, names_where}
 use Rattle.net_law.specs.RxOwners.Virtualiser.{borrowers}
 use Rattle.net_law.proofs.RxOwners.Virtualisers.{names_of}

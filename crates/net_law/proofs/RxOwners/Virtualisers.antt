@@ -16,7 +16,7 @@ use Rattle.wire_core.specs.Deeds.{Cargo}
 use Rattle.wire_core.specs.Queues.{items_of}
 use Rattle.owner_law.specs.Things.{Buffer, is_same, Window, begins_at, number_at, buffer_at, buffer_of, names_in, is_named, times}
 use Rattle.owner_law.proofs.Sums.{same_is}
-use Rattle.net_expect.specs.Expecting.{is_for_client}
+use Rattle.class_expect.specs.NetExpect.Expecting.{is_for_client}
 use Rattle.buffer_kit.specs.Entries.{addr_of, frame_of}
 use Rattle.buffer_kit.specs.declared.stock.Stock.{Stock}
 use Rattle.net_virt_rx.specs.Sharing.{named, lease_of, leases_for, IsBuffer}

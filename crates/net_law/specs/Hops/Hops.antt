@@ -9,7 +9,7 @@ use Rattle.wire_core.specs.Marks.{sum_below}
 use Rattle.play_core.specs.Moved.{Moved}
 use Rattle.play_core.specs.Sheets.{Scene}
 use Rattle.play_core.specs.Still.{Holds}
-use Rattle.net_expect.specs.Expecting.{Program, Sink, Source, Echo}
+use Rattle.class_expect.specs.NetExpect.Expecting.{Program, Sink, Source, Echo}
 use Rattle.net_law.specs.Owners.Names.{ClientPools}
 use Rattle.owner_law.specs.Pools.Places.{PoolAt}
 use Rattle.net_law.specs.Parts.Numbers.{device_at, driver_at, receiver_at, copier_at, client_at}

@@ -4,7 +4,7 @@ use Rattle.std.specs.Prelude.{◌+◌, ◌*◌, ℕ, List, [], ◌∷◌}
 use Rattle.frame_core.specs.declared.mac.Mac.{Mac}
 use Rattle.owner_law.specs.Things.{Naming, naming_of}
 use Rattle.play_core.specs.Sheets.{Scene}
-use Rattle.net_expect.specs.Expecting.{Program}
+use Rattle.class_expect.specs.NetExpect.Expecting.{Program}
 use Rattle.net_law.specs.Owners.Names.{ClientPools, net_names}
 use Rattle.owner_law.specs.Pools.Places.{PoolAt}
 use Rattle.net_law.specs.Owners.Lending.{receivers_of}

@@ -2,7 +2,7 @@
 -- begin at no fixed number.
 use Rattle.std.specs.Prelude.{ℕ, List}
 use Rattle.frame_core.specs.declared.mac.Mac.{Mac}
-use Rattle.net_expect.specs.Expecting.{Program}
+use Rattle.class_expect.specs.NetExpect.Expecting.{Program}
 use Rattle.owner_law.specs.Pools.Places.{PoolAt}
 
 -- a way of a driver: what comes on one queue goes on to another

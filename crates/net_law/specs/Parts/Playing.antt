@@ -20,7 +20,7 @@ use Rattle.net_copier.specs.declared.NetCopier.{NetCopier}
 use Rattle.net_virt_rx.specs.Receiving.{RxRow}
 use Rattle.net_virt_rx.specs.declared.NetVirtRx.{NetVirtRx}
 use Rattle.net_law.specs.RxOwners.Virtualiser.{TakesFrames}
-use Rattle.net_expect.specs.Expecting.{frames_for}
+use Rattle.class_expect.specs.NetExpect.Expecting.{frames_for}
 use Rattle.owner_law.specs.Pools.Places.{PoolAt}
 use Rattle.net_law.specs.Parts.Rows.{frame_at}
 use Rattle.net_law.specs.Parts.Parts.{NetPart, NetDevice, NetDriver, NetReceiver}

@@ -12,7 +12,7 @@ use Rattle.wire_core.specs.Bells.{bit}
 use Rattle.play_core.specs.Moved.{Moved}
 use Rattle.owner_law.specs.Things.{Buffer, Window, names_in, times}
 use Rattle.owner_law.specs.Keeping.{at_start}
-use Rattle.net_expect.specs.Expecting.{Program, Sink, Source, Echo, is_for_client, answers_for}
+use Rattle.class_expect.specs.NetExpect.Expecting.{Program, Sink, Source, Echo, is_for_client, answers_for}
 use Rattle.buffer_kit.specs.Entries.{addr_of, len_of, with_len}
 use Rattle.owner_law.specs.Pools.Places.{PoolAt, by_address, by_offset, numbers_from, pool_hand}
 use Rattle.net_law.specs.Owners.Lending.{Borrower, Lender, leases_due, leases_back, names_where}

@@ -9,7 +9,7 @@ use Rattle.play_core.specs.Moved.{Moved, Seat}
 use Rattle.play_core.specs.Wants.{Want, intake, outlet, intake_want, outlet_want}
 use Rattle.play_core.specs.Sheets.{Scene, Sheet, Due}
 use Rattle.frame_core.specs.declared.mac.Mac.{Mac}
-use Rattle.net_expect.specs.Expecting.{Program}
+use Rattle.class_expect.specs.NetExpect.Expecting.{Program}
 use Rattle.owner_law.specs.Pools.Places.{PoolAt, by_offset, pool_hand}
 use Rattle.net_law.specs.Owners.Lending.{Lender}
 use Rattle.net_law.specs.Parts.Parts.{NetPart, NetDevice, NetDriver, NetReceiver, NetCopier}

@@ -54,7 +54,7 @@ buffer_page s some item (Carried.Lease lease) net is = absurd is
 -- a lease has no page
 lease_none : (size : ℕ) (mac : Mac) (cs : List Cargo) (k : ℕ) (c : Cargo) → slice_get (leases_for size mac cs) k ≡ Some c → HasNone c
 lease_none size mac cs k c at b =
-    let x = map_from (lease_of size) (Rattle.std.specs.List.filter (λ d. Rattle.net_expect.specs.Expecting.is_for_client mac (Rattle.buffer_kit.specs.Entries.frame_of d)) cs) k c at in
+    let x = map_from (lease_of size) (Rattle.std.specs.List.filter (λ d. Rattle.class_expect.specs.NetExpect.Expecting.is_for_client mac (Rattle.buffer_kit.specs.Entries.frame_of d)) cs) k c at in
     ap (λ (d : Cargo). as_page b d.1) (sym x.2)
 
 module _ (naming : Naming) (scene : Scene) (passed : Passed) (m : Moved) (v : NetVirtRx) (names : NamesPart naming scene (receiver_part v)) (net : AreNet (passed.sent v.ends.output.queue.0)) (row : RxRow v passed) where

@@ -8,7 +8,7 @@ use Rattle.pipe_driver.specs.declared.pipes.Pipes.{Pipes}
 use Rattle.eth_driver.specs.Four.{four_pipes}
 use Rattle.device_model.specs.Ethernet.Devices.{tx_active, tx_free}
 use Rattle.device_model.specs.declared.ethernet.EthDevice.{EthDevice}
-use Rattle.net_expect.specs.Expecting.{Program}
+use Rattle.class_expect.specs.NetExpect.Expecting.{Program}
 use Rattle.client_programs.specs.Net.Clients as client
 use Rattle.client_programs.specs.Net.Programs.{program_of}
 use Rattle.client_programs.specs.declared.net.NetClient.{NetClient}

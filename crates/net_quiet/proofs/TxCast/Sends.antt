@@ -11,7 +11,7 @@ use Rattle.frame_core.specs.Frames.{turned_round}
 use Rattle.wire_core.specs.Deeds.{Cargo}
 use Rattle.wire_core.specs.Lists.{Passed}
 use Rattle.play_core.proofs.Lists.{some_is, map_from, there_is, there_below}
-use Rattle.net_expect.specs.Expecting.{Program, Sink, Source, Echo, frames_for, is_for_client, sends_of}
+use Rattle.class_expect.specs.NetExpect.Expecting.{Program, Sink, Source, Echo, frames_for, is_for_client, sends_of}
 use Rattle.buffer_kit.specs.Entries.{frame_of, filled, all_filled}
 use Rattle.buffer_kit.specs.Pools.{given_entry}
 use Rattle.buffer_kit.proofs.TwoLists.{get_front, get_behind}

@@ -13,7 +13,7 @@ use Rattle.wire_core.specs.Queues.{items_of}
 use Rattle.play_core.proofs.Lists.{prefix_trans, some_is, there_is, there_below}
 use Rattle.play_core.specs.Names.{Wild, by_sort}
 use Rattle.client_programs.specs.Net.Clients as client
-use Rattle.net_expect.specs.Expecting.{Program, Source, frames_for, sends_of}
+use Rattle.class_expect.specs.NetExpect.Expecting.{Program, Source, frames_for, sends_of}
 use Rattle.buffer_kit.specs.Entries.{frame_of}
 use Rattle.buffer_kit.specs.Virtualising.{from_queues, to_queues}
 use Rattle.client_programs.specs.declared.net.NetClient.{NetClient}

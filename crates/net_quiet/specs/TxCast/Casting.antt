@@ -9,7 +9,7 @@ use Rattle.wire_core.specs.Deeds.{Cargo}
 use Rattle.wire_core.specs.Lists.{Passed}
 use Rattle.wire_core.specs.Queues.{items_of}
 use Rattle.play_core.specs.Names.{Wild, by_sort}
-use Rattle.net_expect.specs.Expecting.{Program, Source, sends_of}
+use Rattle.class_expect.specs.NetExpect.Expecting.{Program, Source, sends_of}
 use Rattle.buffer_kit.specs.Entries.{frame_of}
 use Rattle.client_programs.specs.Net.Clients.{ClientRow}
 use Rattle.client_programs.specs.declared.net.NetClient.{NetClient}

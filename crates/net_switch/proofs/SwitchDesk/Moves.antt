@@ -13,7 +13,7 @@ use Rattle.cargo_core.specs.Items.{kind_of}
 use Rattle.cargo_core.specs.declared.item.QueueKind.TheVariants as Kind
 use Rattle.frame_core.specs.declared.mac.Mac.{Mac}
 use Rattle.wire_core.specs.Deeds.{Cargo}
-use Rattle.net_expect.specs.Expecting.{is_for_client}
+use Rattle.class_expect.specs.NetExpect.Expecting.{is_for_client}
 use Rattle.turn_kit.proofs.Offers.{get_map}
 use Rattle.buffer_kit.specs.Clients.{capped, entry_in, is_so, with_more}
 use Rattle.buffer_kit.specs.Entries.{filled, frame_of, all_filled}

@@ -3,7 +3,7 @@ use Rattle.std.specs.Prelude.{◌==◌, ℕ, Bool, false, List, map, slice_index
 use Rattle.std.specs.List.{filter}
 use Rattle.frame_core.specs.declared.mac.Mac.{Mac}
 use Rattle.wire_core.specs.Deeds.{Cargo}
-use Rattle.net_expect.specs.Expecting.{is_for_client}
+use Rattle.class_expect.specs.NetExpect.Expecting.{is_for_client}
 use Rattle.net_virt_rx.specs.Sharing.{how_many}
 use Rattle.buffer_kit.specs.Entries.{frame_of}
 

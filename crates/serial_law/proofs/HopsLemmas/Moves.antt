@@ -7,12 +7,12 @@ use Rattle.serial_virt.specs.Shares.{policy_at}
 use Rattle.cargo_core.specs.Lists.{IsPrefix}
 use Rattle.cargo_core.specs.declared.item.Item.{Item}
 use Rattle.cargo_core.specs.declared.item.Item.TheVariants as ItemOf
-use Rattle.serial_switch.specs.Carried.{byte_of}
+use Rattle.class_expect.specs.SerialSwitch.Carried.{byte_of}
 use Rattle.wire_core.specs.declared.names.QueueRow.{QueueRow}
 use Rattle.wire_core.specs.declared.names.Entry.{Entry}
 use Rattle.wire_core.specs.Journal.{History, Hostiles, QueuesFlow}
 use Rattle.wire_core.specs.Marks.{sum_below}
-use Rattle.serial_switch.specs.Switching.{input_of}
+use Rattle.class_expect.specs.SerialSwitch.Switching.{input_of}
 use Rattle.play_core.specs.Moved.{Moved, moved, gone_at}
 use Rattle.play_core.specs.Totals.{total}
 use Rattle.play_core.specs.Still.{Holds}

@@ -3,8 +3,8 @@ use Rattle.std.proofs.lemmas.Bool.Decides.{eqb_tells}
 use Rattle.std.proofs.Math.Dec.{eqb}
 use Rattle.wire_core.specs.Marks.{sum_below}
 use Rattle.wire_core.proofs.Sinces.{eqb_apart}
-use Rattle.serial_switch.specs.Switching.{Piece, Plain, Doubled, Selection, Dropped, bytes_of, byte_in, selected, given_by, given_after, split_of, input_of}
-use Rattle.serial_switch.proofs.Splits.{splits}
+use Rattle.class_expect.specs.SerialSwitch.Switching.{Piece, Plain, Doubled, Selection, Dropped, bytes_of, byte_in, selected, given_by, given_after, split_of, input_of}
+use Rattle.class_expect.proofs.SerialSwitch.Splits.{splits}
 use Rattle.step_bound.proofs.Sums.{sum_same, sum_plus}
 
 sum_none : (f : ℕ → ℕ) (k : ℕ) → ((c : ℕ) → f c ≡ 0) → sum_below f k ≡ 0

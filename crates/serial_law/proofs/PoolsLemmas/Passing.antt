@@ -8,8 +8,8 @@ use Rattle.play_core.specs.Wants.{intake, outlet}
 use Rattle.play_core.proofs.Lists.{some_is, map_get, map_from}
 use Rattle.owner_law.specs.Things.{Buffer, Naming}
 use Rattle.owner_law.specs.Pages.{as_page}
-use Rattle.serial_switch.specs.Carried.{byte_cargo, bytes_carried}
-use Rattle.serial_switch.specs.Switching.{input_of}
+use Rattle.class_expect.specs.SerialSwitch.Carried.{byte_cargo, bytes_carried}
+use Rattle.class_expect.specs.SerialSwitch.Switching.{input_of}
 use Rattle.turn_kit.specs.ManyEnds.{intake_queues, outlet_queues}
 use Rattle.turn_kit.specs.declared.pipe.Pipe.{Pipe}
 use Rattle.pipe_driver.specs.Drivers.{PipesRow}

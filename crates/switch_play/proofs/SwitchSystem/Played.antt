@@ -14,8 +14,8 @@ use Rattle.play_core.proofs.Lists.{there_below}
 use Rattle.owner_law.specs.Owners.{OneOwner}
 use Rattle.owner_law.specs.Keeping.{start_table}
 use Rattle.owner_law.specs.Census as Counts
-use Rattle.ports_text.specs.declared.ports.Ports.{Ports}
-use Rattle.ports_text.specs.declared.report.PortReport.{PortReport}
+use Rattle.line_text.specs.declared.ports_text.ports.Ports.{Ports}
+use Rattle.line_text.specs.declared.ports_text.report.PortReport.{PortReport}
 use Rattle.small_system.specs.Tales.{Moment, Turn, start_of, running_in, IsTale, after_tale, journal_of, entry_of, PickedBy}
 use Rattle.small_system.specs.Standing.{Begins, IsLawful}
 use Rattle.small_system.specs.Shows.{Shown, shown, Played, IsQuiet, IsSpent}
@@ -23,11 +23,11 @@ use Rattle.small_system.proofs.Telling.{tale_count}
 use Rattle.client_programs.specs.declared.net.NetClient.{NetClient}
 use Rattle.net_switch.specs.declared.switch.NetSwitch.{NetSwitch}
 use Rattle.switched_law.specs.SwitchLaw.Ports.{all_to}
-use Rattle.switch_class.specs.declared.member.Member.{Member}
-use Rattle.switch_class.specs.declared.member.Member.TheVariants as Members
-use Rattle.switch_class.specs.Members.{member_means}
-use Rattle.switch_class.specs.Queues.{AreQueues}
-use Rattle.switch_class.specs.Casting.{AreMade}
+use Rattle.switched_law.specs.declared.switch_class.member.Member.{Member}
+use Rattle.switched_law.specs.declared.switch_class.member.Member.TheVariants as Members
+use Rattle.switched_law.specs.SwitchClass.Members.{member_means}
+use Rattle.switched_law.specs.SwitchClass.Queues.{AreQueues}
+use Rattle.switched_law.specs.SwitchClass.Casting.{AreMade}
 use Rattle.switched_law.specs.SwitchMoment.Scene.{ArePlayable}
 use Rattle.switched_law.specs.SwitchMoment.Takes.{reaches_none, reaching, frames_in, sent_by}
 use Rattle.switched_law.specs.Playing.{IsPlayed, actors_after, taken_by}

@@ -3,8 +3,8 @@ use Rattle.std.proofs.Common.{◌≡◌, ◌+◌, ◌*◌, ◌<◌, ◌++◌, �
 use Rattle.cargo_core.specs.declared.census.Census.{Census}
 use Rattle.play_core.proofs.Lists.{some_is}
 use Rattle.owner_law.specs.Census as Counts
-use Rattle.switch_class.specs.declared.member.Member.{Member}
-use Rattle.switch_class.proofs.Lanes.{get_split}
+use Rattle.switched_law.specs.declared.switch_class.member.Member.{Member}
+use Rattle.switched_law.proofs.SwitchClass.Lanes.{get_split}
 use Rattle.switch_play.specs.SwitchSystem.Lines.{pool_name, line_of, lines_from}
 use Rattle.switch_play.specs.SwitchSystem.Reporting.{IsRecord, AreRecords}
 

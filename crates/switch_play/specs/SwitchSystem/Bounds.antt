@@ -1,6 +1,6 @@
 -- How many steps are enough for a play of a switch.
 use Rattle.std.specs.Prelude.{ℕ, ◌+◌, ◌*◌, length, sum_by}
-use Rattle.ports_text.specs.declared.ports.Ports.{Ports}
+use Rattle.line_text.specs.declared.ports_text.ports.Ports.{Ports}
 
 -- how many ports there are
 abbrev pub count_of : Ports → ℕ

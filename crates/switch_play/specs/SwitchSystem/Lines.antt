@@ -4,7 +4,7 @@ use Rattle.std.specs.Fmt.{decimal}
 use Rattle.cargo_core.specs.declared.census.Census.{Census}
 use Rattle.wire_core.specs.Queues.{Queue}
 use Rattle.owner_law.specs.Census as Counts
-use Rattle.switch_class.specs.declared.actors.TheConstants.{BUFFERS}
+use Rattle.switched_law.specs.declared.switch_class.actors.TheConstants.{BUFFERS}
 use Rattle.switched_law.specs.SwitchOwners.Lines.{queued}
 
 -- the name of a pool of a port: that in which it receives, or that in which it sends

@@ -11,13 +11,13 @@ use Rattle.play_core.specs.Still.{IsQuiet}
 use Rattle.owner_law.specs.Owners.{OneOwner}
 use Rattle.owner_law.specs.Keeping.{start_table}
 use Rattle.owner_law.specs.Census.{census}
-use Rattle.ports_text.specs.declared.ports.Ports.{Ports}
-use Rattle.ports_text.specs.declared.report.PortReport.{PortReport}
+use Rattle.line_text.specs.declared.ports_text.ports.Ports.{Ports}
+use Rattle.line_text.specs.declared.ports_text.report.PortReport.{PortReport}
 use Rattle.small_system.specs.Standing.{IsLawful}
 use Rattle.small_system.specs.Wants.{runs_by, wanted_by, calm}
 use Rattle.switched_law.specs.SwitchLaw.Ports.{all_to}
-use Rattle.switch_class.specs.declared.actors.TheConstants.{BUFFERS}
-use Rattle.switch_class.specs.Queues.{AreQueues}
+use Rattle.switched_law.specs.declared.switch_class.actors.TheConstants.{BUFFERS}
+use Rattle.switched_law.specs.SwitchClass.Queues.{AreQueues}
 use Rattle.switched_law.specs.SwitchMoment.Takes.{reaches_none, reaching, frames_in, sent_by}
 use Rattle.switched_law.specs.SwitchMoment.Wants.{port_wants}
 use Rattle.switched_law.specs.Playing.{taken_by}

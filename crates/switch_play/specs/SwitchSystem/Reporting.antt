@@ -2,10 +2,10 @@
 use Rattle.std.specs.Prelude.{◌≡◌, ℕ, Bool, Some, List, length, slice_get}
 use Rattle.client_programs.specs.declared.net.NetClient.{NetClient}
 use Rattle.net_switch.specs.declared.switch.NetSwitch.{NetSwitch}
-use Rattle.ports_text.specs.declared.report.PortReport.{PortReport}
+use Rattle.line_text.specs.declared.ports_text.report.PortReport.{PortReport}
 use Rattle.small_system.specs.Shows.{Shown}
-use Rattle.switch_class.specs.declared.member.Member.{Member}
-use Rattle.switch_class.specs.declared.member.Member.TheVariants as Members
+use Rattle.switched_law.specs.declared.switch_class.member.Member.{Member}
+use Rattle.switched_law.specs.declared.switch_class.member.Member.TheVariants as Members
 use Rattle.switch_play.specs.SwitchSystem.Lines.{lines_from, counted}
 
 -- what the client of a place recorded

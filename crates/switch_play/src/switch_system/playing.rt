@@ -1,15 +1,15 @@
 //! The play of a switch.
 
 ghost use Rattle.std.specs.Prelude.{IfOk};
-ghost use Rattle.ports_text.specs.Given.{ArePorts};
+ghost use Rattle.line_text.specs.PortsText.Given.{ArePorts};
 ghost use Rattle.switch_play.specs.SwitchSystem.Playing.{PortsPlayed};
 
 use crate::switch_system::reporting::report;
 use cargo_core::Memory;
-use ports_text::{PortReport, Ports};
+use line_text::ports_text::{PortReport, Ports};
 use small_system::Small;
 use std::alloc::Global;
-use switch_class::{Member, switch_actors, switch_queues};
+use switched_law::switch_class::{Member, switch_actors, switch_queues};
 use switched_law::switch_owners::switch_owner_law;
 use switched_law::{hops_law, place_law, playable_law, records_law, wants_law, whole_law};
 use text_limits::{ports_frames_law, ports_limits_law};

@@ -6,11 +6,11 @@ ghost use Rattle.switch_play.specs.SwitchSystem.Lines.{pool_name, line_of, lines
 ghost use Rattle.switch_play.specs.SwitchSystem.Reporting.{IsRecord, IsLost, AreRecords, Tells};
 
 use cargo_core::{Census, FrameLog, Memory, PoolId, Series, Text};
+use line_text::ports_text::PortReport;
 use plain_wires::World;
-use ports_text::PortReport;
 use small_system::Small;
 use std::alloc::Global;
-use switch_class::{BUFFERS, Member};
+use switched_law::switch_class::{BUFFERS, Member};
 
 // A copy of some frames.
 fn copied(alloc: Global, frames: &FrameLog) -> Result<FrameLog, Memory>

@@ -1,7 +1,7 @@
 use Rattle.std.proofs.Common.{◌≡◌, ℕ, zero, suc, Bool, true, false, Some, List, [], ◌∷◌, map, slice_get, slice_set, slice_index_or, refl, sym, ap, ◌∙◌, subst, arith, eq-eqb, eqb-true}
 use Rattle.frame_core.specs.declared.mac.Mac.{Mac}
 use Rattle.buffer_kit.specs.Entries.{frame_of}
-use Rattle.net_expect.specs.Expecting.{is_for_client}
+use Rattle.class_expect.specs.NetExpect.Expecting.{is_for_client}
 use Rattle.net_virt_rx.specs.Sharing.{how_many}
 use Rattle.net_switch.specs.SwitchDesk.Frames.{Sent, receivers_of, goes_to, is_lost}
 

@@ -4,7 +4,7 @@ use Rattle.cargo_core.specs.Lists.{IsPrefix, Merge, merge_none, merge_next, Pref
 use Rattle.frame_core.specs.declared.mac.Mac.{Mac}
 use Rattle.wire_core.specs.Deeds.{Cargo}
 use Rattle.buffer_kit.specs.Entries.{frame_of}
-use Rattle.net_expect.specs.Expecting.{is_for_client, frames_for}
+use Rattle.class_expect.specs.NetExpect.Expecting.{is_for_client, frames_for}
 use Rattle.play_core.proofs.Lists.{there_below}
 use Rattle.net_switch.specs.SwitchDesk.Frames.{Sent, goes_to, frames_to, entries_from}
 use Rattle.switched_law.specs.SwitchLaw.Ports.{to_from, all_to, AreFirst, AreAll}

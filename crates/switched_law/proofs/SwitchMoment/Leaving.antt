@@ -4,7 +4,7 @@ use Rattle.std.specs.List.{filter}
 use Rattle.std.proofs.lemmas.Bool.{cases_Bool}
 use Rattle.frame_core.specs.declared.mac.Mac.{Mac}
 use Rattle.buffer_kit.specs.Clients.{is_so}
-use Rattle.net_expect.specs.Expecting.{is_for_client, frames_for}
+use Rattle.class_expect.specs.NetExpect.Expecting.{is_for_client, frames_for}
 use Rattle.play_core.proofs.Lists.{there_is, there_below}
 use Rattle.switched_law.specs.SwitchLaw.Ports.{to_from}
 use Rattle.switched_law.specs.SwitchMoment.Takes.{FromPort, reaches, reaches_none, some_below}

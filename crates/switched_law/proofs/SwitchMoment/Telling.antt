@@ -10,7 +10,7 @@ use Rattle.wire_core.specs.declared.names.Event.{Event}
 use Rattle.play_core.proofs.Lists.{some_is, there_is}
 use Rattle.buffer_kit.specs.Clients.{is_so}
 use Rattle.buffer_kit.specs.Entries.{frame_of}
-use Rattle.net_expect.specs.Expecting.{is_for_client}
+use Rattle.class_expect.specs.NetExpect.Expecting.{is_for_client}
 use Rattle.net_switch.specs.SwitchDesk.Frames as desk
 use Rattle.net_switch.specs.SwitchDesk.Frames.{Sent}
 use Rattle.switched_law.proofs.SwitchLaw.Going.{goes_own, goes_other, lost_nowhere, kept_somewhere}

@@ -6,7 +6,7 @@ use Rattle.std.proofs.lemmas.Bool.{lt-ltb, le-ltb, ltb-true}
 use Rattle.std.proofs.lemmas.List.{length-map}
 use Rattle.frame_core.specs.declared.mac.Mac.{Mac}
 use Rattle.line_text.specs.Lists.{per_client}
-use Rattle.ports_text.specs.declared.ports.Ports.{Ports}
+use Rattle.line_text.specs.declared.ports_text.ports.Ports.{Ports}
 use Rattle.wire_core.specs.Deeds.{Cargo}
 use Rattle.wire_core.specs.Ends.{Role, End}
 use Rattle.wire_core.specs.Lists.{Passed}
@@ -19,7 +19,7 @@ use Rattle.play_core.specs.Rests.Showing.{HaveItems}
 use Rattle.play_core.proofs.Lists.{there_is}
 use Rattle.play_core.proofs.RestsLemmas.Settling.{took, put}
 use Rattle.buffer_kit.specs.Clients.{is_so}
-use Rattle.net_expect.specs.Expecting.{Program, Source}
+use Rattle.class_expect.specs.NetExpect.Expecting.{Program, Source}
 use Rattle.net_law.specs.Parts.Parts.{NetPart, NetClient as ClientPart}
 use Rattle.net_law.specs.Parts.Playing.{client_part, stock_pool}
 use Rattle.net_law.specs.Parts.Table.{net_sheet}

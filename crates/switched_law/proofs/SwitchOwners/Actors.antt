@@ -35,11 +35,11 @@ use Rattle.net_switch.specs.declared.switch.NetSwitch.{NetSwitch}
 use Rattle.net_switch.specs.Ends.{come_queues, back_queues, room_queues, copy_queues}
 use Rattle.net_switch.specs.Switching.{SwitchStandsFor, all_sent}
 use Rattle.line_text.proofs.Rows.{length_per_client}
-use Rattle.switch_class.specs.declared.member.Member.{Member}
-use Rattle.switch_class.specs.declared.member.Member.TheVariants as Members
-use Rattle.switch_class.specs.Members.{Made, Runs, Switches, pool_of, made_of, MemberStandsFor}
-use Rattle.switch_class.specs.Casting.{rx_pool, tx_pool, client_made, queues_at, switch_made}
-use Rattle.switch_class.proofs.Lanes.{TxFree, RxActive, RxFree, value_at}
+use Rattle.switched_law.specs.declared.switch_class.member.Member.{Member}
+use Rattle.switched_law.specs.declared.switch_class.member.Member.TheVariants as Members
+use Rattle.switched_law.specs.SwitchClass.Members.{Made, Runs, Switches, pool_of, made_of, MemberStandsFor}
+use Rattle.switched_law.specs.SwitchClass.Casting.{rx_pool, tx_pool, client_made, queues_at, switch_made}
+use Rattle.switched_law.proofs.SwitchClass.Lanes.{TxFree, RxActive, RxFree, value_at}
 use Rattle.switched_law.specs.SwitchOwners.Owning.{switch_naming, client_keeper, switch_keeper}
 use Rattle.switched_law.proofs.SwitchOwners.Naming.{name_at, name_tx}
 use Rattle.switched_law.proofs.SwitchOwners.Ways.{PortWay, hand_from, ways_keep, ways_hand_on, ways_hold}
@@ -50,7 +50,7 @@ scene = record { frames = []; image = [] }
 
 abbrev part_by : Made → NetPart
 part_by (Runs a f s b program rx tx) = ClientPart (kind_of_program program) program.mac a f s b rx tx
-part_by (Switches come back room copy macs) = ClientPart Rattle.net_expect.specs.Expecting.Sink (record { 0 = [] }) 0 0 0 0 (rx_pool 0) (rx_pool 0)
+part_by (Switches come back room copy macs) = ClientPart Rattle.class_expect.specs.NetExpect.Expecting.Sink (record { 0 = [] }) 0 0 0 0 (rx_pool 0) (rx_pool 0)
 
 abbrev keeper_by : Made → Keeper
 keeper_by made = keeper_of (net_sheet scene (part_by made))

@@ -12,18 +12,18 @@ use Rattle.owner_law.specs.Census.{census}
 use Rattle.owner_law.specs.Pools.Places.{by_offset}
 use Rattle.owner_law.specs.Pools.Lines.{Holder, keepers_of, NamesWithin, HoldsIts, AreLines}
 use Rattle.owner_law.proofs.Starts.{start_shown, start_counted}
-use Rattle.ports_text.specs.declared.ports.Ports.{Ports}
+use Rattle.line_text.specs.declared.ports_text.ports.Ports.{Ports}
 use Rattle.small_system.specs.Tales.{Turn, start_of, IsTale, after_tale, journal_of, passed_by}
 use Rattle.small_system.specs.Standing.{Begins, Holds}
 use Rattle.small_system.proofs.Telling.{told_holds, tale_count, tale_parts}
 use Rattle.small_system.specs.SmallLaw.Keepers.{HaveKeepers}
 use Rattle.small_system.proofs.SmallLaw.Keeping.{owned}
-use Rattle.switch_class.specs.declared.member.Member.{Member}
-use Rattle.switch_class.specs.Queues.{AreQueues}
-use Rattle.switch_class.specs.Members.{member_means}
-use Rattle.switch_class.specs.MemberLaws.{member_lawful}
-use Rattle.switch_class.specs.Casting.{CanBeMade, AreMade}
-use Rattle.switch_class.proofs.Lanes.{Lane, TxActive, TxFree, RxActive, RxFree}
+use Rattle.switched_law.specs.declared.switch_class.member.Member.{Member}
+use Rattle.switched_law.specs.SwitchClass.Queues.{AreQueues}
+use Rattle.switched_law.specs.SwitchClass.Members.{member_means}
+use Rattle.switched_law.specs.SwitchClass.MemberLaws.{member_lawful}
+use Rattle.switched_law.specs.SwitchClass.Casting.{CanBeMade, AreMade}
+use Rattle.switched_law.proofs.SwitchClass.Lanes.{Lane, TxActive, TxFree, RxActive, RxFree}
 use Rattle.switched_law.specs.SwitchOwners.Owning.{switch_naming, switch_keepers}
 use Rattle.switched_law.specs.SwitchOwners.Lines.{IsLine, queued, table_after}
 use Rattle.switched_law.proofs.SwitchOwners.Naming.{pool_in, NamesLane, names_there}

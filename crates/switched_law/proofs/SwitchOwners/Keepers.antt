@@ -8,14 +8,14 @@ use Rattle.play_core.specs.Sheets.{HaveTwoOwners}
 use Rattle.play_core.proofs.Lists.{there_is}
 use Rattle.owner_law.specs.Keeping.{Keeper, AreDealt}
 use Rattle.owner_law.specs.Pools.Handing.{HandsOn}
-use Rattle.ports_text.specs.declared.ports.Ports.{Ports}
+use Rattle.line_text.specs.declared.ports_text.ports.Ports.{Ports}
 use Rattle.small_system.specs.Standing.{Begins}
 use Rattle.small_system.specs.SmallLaw.Keepers.{HasKeeper, HaveKeepers}
-use Rattle.switch_class.specs.declared.member.Member.{Member}
-use Rattle.switch_class.specs.Queues.{AreQueues}
-use Rattle.switch_class.specs.Members.{made_of, MemberStandsFor, member_means}
-use Rattle.switch_class.specs.Casting.{CanBeMade, AreMade, client_made}
-use Rattle.switch_class.proofs.Lanes.{Lane, TxActive, TxFree, RxActive, RxFree, from_at, to_at, LaneRow, row_lane}
+use Rattle.switched_law.specs.declared.switch_class.member.Member.{Member}
+use Rattle.switched_law.specs.SwitchClass.Queues.{AreQueues}
+use Rattle.switched_law.specs.SwitchClass.Members.{made_of, MemberStandsFor, member_means}
+use Rattle.switched_law.specs.SwitchClass.Casting.{CanBeMade, AreMade, client_made}
+use Rattle.switched_law.proofs.SwitchClass.Lanes.{Lane, TxActive, TxFree, RxActive, RxFree, from_at, to_at, LaneRow, row_lane}
 use Rattle.switched_law.specs.SwitchOwners.Owning.{client_keeper, switch_keeper, switch_keepers, switch_naming}
 use Rattle.switched_law.proofs.SwitchOwners.Naming.{is_naming, no_answers}
 use Rattle.switched_law.proofs.SwitchOwners.Seats.{client_given, client_all, client_apart, switch_given, switch_all, switch_apart}

@@ -8,9 +8,9 @@ use Rattle.play_core.specs.Still.{Holds}
 use Rattle.owner_law.specs.Things.{Window, NoBuffers, Answers}
 use Rattle.owner_law.specs.Keeping.{is_lending, IsNaming}
 use Rattle.owner_law.specs.Pools.Places.{PoolAt}
-use Rattle.switch_class.specs.Queues.{AreQueues}
-use Rattle.switch_class.specs.Casting.{rx_pool, tx_pool}
-use Rattle.switch_class.proofs.Lanes.{Lane, TxActive, TxFree, RxActive, RxFree, offset, InLane, in_lane, lane_row}
+use Rattle.switched_law.specs.SwitchClass.Queues.{AreQueues}
+use Rattle.switched_law.specs.SwitchClass.Casting.{rx_pool, tx_pool}
+use Rattle.switched_law.proofs.SwitchClass.Lanes.{Lane, TxActive, TxFree, RxActive, RxFree, offset, InLane, in_lane, lane_row}
 use Rattle.switched_law.specs.SwitchOwners.Owning.{names_of, names_from, switch_naming}
 
 -- the pool of a lane

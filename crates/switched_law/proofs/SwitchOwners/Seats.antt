@@ -8,10 +8,10 @@ use Rattle.play_core.specs.Sheets.{AreApart}
 use Rattle.play_core.proofs.Lists.{some_is, there_below}
 use Rattle.small_system.specs.Meanings.{Own}
 use Rattle.small_system.specs.Standing.{Begins}
-use Rattle.switch_class.specs.declared.member.Member.{Member}
-use Rattle.switch_class.specs.Queues.{AreQueues}
-use Rattle.switch_class.specs.Members.{member_means}
-use Rattle.switch_class.proofs.Lanes.{Lane, TxActive, TxFree, RxActive, RxFree, offset, role_at, other, client_owns, switch_owns, roles, same_lane, InLane, in_lane, LaneRow, lane_row, row_lane}
+use Rattle.switched_law.specs.declared.switch_class.member.Member.{Member}
+use Rattle.switched_law.specs.SwitchClass.Queues.{AreQueues}
+use Rattle.switched_law.specs.SwitchClass.Members.{member_means}
+use Rattle.switched_law.proofs.SwitchClass.Lanes.{Lane, TxActive, TxFree, RxActive, RxFree, offset, role_at, other, client_owns, switch_owns, roles, same_lane, InLane, in_lane, LaneRow, lane_row, row_lane}
 use Rattle.switched_law.specs.SwitchOwners.Owning.{client_keeper, ends_from}
 
 -- the client's end in a lane, and the switch's

@@ -11,8 +11,8 @@ use Rattle.owner_law.specs.Keeping.{Keeper}
 use Rattle.owner_law.specs.Pools.Places.{numbers_from}
 use Rattle.owner_law.specs.Pools.Spread.{share_of, AreSpread}
 use Rattle.owner_law.proofs.PoolsLemmas.Spreading.{its_two}
-use Rattle.switch_class.specs.Casting.{rx_pool, tx_pool}
-use Rattle.switch_class.proofs.Lanes.{value_at}
+use Rattle.switched_law.specs.SwitchClass.Casting.{rx_pool, tx_pool}
+use Rattle.switched_law.proofs.SwitchClass.Lanes.{value_at}
 use Rattle.switched_law.specs.SwitchOwners.Owning.{client_keeper, switch_keeper, switch_keepers}
 
 -- who has all of a pool: the client of each second

@@ -24,8 +24,8 @@ use Rattle.buffer_kit.proofs.Counts.{all_filled_in}
 use Rattle.net_law.proofs.OwnersLemmas.Few.{few, filled_few}
 use Rattle.net_quiet.proofs.PoolsLemmas.Carrying.{takes_here, takes_rest, puts_none, puts_in, puts_out, passed_on, filled_on}
 use Rattle.net_quiet.proofs.PoolsLemmas.Holding.{lends_none, lends_in, lends_out}
-use Rattle.switch_class.specs.Casting.{rx_pool, tx_pool}
-use Rattle.switch_class.proofs.Lanes.{TxFree, RxActive, RxFree}
+use Rattle.switched_law.specs.SwitchClass.Casting.{rx_pool, tx_pool}
+use Rattle.switched_law.proofs.SwitchClass.Lanes.{TxFree, RxActive, RxFree}
 use Rattle.switched_law.specs.SwitchOwners.Owning.{switch_naming, ends_from}
 use Rattle.switched_law.proofs.SwitchOwners.Naming.{name_tx, name_at}
 

@@ -5,7 +5,7 @@ use Rattle.cargo_core.specs.Lists.{IsPrefix}
 use Rattle.frame_core.specs.declared.mac.Mac.{Mac}
 use Rattle.wire_core.specs.Deeds.{Cargo}
 use Rattle.buffer_kit.specs.Entries.{frame_of}
-use Rattle.net_expect.specs.Expecting.{frames_for}
+use Rattle.class_expect.specs.NetExpect.Expecting.{frames_for}
 use Rattle.net_switch.specs.SwitchDesk.Frames.{Sent, entries_from}
 
 -- of the frames that one port sends, those for the port of an address: whose destination is that

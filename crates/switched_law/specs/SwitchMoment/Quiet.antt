@@ -1,6 +1,6 @@
 -- A moment of a switch's system at which nobody is runnable.
 use Rattle.std.specs.Prelude.{◌≡◌, ◌+◌, ◌*◌, ◌<◌, ℕ, Bool, true, length}
-use Rattle.ports_text.specs.declared.ports.Ports.{Ports}
+use Rattle.line_text.specs.declared.ports_text.ports.Ports.{Ports}
 use Rattle.wire_core.specs.Ends.{Role, End}
 use Rattle.wire_core.specs.Lists.{Passed}
 use Rattle.client_programs.specs.declared.net.NetClient.{NetClient}

@@ -8,7 +8,7 @@ use Rattle.frame_core.specs.declared.mac.Mac.{Mac}
 use Rattle.wire_core.specs.declared.names.Event.{Event}
 use Rattle.buffer_kit.specs.Clients.{is_so}
 use Rattle.buffer_kit.specs.Entries.{frame_of}
-use Rattle.net_expect.specs.Expecting.{is_for_client}
+use Rattle.class_expect.specs.NetExpect.Expecting.{is_for_client}
 use Rattle.net_switch.specs.SwitchDesk.Frames.{Sent}
 use Rattle.net_switch.specs.Ends.{is_take}
 use Rattle.net_switch.specs.Switching.{takes_on}

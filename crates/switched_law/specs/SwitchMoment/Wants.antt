@@ -5,12 +5,12 @@ use Rattle.std.specs.Prelude.{Option, Some, None, List, [], ◌++◌, length, dr
 use Rattle.std.specs.List.{list_any}
 use Rattle.frame_core.specs.declared.mac.Mac.{Mac}
 use Rattle.line_text.specs.Lists.{per_client}
-use Rattle.ports_text.specs.declared.ports.Ports.{Ports}
+use Rattle.line_text.specs.declared.ports_text.ports.Ports.{Ports}
 use Rattle.wire_core.specs.declared.names.Event.{Event}
 use Rattle.play_core.specs.Moved.{Moved}
 use Rattle.play_core.specs.Sheets.{Scene}
 use Rattle.play_core.specs.Wants.{Want, intake_want, outlet_want}
-use Rattle.net_expect.specs.Expecting.{Source}
+use Rattle.class_expect.specs.NetExpect.Expecting.{Source}
 use Rattle.net_law.specs.Parts.Parts.{NetPart, NetClient}
 use Rattle.net_law.specs.Parts.Table.{net_sheet}
 use Rattle.switched_law.specs.SwitchMoment.Scene.{pool_at}

@@ -9,7 +9,7 @@ use Rattle.turn_kit.specs.Hands.{bodies_of}
 use Rattle.owner_law.specs.Owners.{Table, replay}
 use Rattle.owner_law.specs.Keeping.{start_table}
 use Rattle.owner_law.specs.Census.{Census}
-use Rattle.switch_class.specs.declared.actors.TheConstants.{BUFFERS}
+use Rattle.switched_law.specs.declared.switch_class.actors.TheConstants.{BUFFERS}
 use Rattle.switched_law.specs.SwitchOwners.Owning.{switch_naming, switch_keepers}
 
 -- the table of owners after a journal of so many ports

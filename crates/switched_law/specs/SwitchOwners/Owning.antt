@@ -7,7 +7,7 @@ use Rattle.play_core.specs.Wants.{intake, outlet}
 use Rattle.owner_law.specs.Things.{Names, Buffers, Naming, naming_of}
 use Rattle.owner_law.specs.Keeping.{Keeper}
 use Rattle.owner_law.specs.Pools.Places.{PoolAt, by_offset, pool_hand}
-use Rattle.switch_class.specs.Casting.{rx_pool, tx_pool}
+use Rattle.switched_law.specs.SwitchClass.Casting.{rx_pool, tx_pool}
 
 -- items name the buffers of a pool by their offsets
 abbrev pub names_of : PoolAt → Names

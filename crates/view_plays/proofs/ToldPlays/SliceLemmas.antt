@@ -4,8 +4,8 @@ use Rattle.std.proofs.lemmas.List.{append-nil, at_drop_more}
 use native.Mathlib.Numerals.{unary_clauses}
 use Rattle.std.proofs.lemmas.Bool.{cases_Bool}
 use Rattle.cargo_core.specs.Lists.{IsPrefix}
-use Rattle.shelf_core.specs.Outside.{appended}
-use Rattle.shelf_core.proofs.Appending.{appended-twice}
+use Rattle.decision_core.specs.ShelfCore.Outside.{appended}
+use Rattle.decision_core.proofs.ShelfCore.Appending.{appended-twice}
 use Rattle.wire_core.specs.declared.names.Entry.{Entry}
 use Rattle.wire_core.specs.Journal.{EachMoment, start_history}
 use Rattle.wire_core.specs.Picks.{PickedFrom, next_seed, drawn}

@@ -3,7 +3,7 @@ use Rattle.std.specs.Prelude.{◌≡◌, ℕ, zero, suc, ◌+◌, ◌*◌, Bool,
 use Rattle.std.specs.Prelude.{◌++◌, codes}
 use Rattle.std.specs.Fmt.{decimal}
 use Rattle.cargo_core.specs.Lists.{IsPrefix}
-use Rattle.shelf_core.specs.Outside.{appended}
+use Rattle.decision_core.specs.ShelfCore.Outside.{appended}
 
 -- the line after so many slices: how many steps were made, of 262,144 a slice
 abbrev pub progress_line : ℕ → List ℕ

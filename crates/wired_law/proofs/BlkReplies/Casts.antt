@@ -15,7 +15,7 @@ use Rattle.client_programs.specs.Blk.Clients.{req_queue, resp_queue}
 use Rattle.client_programs.specs.declared.blk.BlkClient.{BlkClient}
 use Rattle.client_programs.proofs.BlkLemmas.Standing.{row_of as asker_row}
 use Rattle.blk_driver.specs.declared.BlkDriver.{BlkDriver}
-use Rattle.blk_expect.specs.Replies.{replies_of}
+use Rattle.class_expect.specs.BlkExpect.Replies.{replies_of}
 use Rattle.blk_virt.specs.Virtualising.{BlkVirtRow, FitsBlkVirt}
 use Rattle.blk_virt.specs.declared.virtualiser.BlkVirt.{BlkVirt}
 use Rattle.blk_virt.proofs.Rows.{row_of as server_row}

@@ -13,7 +13,7 @@ use Rattle.play_core.proofs.Lists.{some_is, prefix_trans, there_is, there_below}
 use Rattle.buffer_kit.specs.Virtualising.{from_queues, to_queues}
 use Rattle.owner_law.specs.Pools.Places.{PoolAt}
 use Rattle.net_law.proofs.PartsLemmas.Leasing.{prefix_get}
-use Rattle.blk_expect.specs.Replies.{partition_in, replies_of}
+use Rattle.class_expect.specs.BlkExpect.Replies.{partition_in, replies_of}
 use Rattle.client_programs.specs.Blk.Asking.{asked_from, pages_in, replies_to}
 use Rattle.client_programs.specs.Blk.Clients.{req_queue, resp_queue}
 use Rattle.client_programs.specs.declared.blk.BlkClient.{BlkClient}

@@ -9,7 +9,7 @@ use Rattle.owner_law.proofs.PoolsLemmas.Merging.{kept_at, kept_is}
 use Rattle.buffer_kit.specs.Virtualising.{from_queues, to_queues}
 use Rattle.net_law.proofs.PartsLemmas.Leasing.{prefix_get}
 use Rattle.blk_mbr.specs.declared.part.Part.{Part}
-use Rattle.blk_expect.specs.Replies.{partition_in}
+use Rattle.class_expect.specs.BlkExpect.Replies.{partition_in}
 use Rattle.device_model.specs.Disk.Disks as disk
 use Rattle.device_model.specs.Disk.Serving.{answer_to, answers_to, done}
 use Rattle.blk_virt.specs.Desks.{holders}

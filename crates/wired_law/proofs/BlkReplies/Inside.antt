@@ -12,8 +12,8 @@ use Rattle.wire_core.specs.Deeds.{Cargo}
 use Rattle.blk_mbr.specs.declared.part.Part.{Part}
 use Rattle.blk_mbr.specs.Sectors.{entry_of, is_used}
 use Rattle.blk_mbr.proofs.Law.{law_to}
-use Rattle.blk_expect.specs.Judging.{can_move, status_of}
-use Rattle.blk_expect.specs.Replies.{has_partition, partition_in}
+use Rattle.class_expect.specs.BlkExpect.Judging.{can_move, status_of}
+use Rattle.class_expect.specs.BlkExpect.Replies.{has_partition, partition_in}
 use Rattle.blk_virt.specs.Requests.{asked_of_disk, first_block, for_disk, goes_on, is_ok, is_own, numbered, request_of}
 use Rattle.blk_virt.specs.declared.requests.Holder.{Holder}
 use Rattle.blk_law.specs.Runs.{IsInside, StaysIn}

@@ -20,7 +20,7 @@ use Rattle.play_core.proofs.Lists.{there_below}
 use Rattle.play_core.specs.Rests.Showing.{HaveItems}
 use Rattle.owner_law.specs.Pools.Places.{PoolAt}
 use Rattle.blk_mbr.specs.declared.part.Part.{Part as Partition}
-use Rattle.blk_expect.specs.Replies.{left_by, partition_bytes, partition_in, replies_from, replies_of, status_to}
+use Rattle.class_expect.specs.BlkExpect.Replies.{left_by, partition_bytes, partition_in, replies_from, replies_of, status_to}
 use Rattle.client_programs.specs.Blk.Asking.{replies_to}
 use Rattle.client_programs.proofs.BlkLemmas.Asks.{replies_long}
 use Rattle.blk_law.specs.Sheets.Parts.{BlkPart, Sharer}

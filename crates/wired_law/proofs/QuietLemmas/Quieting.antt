@@ -16,7 +16,7 @@ use Rattle.play_core.specs.Still.{IsStill, Plays}
 use Rattle.play_core.specs.Wants.{Needful}
 use Rattle.play_core.specs.Rests.Showing.{HaveItems}
 use Rattle.play_core.proofs.Lists.{there_below}
-use Rattle.net_expect.specs.Expecting.{Program, frames_for}
+use Rattle.class_expect.specs.NetExpect.Expecting.{Program, frames_for}
 use Rattle.net_law.specs.Owners.Names.{ClientPools}
 use Rattle.net_law.specs.Parts.Numbers.{client_first, device_at, driver_at, receiver_at, copier_at, client_at}
 use Rattle.net_law.specs.TxParts.Numbers.{NetPlace, own_pools, sender_at}

@@ -1,6 +1,6 @@
-use Rattle.serial_switch.specs.Switching.{input_of}
-use Rattle.net_expect.specs.Expecting.{frames_for}
-use Rattle.blk_expect.specs.Replies.{replies_of}
+use Rattle.class_expect.specs.SerialSwitch.Switching.{input_of}
+use Rattle.class_expect.specs.NetExpect.Expecting.{frames_for}
+use Rattle.class_expect.specs.BlkExpect.Replies.{replies_of}
 use Rattle.expect_core.proofs.Isolating.{two_of, replies_agree}
 use Rattle.expect_core.proofs.isolation.isolation_law.Goals as goal
 

@@ -2,7 +2,7 @@ use Rattle.std.proofs.Common.{rules, ◌≡◌, ◌∙◌, List, Result, IfOk, l
 use Rattle.cargo_core.specs.declared.census.Census.{Census}
 use Rattle.wire_core.specs.declared.names.Entry.{Entry}
 use Rattle.bus_law.specs.BusOwners.Pools.{table_after, pool_lines}
-use Rattle.i2c_actors.specs.declared.member.Member.{Member}
+use Rattle.bus_law.specs.declared.i2c_actors.member.Member.{Member}
 use Rattle.i2c_play.specs.Plays.{recorded}
 use Rattle.i2c_play.proofs.playing.report.Goals as goal
 

@@ -1,6 +1,6 @@
 use Rattle.std.proofs.Common.{◌≡◌, ◌++◌, map, take, drop}
 use Rattle.frame_core.specs.declared.mac.Mac.{Mac}
-use Rattle.net_expect.specs.Expecting.{is_for_client}
+use Rattle.class_expect.specs.NetExpect.Expecting.{is_for_client}
 use Rattle.net_virt_rx.proofs.receivers.mark.Given as goal
 
 abbrev pub invariant-loop-k : goal.invariant-loop-k

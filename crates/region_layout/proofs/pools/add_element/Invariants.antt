@@ -1,5 +1,5 @@
 use Rattle.std.proofs.Common.{◌≡◌, ◌++◌, map, take}
-use Rattle.class_table.specs.Shown.{pool_shown}
+use Rattle.sdf_plan.specs.ClassTable.Shown.{pool_shown}
 use Rattle.region_layout.specs.Rows.{pool_row}
 use Rattle.region_layout.proofs.pools.add_element.Given as goal
 

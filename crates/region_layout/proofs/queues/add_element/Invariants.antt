@@ -1,5 +1,5 @@
 use Rattle.std.proofs.Common.{◌≡◌, ◌++◌, map, take}
-use Rattle.class_table.specs.Shown.{queue_shown}
+use Rattle.sdf_plan.specs.ClassTable.Shown.{queue_shown}
 use Rattle.region_layout.specs.Rows.{queue_row}
 use Rattle.region_layout.proofs.queues.add_element.Given as goal
 

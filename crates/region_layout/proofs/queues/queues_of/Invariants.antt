@@ -1,6 +1,6 @@
 use Rattle.std.proofs.Common.{◌≡◌, take}
 use Rattle.std.specs.List.{flat_map}
-use Rattle.class_table.specs.Numbers.{seen}
+use Rattle.sdf_plan.specs.ClassTable.Numbers.{seen}
 use Rattle.region_layout.specs.Rows.{queue_rows}
 use Rattle.region_layout.proofs.queues.queues_of.Given as goal
 

@@ -1,7 +1,7 @@
 use Rattle.std.proofs.lemmas.Result.{err_from_is_err_and}
 use Rattle.command_words.specs.Words.{texts_of}
-use Rattle.shelf_core.specs.Reading.{WasRead}
-use Rattle.shelf_core.proofs.ShelfLemmas.{reads-stopped, reads-for, reads-starved}
+use Rattle.decision_core.specs.ShelfCore.Reading.{WasRead}
+use Rattle.decision_core.proofs.ShelfCore.ShelfLemmas.{reads-stopped, reads-for, reads-starved}
 use Rattle.decision_core.specs.Decided.{decision_of, OfEach}
 use Rattle.decision_core.specs.Readings.{OpensInTurn, ReadLast}
 use Rattle.sddf_top.specs.Outcomes.{EndsAfter}

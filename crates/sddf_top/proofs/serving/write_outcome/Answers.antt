@@ -1,6 +1,6 @@
 use Rattle.std.proofs.Common.{ap, sym, subst, ◌∙◌}
-use Rattle.shelf_core.specs.Outside.{appended}
-use Rattle.shelf_core.specs.Reading.{WasRead}
+use Rattle.decision_core.specs.ShelfCore.Outside.{appended}
+use Rattle.decision_core.specs.ShelfCore.Reading.{WasRead}
 use Rattle.sddf_top.specs.Answers.{Serves}
 use Rattle.sddf_top.specs.declared.played.Played.{Played}
 use Rattle.sddf_top.proofs.AnswerLemmas.{written-whole}

@@ -1,4 +1,4 @@
-use Rattle.class_table.specs.Shown.{element_shown}
+use Rattle.sdf_plan.specs.ClassTable.Shown.{element_shown}
 use Rattle.sdf_check.specs.Valid.{BreaksByRows}
 use Rattle.sdf_check.proofs.KeyLemmas.{stands-there}
 use Rattle.sdf_check.proofs.RowLemmas.{element-asked, none-asked}

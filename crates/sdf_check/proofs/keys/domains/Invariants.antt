@@ -1,7 +1,7 @@
 use Rattle.std.proofs.Common.{◌≡◌, map, take}
-use Rattle.class_table.specs.declared.uses.RoleUse.{RoleUse}
-use Rattle.class_table.specs.Rows.{Name}
-use Rattle.class_table.specs.Shown.{role_shown}
+use Rattle.sdf_plan.specs.declared.class_table.uses.RoleUse.{RoleUse}
+use Rattle.sdf_plan.specs.ClassTable.Rows.{Name}
+use Rattle.sdf_plan.specs.ClassTable.Shown.{role_shown}
 use Rattle.sdf_check.specs.Lookups.{names_shown}
 use Rattle.sdf_check.proofs.keys.domains.Given as goal
 

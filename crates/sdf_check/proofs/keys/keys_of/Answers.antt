@@ -1,7 +1,7 @@
 use Rattle.std.proofs.Common.{◌≡◌, ℕ, ◌+◌, ◌<◌, ◌≤◌, Bool, List, length, map, flat_map, take, Some, slice_get, sym, ap, ◌∙◌, subst, arith}
 use Rattle.std.proofs.lemmas.List.{length-map, take_all}
-use Rattle.class_table.specs.Numbers.{seen}
-use Rattle.class_table.specs.Table.{Element, table_of}
+use Rattle.sdf_plan.specs.ClassTable.Numbers.{seen}
+use Rattle.sdf_plan.specs.ClassTable.Table.{Element, table_of}
 use Rattle.sdf_check.specs.Keys.{AreFlags, names_of}
 use Rattle.sdf_check.specs.Lookups.{FindsPlaces, names_shown}
 use Rattle.sdf_check.proofs.KeyLemmas.{keys-step}

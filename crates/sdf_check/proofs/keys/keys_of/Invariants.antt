@@ -1,6 +1,6 @@
 use Rattle.std.proofs.Common.{◌≡◌, map, take}
 use Rattle.std.specs.List.{flat_map}
-use Rattle.class_table.specs.Numbers.{seen}
+use Rattle.sdf_plan.specs.ClassTable.Numbers.{seen}
 use Rattle.sdf_check.specs.Keys.{AreFlags, names_of}
 use Rattle.sdf_check.specs.Lookups.{FindsPlaces, names_shown}
 use Rattle.sdf_check.proofs.keys.keys_of.Given as goal

@@ -1,6 +1,6 @@
 use Rattle.std.proofs.Common.{◌≡◌, ◌++◌, map, take}
-use Rattle.class_table.specs.Names.{pool_region}
-use Rattle.class_table.specs.Shown.{pool_shown}
+use Rattle.sdf_plan.specs.ClassTable.Names.{pool_region}
+use Rattle.sdf_plan.specs.ClassTable.Shown.{pool_shown}
 use Rattle.sdf_check.specs.Lookups.{names_shown}
 use Rattle.sdf_check.proofs.keys.push_pools.Given as goal
 

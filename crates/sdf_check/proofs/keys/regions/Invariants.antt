@@ -1,7 +1,7 @@
 use Rattle.std.proofs.Common.{◌≡◌, map, take}
 use Rattle.std.specs.List.{flat_map}
-use Rattle.class_table.specs.Names.{queue_region}
-use Rattle.class_table.specs.Shown.{queue_shown}
+use Rattle.sdf_plan.specs.ClassTable.Names.{queue_region}
+use Rattle.sdf_plan.specs.ClassTable.Shown.{queue_shown}
 use Rattle.sdf_check.specs.Lookups.{names_shown}
 use Rattle.sdf_check.proofs.keys.regions.Given as goal
 

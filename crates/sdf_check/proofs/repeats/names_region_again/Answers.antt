@@ -1,7 +1,7 @@
-use Rattle.class_table.specs.Names.{regions_of}
-use Rattle.class_table.specs.Order.{number_of}
-use Rattle.class_table.specs.Shown.{element_shown}
-use Rattle.class_table.specs.Table.{table_of}
+use Rattle.sdf_plan.specs.ClassTable.Names.{regions_of}
+use Rattle.sdf_plan.specs.ClassTable.Order.{number_of}
+use Rattle.sdf_plan.specs.ClassTable.Shown.{element_shown}
+use Rattle.sdf_plan.specs.ClassTable.Table.{table_of}
 use Rattle.sdf_check.proofs.KeyLemmas.{flag-iff}
 use Rattle.sdf_check.proofs.repeats.names_region_again.Goals as goal
 

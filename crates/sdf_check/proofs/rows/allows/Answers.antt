@@ -1,6 +1,6 @@
 use Rattle.std.proofs.Common.{◌≡◌, ◌↔◌, ℕ, List, IsTrue, Bor, subst, inl}
-use Rattle.class_table.specs.declared.uses.Grant.{Grant}
-use Rattle.class_table.specs.Shown.{Shelved}
+use Rattle.sdf_plan.specs.declared.class_table.uses.Grant.{Grant}
+use Rattle.sdf_plan.specs.ClassTable.Shown.{Shelved}
 use Rattle.sdf_check.specs.ClassRules.{SomeOf}
 use Rattle.sdf_check.specs.Lookups.{names_shown}
 use Rattle.sdf_check.proofs.RowLemmas.{allowed-iff, second-asked}

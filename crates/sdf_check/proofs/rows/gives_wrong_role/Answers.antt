@@ -1,6 +1,6 @@
-use Rattle.class_table.specs.declared.uses.RoleUse.{RoleUse}
-use Rattle.class_table.specs.Rows.{Name}
-use Rattle.class_table.specs.Shown.{role_shown}
+use Rattle.sdf_plan.specs.declared.class_table.uses.RoleUse.{RoleUse}
+use Rattle.sdf_plan.specs.ClassTable.Rows.{Name}
+use Rattle.sdf_plan.specs.ClassTable.Shown.{role_shown}
 use Rattle.sdf_check.specs.ClassRules.{Plays}
 use Rattle.sdf_check.proofs.RowLemmas.{rows-one}
 use Rattle.sdf_check.proofs.rows.gives_wrong_role.Goals as goal

@@ -1,7 +1,7 @@
 use Rattle.std.proofs.Common.{◌<◌}
-use Rattle.class_table.specs.declared.uses.QueueUse.{QueueUse}
-use Rattle.class_table.specs.Rows.{Name}
-use Rattle.class_table.specs.Shown.{queue_shown}
+use Rattle.sdf_plan.specs.declared.class_table.uses.QueueUse.{QueueUse}
+use Rattle.sdf_plan.specs.ClassTable.Rows.{Name}
+use Rattle.sdf_plan.specs.ClassTable.Shown.{queue_shown}
 use Rattle.sdf_check.proofs.RowLemmas.{rows-one}
 use Rattle.sdf_check.proofs.rows.has_low_capacity.Goals as goal
 

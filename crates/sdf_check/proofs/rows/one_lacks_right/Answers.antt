@@ -1,5 +1,5 @@
-use Rattle.class_table.specs.declared.uses.Grant.{Grant}
-use Rattle.class_table.specs.Shown.{Shelved}
+use Rattle.sdf_plan.specs.declared.class_table.uses.Grant.{Grant}
+use Rattle.sdf_plan.specs.ClassTable.Shown.{Shelved}
 use Rattle.sdf_check.specs.ClassRules.{IsGranted}
 use Rattle.sdf_check.proofs.LoopLemmas.{more, none_left}
 use Rattle.sdf_check.proofs.rows.one_lacks_right.Goals as goal

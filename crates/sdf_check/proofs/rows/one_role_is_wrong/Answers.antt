@@ -1,5 +1,5 @@
-use Rattle.class_table.specs.declared.uses.RoleUse.{RoleUse}
-use Rattle.class_table.specs.Shown.{Shelved, role_shown}
+use Rattle.sdf_plan.specs.declared.class_table.uses.RoleUse.{RoleUse}
+use Rattle.sdf_plan.specs.ClassTable.Shown.{Shelved, role_shown}
 use Rattle.sdf_check.specs.ClassRules.{Plays}
 use Rattle.sdf_check.proofs.LoopLemmas.{found, more, none_left, not-so}
 use Rattle.sdf_check.proofs.rows.one_role_is_wrong.Goals as goal

@@ -1,7 +1,7 @@
 use Rattle.std.proofs.Common.{ℕ, ◌<◌}
 use Rattle.std.specs.List.{slice_get}
 use Rattle.std.specs.Option.{IsSomeAnd}
-use Rattle.class_table.specs.Shown.{role_shown}
+use Rattle.sdf_plan.specs.ClassTable.Shown.{role_shown}
 use Rattle.sdf_check.specs.ClassRules.{Plays}
 use Rattle.sdf_check.proofs.rows.one_role_is_wrong.Given as goal
 

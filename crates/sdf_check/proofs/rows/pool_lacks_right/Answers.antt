@@ -1,6 +1,6 @@
-use Rattle.class_table.specs.declared.uses.Grant.{Grant}
-use Rattle.class_table.specs.Rows.{Name}
-use Rattle.class_table.specs.Shown.{grant_shown}
+use Rattle.sdf_plan.specs.declared.class_table.uses.Grant.{Grant}
+use Rattle.sdf_plan.specs.ClassTable.Rows.{Name}
+use Rattle.sdf_plan.specs.ClassTable.Shown.{grant_shown}
 use Rattle.sdf_check.specs.ClassRules.{IsGranted}
 use Rattle.sdf_check.proofs.RowLemmas.{rows-one}
 use Rattle.sdf_check.proofs.rows.pool_lacks_right.Goals as goal

@@ -1,7 +1,7 @@
 use Rattle.std.proofs.Common.{ℕ, ◌<◌}
 use Rattle.std.specs.List.{slice_get}
 use Rattle.std.specs.Option.{IsSomeAnd}
-use Rattle.class_table.specs.Shown.{pool_shown}
+use Rattle.sdf_plan.specs.ClassTable.Shown.{pool_shown}
 use Rattle.sdf_check.specs.ClassRules.{PoolHasStranger}
 use Rattle.sdf_check.proofs.rows.pools_have_stranger.Given as goal
 

@@ -1,4 +1,4 @@
-use Rattle.class_table.specs.Shown.{role_shown}
+use Rattle.sdf_plan.specs.ClassTable.Shown.{role_shown}
 use Rattle.sdf_check.specs.ClassRules.{RoleHasNoDomain}
 use Rattle.sdf_check.proofs.RowLemmas.{rows-one}
 use Rattle.sdf_check.proofs.rows.uses_no_domain.Goals as goal

@@ -1,4 +1,4 @@
-use Rattle.class_table.specs.Shown.{queue_shown, pool_shown}
+use Rattle.sdf_plan.specs.ClassTable.Shown.{queue_shown, pool_shown}
 use Rattle.sdf_check.specs.ClassRules.{QueueHasNoRegion, PoolHasNoRegion}
 use Rattle.sdf_check.proofs.RowLemmas.{rows-one, second-asked}
 use Rattle.sdf_check.proofs.rows.uses_no_region.Goals as goal

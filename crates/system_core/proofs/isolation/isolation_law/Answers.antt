@@ -1,9 +1,9 @@
 use Rattle.std.proofs.Common.{◌<◌, ℕ, List, sym, subst}
 use Rattle.frame_core.specs.declared.mac.Mac.{Mac}
 use Rattle.cargo_core.specs.declared.item.Ask.{Ask}
-use Rattle.net_expect.specs.Expecting.{frames_for}
-use Rattle.serial_switch.specs.Switching.{input_of}
-use Rattle.blk_expect.specs.Replies.{replies_of}
+use Rattle.class_expect.specs.NetExpect.Expecting.{frames_for}
+use Rattle.class_expect.specs.SerialSwitch.Switching.{input_of}
+use Rattle.class_expect.specs.BlkExpect.Replies.{replies_of}
 use Rattle.expect_core.specs.Expected.{client_asks, client_entry}
 use Rattle.cast_core.specs.Sources.{client_mac}
 use Rattle.system_core.specs.Isolation.{BlkRests, IsRecordBut, IsRecordIn, NetRests, SerialRests, may_drop}

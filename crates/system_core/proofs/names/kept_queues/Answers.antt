@@ -3,7 +3,7 @@ use Rattle.std.proofs.lemmas.Option.{slice_get_read}
 use Rattle.play_core.specs.Names.{is_wild}
 use Rattle.actor_set.specs.Actors.{part_of}
 use Rattle.actor_set.specs.Laws.Kinds.{hostiles}
-use Rattle.noted_wires.specs.Noting.{kept_at}
+use Rattle.player_kit.specs.Calls.Noting.{kept_at}
 use Rattle.system_core.proofs.Keeping.{kept_more, kept_none, kept_rows, kept_whole}
 use Rattle.system_core.proofs.names.kept_queues.Goals as goal
 use Rattle.system_core.proofs.names.kept_queues.Goals.{then-has_hostile+else-loop-row-test, else-has_hostile}

@@ -1,13 +1,13 @@
 use Rattle.std.proofs.Common.{◌∙◌, List, ap, refl, subst, inl, inr}
 use Rattle.std.proofs.lemmas.Result.{err_from_is_err_and}
 use Rattle.command_words.specs.Words.{texts_of}
-use Rattle.shelf_core.specs.Reading.{WasRead}
-use Rattle.shelf_core.proofs.ShelfLemmas.{reads-stopped, reads-for, reads-starved}
+use Rattle.decision_core.specs.ShelfCore.Reading.{WasRead}
+use Rattle.decision_core.proofs.ShelfCore.ShelfLemmas.{reads-stopped, reads-for, reads-starved}
 use Rattle.decision_core.specs.Decided.{decision_of, OfEach}
 use Rattle.decision_core.specs.Decisions.{Decides}
 use Rattle.decision_core.specs.Readings.{OpensInTurn, ReadLast}
-use Rattle.play_words.specs.declared.options.Setting.{Setting}
-use Rattle.play_words.specs.Words.{main_words}
+use Rattle.command_words.specs.declared.play_words.options.Setting.{Setting}
+use Rattle.command_words.specs.PlayWords.Words.{main_words}
 use Rattle.view_plays.specs.Deciding.{decided_of, OpensFor, LeavesAny}
 use Rattle.view_plays.proofs.CalmLemmas.{of-plan, on-plan}
 use Rattle.view_plays.proofs.PlayLemmas.{draws}

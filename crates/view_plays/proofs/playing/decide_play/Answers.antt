@@ -1,7 +1,7 @@
 use Rattle.std.proofs.Common.{refl, sym, subst, inl}
 use Rattle.std.proofs.lemmas.Result.{err_from_is_err_and}
 use Rattle.command_words.specs.Words.{texts_of}
-use Rattle.shelf_core.specs.Reading.{WasRead}
+use Rattle.decision_core.specs.ShelfCore.Reading.{WasRead}
 use Rattle.view_plays.specs.Deciding.{DrawsPlay, no_drawing}
 use Rattle.view_plays.proofs.playing.decide_play.Goals as goal
 

@@ -1,6 +1,6 @@
 use Rattle.std.proofs.Common.{◌∙◌, ◌^◌, ◌≤◌, ap, sym, subst, List, length}
 use Rattle.expect_core.specs.declared.report.Report.{Report}
-use Rattle.play_words.specs.declared.options.Setting.{Setting}
+use Rattle.command_words.specs.declared.play_words.options.Setting.{Setting}
 use Rattle.view_plays.specs.Deciding.{ending_of, seed_of, limit_of}
 use Rattle.view_plays.proofs.PoolLemmas.{few-lines}
 use Rattle.view_plays.proofs.PlayLemmas.{drawn-play, drawn-of}

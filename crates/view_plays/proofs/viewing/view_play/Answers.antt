@@ -1,6 +1,6 @@
 use Rattle.std.proofs.Common.{refl}
 use Rattle.command_words.specs.Words.{texts_of}
-use Rattle.shelf_core.specs.Reading.{WasRead}
+use Rattle.decision_core.specs.ShelfCore.Reading.{WasRead}
 use Rattle.view_plays.specs.Deciding.{decided_of}
 use Rattle.view_plays.specs.Viewed.{unread, unmade}
 use Rattle.view_plays.proofs.CalmLemmas.{answered-calm}

@@ -2,7 +2,7 @@ use Rattle.std.proofs.Common.{◌≡◌, ℕ, List, length, map, sym, ap, ◌∙
 use Rattle.std.proofs.lemmas.List.{length-map}
 use Rattle.cargo_core.specs.Bodies.{buffers_in}
 use Rattle.frame_core.specs.declared.mac.Mac.{Mac}
-use Rattle.net_expect.specs.Expecting.{is_for_client}
+use Rattle.class_expect.specs.NetExpect.Expecting.{is_for_client}
 use Rattle.buffer_kit.specs.Entries.{frame_of}
 use Rattle.net_virt_rx.proofs.Moving.{marks_for, none_at, none_work_at, not_lent_at, some_work, some_stands, some_free, held_some}
 use Rattle.net_virt_rx.proofs.sharer.Sharer.take_in.Goals as goal

@@ -1,7 +1,7 @@
 use Rattle.std.proofs.Common.{rules, ◌≡◌, vec_len, Bool, List, [], ◌∷◌, map, length, refl, sym, ap, ◌∙◌, subst}
 use Rattle.std.proofs.lemmas.List.{length-map}
 use Rattle.wire_core.specs.declared.names.QueueId.{QueueId}
-use Rattle.serial_switch.specs.Standing.{StandsAfter}
+use Rattle.class_expect.specs.SerialSwitch.Standing.{StandsAfter}
 use Rattle.serial_virt.specs.Receiving.{new_outlet}
 use Rattle.serial_virt.proofs.rx.SerialVirtRx.new.Goals as goal
 

@@ -1,7 +1,7 @@
 use Rattle.std.proofs.Common.{◌∙◌, ◌++◌, sym, ap, subst}
 use Rattle.std.specs.Option.{option_map, option_to_list}
-use Rattle.serial_switch.specs.Standing.{StandsAfter}
-use Rattle.serial_switch.specs.Carried.{bytes_carried}
+use Rattle.class_expect.specs.SerialSwitch.Standing.{StandsAfter}
+use Rattle.class_expect.specs.SerialSwitch.Carried.{bytes_carried}
 use Rattle.serial_virt.specs.declared.rx.SerialVirtRx.{SerialVirtRx}
 use Rattle.serial_virt.proofs.Sharing.{rx_takes, free_load}
 use Rattle.serial_virt.proofs.rx.SerialVirtRx.step_input.Goals as goal

@@ -1,6 +1,6 @@
 use Rattle.std.proofs.Common.{◌≡◌, ◌+◌, ◌*◌, ◌<◌, ◌≤◌, [], length, sym, ap, ◌∙◌, subst, arith}
 use Rattle.wire_core.specs.Queues.{starts}
-use Rattle.switch_class.specs.Queues.{AreQueues}
+use Rattle.switched_law.specs.SwitchClass.Queues.{AreQueues}
 use Rattle.small_system.specs.Shows.{shown}
 use Rattle.switch_play.specs.SwitchSystem.Reporting.{Tells}
 use Rattle.switch_play.specs.SwitchSystem.Playing.{PortsPlayed}

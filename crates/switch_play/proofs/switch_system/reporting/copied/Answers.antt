@@ -1,5 +1,5 @@
 use Rattle.std.proofs.Common.{◌∷◌, ◌++◌, [], ap, sym, ◌∙◌}
-use Rattle.switch_class.proofs.Listing.{take_more}
+use Rattle.switched_law.proofs.SwitchClass.Listing.{take_more}
 use Rattle.switch_play.proofs.switch_system.reporting.copied.Goals as goal
 
 pub loop-k-preserved : goal.loop-k-preserved

@@ -6,7 +6,7 @@ use Rattle.wire_core.specs.Marks.{Brisk}
 use Rattle.play_core.specs.Names.{Noted, notes_of, wild_in}
 use Rattle.actor_set.specs.Actors.{part_of}
 use Rattle.actor_set.specs.Laws.Kinds.{hostiles, scene_of}
-use Rattle.noted_wires.specs.Noting.{kept_at, notes_in}
+use Rattle.player_kit.specs.Calls.Noting.{kept_at, notes_in}
 use Rattle.cast_bound.specs.Dropping.{drops_in}
 use Rattle.system_core.specs.Shows.{Setting, Shown, KeepsSetting, hostile_in, runs, NamesTell, RowsStand}
 use Rattle.system_core.specs.States.{history_of, begun, names_left}

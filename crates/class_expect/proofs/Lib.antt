@@ -1,0 +1,3 @@
+pub mod NetExpect
+pub mod BlkExpect
+pub mod SerialSwitch

@@ -1,9 +1,0 @@
-use Rattle.std.proofs.Common.{◌≡◌, ◌++◌, map, drop}
-use Rattle.class_table.specs.Shown.{element_shown}
-use Rattle.class_table.specs.Table.{numbered, net_client_element}
-use Rattle.class_table.proofs.table.add_net_clients.Given as goal
-
-abbrev pub invariant-loop-at : goal.invariant-loop-at
-invariant-loop-at l =
-    map element_shown l.table.items ++ numbered (net_client_element l.net) l.at (drop l.at l.clients)
-    ≡ map element_shown l.initial.table.items ++ numbered (net_client_element l.net) 0 l.clients

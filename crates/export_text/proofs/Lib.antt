@@ -1,6 +1,0 @@
-mod ElementLemmas
-mod NumberLemmas
-mod NameLemmas
-mod FieldLemmas
-mod FileLemmas
-pub mod ConfigText

@@ -1,5 +1,0 @@
-use Rattle.std.proofs.Common.{◌≡◌, take}
-use Rattle.i2c_actors.proofs.cast.copy_asks.Given as goal
-
-abbrev pub invariant-loop-ask : goal.invariant-loop-ask
-invariant-loop-ask l = l.copies.items ≡ take l.ask-index l.asks

@@ -1,8 +1,0 @@
-use Rattle.std.proofs.Common.{subst}
-use Rattle.small_system.specs.Meanings.{IsFit}
-use Rattle.i2c_actors.specs.declared.member.Member.{Member}
-use Rattle.i2c_actors.specs.Members.{member_means}
-use Rattle.i2c_actors.proofs.member.MemberSmallActor.at_rest.Goals as goal
-
-pub at_rest-requires-in-Virt : goal.at_rest-requires-in-Virt
-at_rest-requires-in-Virt c = (subst (λ (m : Member). IsFit member_means m) c.in-Virt.is c.requires).1.knows

@@ -1,2 +1,0 @@
-mod RowLemmas
-pub mod LayoutPicture

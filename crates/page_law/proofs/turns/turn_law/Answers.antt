@@ -1,8 +1,0 @@
-use Rattle.page_law.proofs.TurnsLemmas.Turning.{in_turn, back_good}
-use Rattle.page_law.proofs.turns.turn_law.Goals as goal
-
-pub returns-clause-turn : goal.returns-clause-turn
-returns-clause-turn c = in_turn
-
-pub returns-clause-back : goal.returns-clause-back
-returns-clause-back c = back_good

@@ -1,6 +1,0 @@
-use Rattle.std.proofs.Common.{◌≡◌, ◌++◌, take}
-use Rattle.play_view.specs.PageText.Page.{parts_text}
-use Rattle.play_view.proofs.page_text.page.push_parts.Given as goal
-
-abbrev pub invariant-loop-part : goal.invariant-loop-part
-invariant-loop-part l = l.to ≡ l.initial.to ++ parts_text (take l.part-index l.parts)

@@ -1,5 +1,0 @@
-mod CountLemmas
-mod NameLemmas
-mod OptionLemmas
-mod SoFar
-mod WordLemmas

@@ -1,6 +1,0 @@
-use Rattle.std.proofs.Common.{sym}
-use Rattle.ports_text.proofs.Addresses.{no_text}
-use Rattle.ports_text.proofs.address.read_address.Goals as goal
-
-pub returns-in-Err : goal.returns-in-Err
-returns-in-Err c = sym (no_text c.args.word.now c.in-Err.ensures.cases.0)

@@ -1,9 +1,0 @@
-use Rattle.region_laws.proofs.BudgetsLemmas.Actors.{actors_are}
-use Rattle.region_laws.proofs.BudgetsLemmas.Most.{most_is}
-use Rattle.region_laws.proofs.budgets.budget_law.Goals as goal
-
-pub returns-clause-actors : goal.returns-clause-actors
-returns-clause-actors c = λ plan trace valid. actors_are plan valid trace
-
-pub returns-clause-ends : goal.returns-clause-ends
-returns-clause-ends c = λ plan trace valid. most_is plan valid trace

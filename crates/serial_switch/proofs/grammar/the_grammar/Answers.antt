@@ -1,8 +1,0 @@
-use Rattle.serial_switch.proofs.Splits.{splits, only_split}
-use Rattle.serial_switch.proofs.grammar.the_grammar.Goals as goal
-
-pub returns-clause-total : goal.returns-clause-total
-returns-clause-total c = splits
-
-pub returns-clause-single : goal.returns-clause-single
-returns-clause-single c = only_split

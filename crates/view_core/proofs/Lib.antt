@@ -1,4 +1,0 @@
-mod DecisionLemmas
-mod ViewLemmas
-mod WordLemmas
-mod WrittenLemmas

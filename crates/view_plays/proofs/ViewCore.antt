@@ -1,0 +1,4 @@
+pub mod DecisionLemmas
+pub mod ViewLemmas
+pub mod WordLemmas
+pub mod WrittenLemmas

@@ -1,0 +1,5 @@
+pub mod PictureKit
+pub mod XmlText
+pub mod PlayPicture
+pub mod LayoutView
+pub mod ExportText

@@ -1,7 +1,0 @@
-//! Laws of the workload: the full example is a valid plan, and no line of a generated trace is bad
-//! for it.
-#![tactic(auto)]
-
-mod laws;
-
-pub use laws::{example_law, trace_law};
