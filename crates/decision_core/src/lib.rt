@@ -1,4 +1,5 @@
-//! What the words of a call and the texts under their names decide, before anything is played.
+//! What the words of a call and the texts under their names decide, before anything is played, and
+//! the shelves and sinks from which texts are read and to which answers are written.
 #![tactic(auto)]
 
 mod alone;

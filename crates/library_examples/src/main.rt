@@ -1,14 +1,17 @@
-//! Short examples of the libraries of queues, which are taken by themselves: each module makes the
-//! main calls of one library, and gives what they come to as a text, which is printed here.
+//! Short examples of the libraries that are taken by themselves: each module makes the main calls
+//! of one library, and gives what they come to as a text, which is printed here. The module
+//! `class_example` is a class of one's own over the player, with its theorem.
 #![tactic(auto)]
 
 mod class_example;
+mod classes;
 mod discipline;
 mod ring;
 mod seats;
 mod world;
 
 use cargo_core::Memory;
+use classes::show_class;
 use discipline::show_discipline;
 use ring::show_ring;
 use seats::show_seats;
@@ -29,5 +32,6 @@ fn main(rt: HostRuntime) -> io::Result<()> {
     print(&rt, "spsc_queue", show_ring(alloc))?;
     print(&rt, "seat_wires", show_seats(alloc))?;
     print(&rt, "plain_wires", show_world(alloc))?;
-    print(&rt, "turn_kit", show_discipline(alloc))
+    print(&rt, "turn_kit", show_discipline(alloc))?;
+    print(&rt, "small_system", show_class(alloc))
 }

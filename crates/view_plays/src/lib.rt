@@ -1,5 +1,5 @@
-//! Plays, drawn: the words `play` and `html` of the program beside the main one, and all its words.
-//! What is played is what the main program plays for the same words.
+//! The viewing program: what its words decide, which texts they lead to, and plays, drawn. What is
+//! played is what the main program plays for the same words.
 #![tactic(auto)]
 
 mod hosting;

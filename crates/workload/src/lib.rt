@@ -1,5 +1,5 @@
-//! The workload that `gen` plays: a description, and a trace for it that a number generates. Both
-//! are this project's own.
+//! The workload that `gen` plays: a description, a trace for it that a number generates, and the law
+//! that both are accepted, as a user's own would be. Both are this project's own.
 #![tactic(auto)]
 
 mod description;
