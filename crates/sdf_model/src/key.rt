@@ -113,7 +113,7 @@ pub(crate) const END: [Key; 2] = keys! {
     id: Number, Absent::Refused;
 };
 
-pub(crate) const NET: [Key; 10] = keys! {
+pub(crate) const NET: [Key; 11] = keys! {
     driver: Name, Absent::Refused;
     rx_virt: Name, Absent::Refused;
     tx_virt: Name, Absent::Refused;
@@ -124,6 +124,7 @@ pub(crate) const NET: [Key; 10] = keys! {
     rx_capacity: Number, Absent::Refused;
     tx_capacity: Number, Absent::Refused;
     client: List, Absent::Refused;
+    device: Policy, Absent::Hold;
 };
 
 /// The keys that the network class has more in version 2.
@@ -132,7 +133,7 @@ pub(crate) const NET_MORE: [Key; 2] = keys! {
     rx_buffer_size: Number, Absent::Number(2048);
 };
 
-pub(crate) const NET_CLIENT: [Key; 12] = keys! {
+pub(crate) const NET_CLIENT: [Key; 13] = keys! {
     pd: Name, Absent::Refused;
     copier: Name, Absent::Refused;
     mac: Text, Absent::Refused;
@@ -145,6 +146,7 @@ pub(crate) const NET_CLIENT: [Key; 12] = keys! {
     rx_capacity: Number, Absent::Refused;
     tx_buffers: Number, Absent::Refused;
     tx_capacity: Number, Absent::Refused;
+    policy: Policy, Absent::Hold;
 };
 
 /// The keys that a network client has more in version 2.

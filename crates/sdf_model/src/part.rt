@@ -101,7 +101,7 @@ impl Part for Net {
         reading!(Net by key::NET, alloc, table;
             four(driver, rx_virt, tx_virt, rx_region)
             four(rx_queues, tx_queues, rx_buffers, rx_capacity)
-            two(tx_capacity, client);
+            three(tx_capacity, client, device);
             key::NET_MORE; two(max_frame, rx_buffer_size))
     }
 }
@@ -113,7 +113,8 @@ impl Part for NetClient {
         reading!(NetClient by key::NET_CLIENT, alloc, table;
             four(pd, copier, mac, lease_queues)
             four(rx_region, rx_queues, tx_region, tx_queues)
-            four(rx_buffers, rx_capacity, tx_buffers, tx_capacity);
+            three(rx_buffers, rx_capacity, tx_buffers)
+            two(tx_capacity, policy);
             key::NET_CLIENT_MORE; two(rx_buffer_size, tx_buffer_size))
     }
 }

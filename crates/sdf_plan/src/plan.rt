@@ -68,7 +68,7 @@ pub struct End {
     pub id: u64,
 }
 
-/// What is done with what comes for a client where there is no room for it: it waits, or it is
+/// What is done with what comes where there is no buffer and no room for it: it waits, or it is
 /// dropped.
 #[derive(Clone, Copy, Debug, PartialEq, Eq)]
 pub enum Policy {
@@ -76,8 +76,9 @@ pub enum Policy {
     Drop,
 }
 
-/// The network class. A text of version 1 has no key for `max_frame` and for the sizes of buffers,
-/// in bytes, here and at a client: they are 1,514 and 2,048 there.
+/// The network class. `device` is what the Ethernet device does with a frame. A text of version 1
+/// has no key for `max_frame` and for the sizes of buffers, in bytes, here and at a client: they are
+/// 1,514 and 2,048 there.
 #[derive(Debug, Drop)]
 pub struct Net {
     pub driver: Text,
@@ -90,11 +91,12 @@ pub struct Net {
     pub rx_capacity: u64,
     pub tx_capacity: u64,
     pub client: Series<NetClient>,
+    pub device: Policy,
     pub max_frame: u64,
     pub rx_buffer_size: u64,
 }
 
-/// A client of the network class.
+/// A client of the network class. `policy` is what its copier does with a frame.
 #[derive(Debug, Drop)]
 pub struct NetClient {
     pub pd: Text,
@@ -109,6 +111,7 @@ pub struct NetClient {
     pub rx_capacity: u64,
     pub tx_buffers: u64,
     pub tx_capacity: u64,
+    pub policy: Policy,
     pub rx_buffer_size: u64,
     pub tx_buffer_size: u64,
 }
