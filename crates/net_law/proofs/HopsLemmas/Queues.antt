@@ -28,16 +28,11 @@ use Rattle.net_law.specs.TxParts.Numbers.{shippers_from}
 use Rattle.play_core.proofs.Walks.{begins_few}
 use Rattle.net_law.specs.Hops.Hops.{script_frames, AreApart}
 
--- items with lengths are no more than the lengths, nor than the items
+-- items with lengths are no more than the lengths
 pub sized_lengths : (ns : List ℕ) (items : List Item) → length (sized_items ns items) ≤ length ns
 sized_lengths [] items = omega arith
 sized_lengths (n ∷ ns) [] = omega arith
 sized_lengths (n ∷ ns) (item ∷ items) = let h = sized_lengths ns items in omega (arith, h)
-
-pub sized_few : (ns : List ℕ) (items : List Item) → length (sized_items ns items) ≤ length items
-sized_few [] items = omega arith
-sized_few (n ∷ ns) [] = omega arith
-sized_few (n ∷ ns) (item ∷ items) = let h = sized_few ns items in omega (arith, h)
 
 -- a client sends the frames of its script, or one for each that came
 sent_few : (program : Program) (mac : Mac) (came : List Item) → length (sent_lens program mac came) ≤ script_frames program + length came

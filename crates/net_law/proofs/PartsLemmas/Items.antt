@@ -103,7 +103,7 @@ items_more : (xs ys : List Cargo) → items_of (xs ++ ys) ≡ items_of xs ++ ite
 items_more xs ys = map-append (λ (d : Cargo). d.0) xs ys
 
 -- an answer is as long as its frame's length tells
-answer_long : (mac : Mac) (f : List ℕ) → length (answer_to mac f) ≡ answer_len mac (length f)
+pub answer_long : (mac : Mac) (f : List ℕ) → length (answer_to mac f) ≡ answer_len mac (length f)
 answer_long mac f = by (nat_le 14 (length f)) refl
   where
     by : (b : Bool) → nat_le 14 (length f) ≡ b → length (if b then turned_round f mac else f) ≡ (if b then 6 + length mac.0 + (length f - 12) else length f)
