@@ -29,6 +29,9 @@ front_is bytes (Carried.Page page) room =
 pub frame_is : (bytes : List ℕ) (c : Cargo) → IsRoomy bytes c → frame_of (filled bytes c) ≡ bytes
 frame_is bytes c h = ap (λ n. first_bytes n (filled_body bytes c.1)) (len_is (length bytes) c.0 h.0) ∙ front_is bytes c.1 h.1
 
+pub filled_len : (bytes : List ℕ) (c : Cargo) → IsRoomy bytes c → len_of (filled bytes c).0 ≡ length bytes
+filled_len bytes c h = len_is (length bytes) c.0 h.0
+
 -- the frames of filled entries are those that they were filled with
 pub frames_are : (fs : List (List ℕ)) (cs : List Cargo) → AreRoomy fs cs → IsPrefix (map frame_of (all_filled fs cs)) fs
 frames_are [] cs h = ([], refl)

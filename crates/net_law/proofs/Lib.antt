@@ -13,3 +13,4 @@ pub mod RestsLemmas
 pub mod TxRests
 pub mod HopsLemmas
 pub mod TxScene
+pub mod DropsLemmas

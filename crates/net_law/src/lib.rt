@@ -1,7 +1,7 @@
 //! What holds of the network class apart from any system, by the rows of its actors and the law of
 //! the queues between them: at any moment what reaches each client and the wire, and what each
-//! client sends; the tables of its actors, and when each is at rest; who has which buffer; and how
-//! often its entries are moved.
+//! client sends, also without what the device and the copiers drop; the tables of its actors, and
+//! when each is at rest; who has which buffer; and how often its entries are moved.
 #![tactic(auto)]
 
 ghost use Rattle.std.specs.Prelude.{ℕ, List, map};
@@ -22,6 +22,7 @@ ghost use Rattle.net_law.specs.Receiving.{IsReceiving};
 ghost use Rattle.net_law.specs.Sending.{IsSending};
 
 pub mod delivering;
+pub mod drops;
 pub mod hops;
 pub mod owners;
 pub mod parts;

@@ -8,9 +8,9 @@ ghost use Rattle.owner_law.specs.Things.{Window, Naming};
 ghost use Rattle.owner_law.specs.Keeping.{Keeps, all_taken, all_put};
 ghost use Rattle.turn_kit.specs.declared.pipe.Pipe.{Pipe};
 ghost use Rattle.pipe_driver.specs.Drivers.{PipesRow};
-ghost use Rattle.device_model.specs.Ethernet.Devices.{HoldingDeviceRow};
+ghost use Rattle.device_model.specs.Ethernet.Devices.{DeviceRow};
 ghost use Rattle.device_model.specs.declared.ethernet.EthDevice.{EthDevice};
-ghost use Rattle.net_copier.specs.Copying.{HoldingCopierRow};
+ghost use Rattle.net_copier.specs.Copying.{CopierRow};
 ghost use Rattle.net_copier.specs.declared.NetCopier.{NetCopier};
 ghost use Rattle.client_programs.specs.Net.Clients.{ClientRow};
 ghost use Rattle.client_programs.specs.declared.net.NetClient.{NetClient};
@@ -19,13 +19,13 @@ ghost use Rattle.net_law.specs.Owners.Ends.{AreItemsOf, device_ends, DeviceNames
 ghost use Rattle.net_law.specs.Owners.Ends.{DriverNames, copier_ends, CopierNames, client_ends};
 ghost use Rattle.net_law.specs.Owners.Ends.{ClientNames, client_start};
 
-/// The rows of a device, a driver, a copier and a client let each put only what was in its hand: of
-/// the first three, which have nothing at the start, what they took; of a client the buffers that
-/// it had too.
+/// The rows of a device, a driver, a copier and a client let each put only what was in its hand,
+/// whatever the device and the copier dropped: of the first three, which have nothing at the start,
+/// what they took; of a client the buffers that it had too.
 pub fn net_owner_law()
     ensures device { (naming : Naming) (rx tx : List Window) (d : EthDevice) (passed : Passed)
         (m : Moved) → DeviceNames naming rx tx d → AreItemsOf (device_ends d) passed m
-        → HoldingDeviceRow d passed
+        → DeviceRow d passed
         → Keeps (λ pool. []) (all_taken naming m (device_ends d))
         (all_put naming m (device_ends d)) }
     ensures driver { (naming : Naming) (ps : List Pipe) (passed : Passed) (m : Moved)
@@ -33,7 +33,7 @@ pub fn net_owner_law()
         → Keeps (λ pool. []) (all_taken naming m (pipe_ends ps)) (all_put naming m (pipe_ends ps)) }
     ensures copier { (naming : Naming) (leased buffers : List Window) (c : NetCopier)
         (passed : Passed) (m : Moved) → CopierNames naming leased buffers c
-        → AreItemsOf (copier_ends c) passed m → HoldingCopierRow c passed
+        → AreItemsOf (copier_ends c) passed m → CopierRow c passed
         → Keeps (λ pool. []) (all_taken naming m (copier_ends c))
         (all_put naming m (copier_ends c)) }
     ensures client { (naming : Naming) (c : NetClient) (passed : Passed)

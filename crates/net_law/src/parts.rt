@@ -2,10 +2,11 @@
 //! actors, that their needs follow from it, and that their own rows say it of items, since nothing
 //! comes out of turn.
 
-ghost use Rattle.std.specs.Prelude.{◌≡◌, ℕ, Some, List, [], length, slice_get};
+ghost use Rattle.std.specs.Prelude.{◌≡◌, ℕ, Bool, Some, List, [], length, slice_get};
 ghost use Rattle.cargo_core.specs.Lists.{IsPrefix};
 ghost use Rattle.frame_core.specs.declared.mac.Mac.{Mac};
 ghost use Rattle.wire_core.specs.Deeds.{Cargo};
+ghost use Rattle.wire_core.specs.Fates.{without};
 ghost use Rattle.wire_core.specs.Lists.{Passed};
 ghost use Rattle.play_core.specs.Moved.{Moved};
 ghost use Rattle.play_core.specs.Sheets.{Scene, IsOwn, NeedsFollow};
@@ -16,11 +17,11 @@ ghost use Rattle.pipe_driver.specs.Drivers.{PipesRow};
 ghost use Rattle.pipe_driver.specs.declared.pipes.Pipes.{Pipes};
 ghost use Rattle.class_expect.specs.NetExpect.Expecting.{Program, frames_for};
 ghost use Rattle.buffer_kit.specs.Entries.{frame_of};
-ghost use Rattle.device_model.specs.Ethernet.Devices.{HoldingDeviceRow};
+ghost use Rattle.device_model.specs.Ethernet.Devices.{DeviceRow, accepted};
 ghost use Rattle.device_model.specs.declared.ethernet.EthDevice.{EthDevice};
-ghost use Rattle.client_programs.specs.Net.Clients.{ClientRow};
+ghost use Rattle.client_programs.specs.Net.Clients.{ClientRow, rx_active};
 ghost use Rattle.client_programs.specs.declared.net.NetClient.{NetClient};
-ghost use Rattle.net_copier.specs.Copying.{HoldingCopierRow, leased_bytes};
+ghost use Rattle.net_copier.specs.Copying.{CopierRow, leased_bytes, leases_dropped};
 ghost use Rattle.net_copier.specs.declared.NetCopier.{NetCopier};
 ghost use Rattle.net_virt_rx.specs.Receiving.{RxRow};
 ghost use Rattle.net_virt_rx.specs.declared.NetVirtRx.{NetVirtRx};
@@ -35,7 +36,8 @@ ghost use Rattle.net_law.specs.Parts.Numbers.{device_at, driver_at, receiver_at,
 ghost use Rattle.net_law.specs.Parts.Numbers.{client_at, layout_naming};
 ghost use Rattle.net_law.specs.Parts.Playing.{device_part, driver_part, copier_part};
 ghost use Rattle.net_law.specs.Parts.Playing.{client_part, receiver_part, AreLeases};
-ghost use Rattle.net_law.specs.Parts.Playing.{ReceivesInTurn, HasBuffers, AnswersInTurn};
+ghost use Rattle.net_law.specs.Parts.Playing.{ReceivesInTurn, HasBuffers, AnswersWhole, AreWhole};
+ghost use Rattle.net_law.specs.Dropped.{TellsDevice, TellsCopier};
 ghost use Rattle.net_law.specs.Parts.Turning.{IsReceiveHalf, IsClient};
 
 /// What is said of an actor speaks of its own ends alone, and an output is owed exactly where the
@@ -45,13 +47,15 @@ pub fn table_law()
     ensures follow { (scene : Scene) (p : NetPart) → NeedsFollow (net_sheet scene p) }
 {}
 
-/// The rows of the actors, of entries with their bodies, say of the items what the table says. A
-/// copier's does where it took leases alone, each as long as its item says; the virtualiser's where
-/// the frames that it took are those of their places and none came out of turn.
+/// The rows of the actors, of entries with their bodies, say of the items what the table says: of the
+/// device and of a copier with those frames dropped that its calls tell. A copier's does where it
+/// took leases alone, each as long as its item says; the virtualiser's where the frames that it took
+/// are those of their places and none came out of turn; an echo's where each entry that came to it
+/// has a whole frame.
 pub fn row_law()
     ensures device { (scene : Scene) (d : EthDevice) (passed : Passed) (m : Moved)
-        → AreItemsOf (net_sheet scene (device_part d)).ends passed m
-        → HoldingDeviceRow d passed → (net_sheet scene (device_part d)).row m }
+        → TellsDevice d passed m → DeviceRow d passed
+        → (net_sheet scene (device_part d)).row m }
     ensures driver { (scene : Scene) (ps : List Pipe) (passed : Passed) (m : Moved)
         → AreItemsOf (net_sheet scene (driver_part ps)).ends passed m → PipesRow ps passed
         → (net_sheet scene (driver_part ps)).row m }
@@ -60,11 +64,10 @@ pub fn row_law()
         → AreItemsOf (net_sheet scene (receiver_part v)).ends passed m
         → RxRow v passed → (net_sheet scene (receiver_part v)).row m }
     ensures copier { (scene : Scene) (c : NetCopier) (passed : Passed) (m : Moved)
-        → AreItemsOf (net_sheet scene (copier_part c)).ends passed m
-        → AreLeases (passed.taken c.lease_input.queue.0)
-        → HoldingCopierRow c passed → (net_sheet scene (copier_part c)).row m }
+        → TellsCopier c passed m → AreLeases (passed.taken c.lease_input.queue.0)
+        → CopierRow c passed → (net_sheet scene (copier_part c)).row m }
     ensures client { (scene : Scene) (c : NetClient) (passed : Passed) (m : Moved)
-        → HasBuffers c → AnswersInTurn scene.frames c
+        → HasBuffers c → AnswersWhole c passed
         → AreItemsOf (net_sheet scene (client_part c)).ends passed m
         → ClientRow c passed → (net_sheet scene (client_part c)).row m }
 {}
@@ -77,9 +80,10 @@ pub fn own_law()
 {}
 
 /// On its way round nothing comes out of turn, whatever the clients do: not at the virtualiser,
-/// which takes the frames of their places; and a copier takes leases alone, each as long as its
-/// item says and of one of the device's frames. Each client's record is a beginning of the device's
-/// frames that are for it.
+/// which takes the frames of their places among those that the device accepted; and a copier takes
+/// leases alone, each as long as its item says and of one of the device's frames. Each client's
+/// record is a beginning of the accepted frames that are for it without those that its copier
+/// dropped, and each entry that came to it has a whole frame.
 pub fn turn_law()
     ensures turn { (d : EthDevice) (p : Pipes (Pipes (Pipes Pipe))) (v : NetVirtRx)
         (copiers : List NetCopier) (passed : Passed)
@@ -87,7 +91,7 @@ pub fn turn_law()
     ensures frames { (d : EthDevice) (p : Pipes (Pipes (Pipes Pipe))) (v : NetVirtRx)
         (copiers : List NetCopier) (passed : Passed) → IsReceiveHalf d p v copiers passed
         → (k : ℕ) (c : Cargo) → slice_get (passed.taken v.ends.input.queue.0) k ≡ Some c
-        → frame_of c ≡ frame_at d.frames k }
+        → frame_of c ≡ frame_at (accepted d passed.calls) k }
     ensures leases { (d : EthDevice) (p : Pipes (Pipes (Pipes Pipe))) (v : NetVirtRx)
         (copiers : List NetCopier) (passed : Passed) → IsReceiveHalf d p v copiers passed
         → (k : ℕ) (c : NetCopier) → slice_get copiers k ≡ Some c
@@ -99,24 +103,29 @@ pub fn turn_law()
         → (i : ℕ) × (slice_get d.frames i ≡ Some (leased_bytes x)) }
     ensures records { (d : EthDevice) (p : Pipes (Pipes (Pipes Pipe))) (v : NetVirtRx)
         (copiers : List NetCopier) (passed : Passed) → IsReceiveHalf d p v copiers passed
+        → (k : ℕ) (mac : Mac) (c : NetClient) → (client : IsClient v copiers k mac c passed)
+        → IsPrefix c.frames.tape.shown (without (leases_dropped client.copier passed.calls)
+        (frames_for mac (accepted d passed.calls))) }
+    ensures whole { (d : EthDevice) (p : Pipes (Pipes (Pipes Pipe))) (v : NetVirtRx)
+        (copiers : List NetCopier) (passed : Passed) → IsReceiveHalf d p v copiers passed
         → (k : ℕ) (mac : Mac) (c : NetClient) → IsClient v copiers k mac c passed
-        → IsPrefix c.frames.tape.shown (frames_for mac d.frames) }
+        → AreWhole (passed.taken (rx_active c)) }
 {}
 
 /// By the layout's table, where the network's queues are the first, items name at each actor's
 /// queues what the owners of buffers ask.
 pub fn name_law()
     ensures device { (scene : Scene) (pool : PoolAt) (macs : List Mac) (pools : List ClientPools)
-        (frames : List (List ℕ))
-        → NamesPart (layout_naming scene pool macs pools) scene (device_at 0 frames) }
+        (frames : List (List ℕ)) (drops : Bool)
+        → NamesPart (layout_naming scene pool macs pools) scene (device_at 0 frames drops) }
     ensures driver { (scene : Scene) (pool : PoolAt) (macs : List Mac) (pools : List ClientPools)
         → NamesPart (layout_naming scene pool macs pools) scene (driver_at 0) }
     ensures receiver { (scene : Scene) (pool : PoolAt) (macs : List Mac) (pools : List ClientPools)
         → length macs ≡ length pools
         → NamesPart (layout_naming scene pool macs pools) scene (receiver_at 0 pool macs) }
     ensures copier { (scene : Scene) (pool : PoolAt) (macs : List Mac) (pools : List ClientPools)
-        (k : ℕ) (p : ClientPools) → slice_get pools k ≡ Some p
-        → NamesPart (layout_naming scene pool macs pools) scene (copier_at 0 k) }
+        (k : ℕ) (p : ClientPools) (drops : Bool) → slice_get pools k ≡ Some p
+        → NamesPart (layout_naming scene pool macs pools) scene (copier_at 0 k drops) }
     ensures client { (scene : Scene) (pool : PoolAt) (macs : List Mac) (pools : List ClientPools)
         (k : ℕ) (p : ClientPools) (program : Program) (mac : Mac) → slice_get pools k ≡ Some p
         → NamesPart (layout_naming scene pool macs pools) scene (client_at 0 k program mac p) }

@@ -36,7 +36,7 @@ module _ (k : NetCopier) (passed : Passed) (row : CopierRow k passed) where
   tla = passed.taken k.lease_input.queue.0
 
   -- no more leases are settled than came in turn, or none is dropped
-  settled_few : (length ds ≤ length row.leases) ⊎ (marked ds ≡ 0)
+  pub settled_few : (length ds ≤ length row.leases) ⊎ (marked ds ≡ 0)
   settled_few = by k.drops refl
     where
       by : (b : Bool) → k.drops ≡ b → (length ds ≤ length row.leases) ⊎ (marked ds ≡ 0)

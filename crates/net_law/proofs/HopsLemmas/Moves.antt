@@ -5,27 +5,28 @@ use Rattle.wire_core.specs.declared.names.QueueRow.{QueueRow}
 use Rattle.wire_core.specs.declared.names.Entry.{Entry}
 use Rattle.wire_core.specs.Journal.{History, Hostiles, QueuesFlow}
 use Rattle.wire_core.specs.Marks.{sum_below}
-use Rattle.play_core.specs.Moved.{Moved, moved}
+use Rattle.wire_core.specs.Ends.{Consumer}
+use Rattle.play_core.specs.Moved.{Moved, moved, gone_at}
 use Rattle.play_core.specs.Sheets.{Scene}
 use Rattle.play_core.proofs.Lists.{there_is, there_below}
 use Rattle.frame_core.specs.declared.mac.Mac.{Mac}
 use Rattle.class_expect.specs.NetExpect.Expecting.{Program}
-use Rattle.buffer_kit.specs.Entries.{len_of}
 use Rattle.net_law.specs.Owners.Names.{ClientPools}
 use Rattle.owner_law.specs.Pools.Places.{by_offset, numbers_from}
 use Rattle.owner_law.proofs.Sums.{sum_none}
-use Rattle.net_law.specs.Parts.Rows.{FillsFrames, CopiesLeases, ServesClient, SharesFrames, given_item, given_items}
-use Rattle.net_law.proofs.PartsLemmas.Plain.{numbers_length}
-use Rattle.net_law.specs.Parts.Numbers.{client_first, lessees_from}
+use Rattle.owner_law.proofs.Counting.{below_plus}
+use Rattle.net_law.specs.Parts.Rows.{FillsSome, CopiesSome, ServesClient, SharesFrames, given_item, given_items}
+use Rattle.net_law.proofs.PartsLemmas.Plain.{numbers_length, fill_hops, few_hops}
+use Rattle.net_law.specs.Parts.Numbers.{client_first, lessees_from, policy_at}
 use Rattle.net_law.proofs.PartsLemmas.Counting.{below_few}
 use Rattle.net_law.specs.TxParts.Rows.{MergesSends, all_sends, in_range}
 use Rattle.net_law.specs.TxParts.Numbers.{NetPlace, own_pools, sender_at}
 use Rattle.play_core.proofs.Walks.{begins_few}
-use Rattle.net_law.specs.Hops.Hops.{net_put, net_moves, script_frames, IsNetwork}
+use Rattle.net_law.specs.Hops.Hops.{net_put, net_gone, net_moves, script_frames, IsNetwork}
 use Rattle.net_law.proofs.HopsLemmas.Sums.{sum_parts, sum_sixes, times_each, below_list, each_is}
-use Rattle.net_law.proofs.HopsLemmas.Queues.{sized_few, sends_few, leases_few, frees_few, lessee_there, shipper_there, came_from, sends_total, merge_few, ranges_few, home_few}
+use Rattle.net_law.proofs.HopsLemmas.Queues.{sends_few, leases_few, frees_few, lessee_there, shipper_there, came_from, sends_total, merge_few, ranges_few, home_few}
 
-module _ (scene : Scene) (hostile : Hostiles) (history : History) (rows : List QueueRow) (j : List Entry) (net : NetPlace) (flows : QueuesFlow history rows j) (w : IsNetwork scene hostile rows (moved history j) net) where
+module _ (scene : Scene) (fs : List (List ℕ)) (hostile : Hostiles) (history : History) (rows : List QueueRow) (j : List Entry) (net : NetPlace) (flows : QueuesFlow history rows j) (w : IsNetwork scene fs hostile rows (moved history j) net) where
   abbrev m : Moved
   m = moved history j
 
@@ -40,27 +41,30 @@ module _ (scene : Scene) (hostile : Hostiles) (history : History) (rows : List Q
   count = length net.macs
 
   abbrev frames : ℕ
-  frames = length scene.frames
+  frames = length fs
 
   flow : (i : ℕ) → i < 8 + 6 * count → got i ≤ put i
   flow i there = let h = w.holds i there in begins_few (m.taken (net.first + i)) (m.sent (net.first + i)) (flows (net.first + i) h.row h.there).begins
 
-  device_row : FillsFrames scene.frames (m.taken net.first) (m.sent (net.first + 1)) (m.taken (net.first + 2)) (m.sent (net.first + 3))
+  -- how many frames the device dropped, and the copier of a client
+  abbrev lost : ℕ
+  lost = gone_at net.device_drops m Consumer net.first
+
+  abbrev lost_for : ℕ → ℕ
+  lost_for k = gone_at (policy_at net.drops k) m Consumer (client_first net.first k + 3)
+
+  device_row : FillsSome net.device_drops lost fs (m.taken net.first) (m.sent (net.first + 1)) (m.taken (net.first + 2)) (m.sent (net.first + 3))
   device_row = w.device
 
   driver_copies : (a b : ℕ) → IsPrefix (m.sent (net.first + a)) (m.taken (net.first + b)) → put a ≤ got b
   driver_copies a b h = begins_few (m.sent (net.first + a)) (m.taken (net.first + b)) h
 
-  -- the device fills no more buffers than there are frames
-  filled : put 1 ≤ frames
-  filled =
-      let a = begins_few _ _ device_row.filled in
-      let b = sized_few (map (λ frame. length frame) scene.frames) (m.taken net.first) in
-      let c = device_row.takes in
-      omega (arith, a, b, c)
+  -- the device fills and drops no more than there are frames
+  filled : put 1 + lost ≤ frames
+  filled = fill_hops device_row.marks net.device_drops lost fs (m.taken net.first) (m.sent (net.first + 1)) (m.taken (net.first + 2)) (m.sent (net.first + 3)) device_row.out
 
   returned : put 3 ≤ got 2
-  returned = begins_few _ _ device_row.returns
+  returned = begins_few _ _ device_row.out.returns
 
   received : put 4 ≤ got 1
   received = driver_copies 4 1 (w.driver 1 _ refl)
@@ -111,7 +115,7 @@ module _ (scene : Scene) (hostile : Hostiles) (history : History) (rows : List Q
     below : k < count
     below = there_below net.macs k mac there
 
-    copies : CopiesLeases (m.taken (client_first net.first k)) (m.taken (client_first net.first k + 3)) (m.sent (client_first net.first k + 2)) (m.sent (client_first net.first k + 1))
+    copies : CopiesSome (lost_for k) (m.taken (client_first net.first k)) (m.taken (client_first net.first k + 3)) (m.sent (client_first net.first k + 2)) (m.sent (client_first net.first k + 1))
     copies = w.copier k below
 
     leased : length (m.taken (client_first net.first k)) ≤ frames
@@ -122,21 +126,19 @@ module _ (scene : Scene) (hostile : Hostiles) (history : History) (rows : List Q
         omega (arith, is, a, b)
 
     given_back : put (at 1 k) ≤ frames
-    given_back = let a = begins_few _ _ copies.gives_back in let e = put_at 1 k in omega (arith, a, e, leased)
+    given_back = let a = begins_few _ _ copies.out.gives_back in let e = put_at 1 k in omega (arith, a, e, leased)
 
-    copied : put (at 2 k) ≤ frames
+    copied : put (at 2 k) + lost_for k ≤ frames
     copied =
-        let a = begins_few _ _ copies.copies in
-        let b = sized_few (map len_of (m.taken (client_first net.first k))) (m.taken (client_first net.first k + 3)) in
-        let c = copies.takes_for in
+        let a = few_hops copies.marks (lost_for k) (m.taken (client_first net.first k)) (m.taken (client_first net.first k + 3)) (m.sent (client_first net.first k + 2)) (m.sent (client_first net.first k + 1)) copies.out in
         let e = put_at 2 k in
-        omega (arith, a, b, c, e, leased)
+        omega (arith, a, e, leased)
 
     came : length (m.taken (client_first net.first k + 2)) ≤ frames
     came = let e = got_at 2 k in let a = client_flow 2 k (omega arith) below in omega (arith, e, a, copied)
 
   module _ (k : ℕ) (mac : Mac) (q : ClientPools) (program : Program) (there : slice_get net.macs k ≡ Some mac) (pooled : slice_get net.pools k ≡ Some q) (runs : slice_get net.programs k ≡ Some program) where
-    serves : ServesClient program mac scene.frames (by_offset (own_pools q).rx) (by_offset (own_pools q).tx) (m.taken (client_first net.first k + 2)) (m.sent (client_first net.first k + 3)) (m.taken (client_first net.first k + 5)) (m.sent (client_first net.first k + 4))
+    serves : ServesClient program mac (by_offset (own_pools q).rx) (by_offset (own_pools q).tx) (m.taken (client_first net.first k + 2)) (m.sent (client_first net.first k + 3)) (m.taken (client_first net.first k + 5)) (m.sent (client_first net.first k + 4))
     serves = w.client k program mac q runs there pooled
 
     freed_by : put (at 3 k) ≤ q.rx.buffers + frames
@@ -153,7 +155,7 @@ module _ (scene : Scene) (hostile : Hostiles) (history : History) (rows : List Q
     sent_by : put (at 4 k) ≤ script_frames program + frames
     sent_by =
         let a = begins_few _ _ serves.sends.filled in
-        let b = sends_few program mac scene.frames (length (m.taken (client_first net.first k + 2))) (given_items (by_offset (own_pools q).tx) ++ m.taken (client_first net.first k + 5)) in
+        let b = sends_few program mac (m.taken (client_first net.first k + 2)) (given_items (by_offset (own_pools q).tx) ++ m.taken (client_first net.first k + 5)) in
         let e = put_at 4 k in
         let f = came k mac there in
         omega (arith, a, b, e, f)
@@ -190,8 +192,13 @@ module _ (scene : Scene) (hostile : Hostiles) (history : History) (rows : List Q
   all_given : all 1 ≤ times_each net.macs frames
   all_given = by_macs 1 given_back
 
-  all_copied : all 2 ≤ times_each net.macs frames
-  all_copied = by_macs 2 copied
+  all_copied : all 2 + sum_below lost_for count ≤ times_each net.macs frames
+  all_copied =
+      let each : (k : ℕ) (mac : Mac) → slice_get net.macs k ≡ Some mac → put (at 2 (0 + k)) + lost_for (0 + k) ≤ 0 + frames = λ k mac there. let one = copied k mac there in let same : put (at 2 (0 + k)) + lost_for (0 + k) ≡ put (at 2 k) + lost_for k = ap (λ n. put (at 2 n) + lost_for n) (let z : 0 + k ≡ k = omega arith in z) in omega (arith, one, same) in
+      let a = below_list (λ k. put (at 2 k) + lost_for k) (λ (mac : Mac). 0) frames 0 net.macs each in
+      let size : sum_below (λ k. put (at 2 k) + lost_for k) count ≡ sum_below (λ k. put (at 2 k) + lost_for k) (0 + count) = ap (sum_below (λ k. put (at 2 k) + lost_for k)) (let z : count ≡ 0 + count = omega arith in z) in
+      let both = below_plus (λ k. put (at 2 k)) lost_for count in
+      omega (arith, a, no_more, size, both)
 
   all_freed : all 3 ≤ sum_by (λ (q : ClientPools). q.rx.buffers) net.pools + times_each net.pools frames
   all_freed =
@@ -264,7 +271,7 @@ module _ (scene : Scene) (hostile : Hostiles) (history : History) (rows : List Q
   product : (4 + 10 * count) * frames ≡ 4 * frames + 10 * times_each net.macs frames
   product = let e = each_is net.macs frames in omega (arith, e)
 
-  pub net_moved : net_put net.first count m ≤ net_moves net scene.frames
+  pub net_moved : net_put net.first count m + net_gone net m ≤ net_moves net fs
   net_moved =
       let p = parts in
       let f1 = flow 1 (omega arith) in

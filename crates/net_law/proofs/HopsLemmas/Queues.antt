@@ -13,14 +13,14 @@ use Rattle.play_core.proofs.Lists.{some_is}
 use Rattle.play_core.proofs.Merges.{merge_total}
 use Rattle.owner_law.specs.Things.{names_in, times}
 use Rattle.owner_law.proofs.Sums.{sum_both, sum_none}
-use Rattle.class_expect.specs.NetExpect.Expecting.{Program, Sink, Source, Echo, is_for_client, answers_for}
+use Rattle.class_expect.specs.NetExpect.Expecting.{Program, Sink, Source, Echo, is_for_client}
 use Rattle.net_law.specs.Owners.Names.{ClientPools}
 use Rattle.owner_law.specs.Pools.Places.{PoolAt, by_address}
 use Rattle.net_law.specs.Parts.Parts.{Lessee}
-use Rattle.net_law.specs.Parts.Rows.{sized_items, sent_where, leases_from, lease_item, frame_at, SharesFrames}
+use Rattle.net_law.specs.Parts.Rows.{sized_items, sent_lens, answer_len, leases_from, lease_item, frame_at, SharesFrames}
 use Rattle.net_law.specs.Parts.Numbers.{client_first, lessees_from}
 use Rattle.net_law.proofs.PartsLemmas.Counting.{below_few, below_more, numbered, count_in, start_few}
-use Rattle.buffer_kit.specs.Entries.{addr_of}
+use Rattle.buffer_kit.specs.Entries.{addr_of, len_of}
 use Rattle.net_virt_tx.specs.Descriptors.{with_addr}
 use Rattle.net_law.specs.TxParts.Parts.{Shipper}
 use Rattle.net_law.specs.TxParts.Rows.{all_sends, at_device, at_home, in_range}
@@ -28,34 +28,23 @@ use Rattle.net_law.specs.TxParts.Numbers.{shippers_from}
 use Rattle.play_core.proofs.Walks.{begins_few}
 use Rattle.net_law.specs.Hops.Hops.{script_frames, AreApart}
 
--- items with lengths are no more than the lengths, nor than the items
+-- items with lengths are no more than the lengths
 pub sized_lengths : (ns : List ℕ) (items : List Item) → length (sized_items ns items) ≤ length ns
 sized_lengths [] items = omega arith
 sized_lengths (n ∷ ns) [] = omega arith
 sized_lengths (n ∷ ns) (item ∷ items) = let h = sized_lengths ns items in omega (arith, h)
 
-pub sized_few : (ns : List ℕ) (items : List Item) → length (sized_items ns items) ≤ length items
-sized_few [] items = omega arith
-sized_few (n ∷ ns) [] = omega arith
-sized_few (n ∷ ns) (item ∷ items) = let h = sized_few ns items in omega (arith, h)
-
-take_few : {T : Type 0} (n : ℕ) (xs : List T) → length (take n xs) ≤ n
-take_few zero xs = omega arith
-take_few (suc n) [] = omega arith
-take_few (suc n) (x ∷ xs) = let h = take_few n xs in omega (arith, h)
-
 -- a client sends the frames of its script, or one for each that came
-sent_few : (program : Program) (mac : Mac) (frames : List (List ℕ)) (came : ℕ) → length (sent_where program mac frames came) ≤ script_frames program + came
-sent_few Sink mac frames came = omega arith
-sent_few (Source script) mac frames came = omega arith
-sent_few Echo mac frames came = let h = take_few came (answers_for mac frames) in omega (arith, h)
+sent_few : (program : Program) (mac : Mac) (came : List Item) → length (sent_lens program mac came) ≤ script_frames program + length came
+sent_few Sink mac came = omega arith
+sent_few (Source script) mac came = let h = length-map script (λ (frame : List ℕ). length frame) in omega (arith, h)
+sent_few Echo mac came = let h = length-map came (λ (item : Item). answer_len mac (len_of item)) in omega (arith, h)
 
-pub sends_few : (program : Program) (mac : Mac) (frames : List (List ℕ)) (came : ℕ) (items : List Item) → length (sized_items (map (λ frame. length frame) (sent_where program mac frames came)) items) ≤ script_frames program + came
-sends_few program mac frames came items =
-    let a = sized_lengths (map (λ frame. length frame) (sent_where program mac frames came)) items in
-    let b = length-map (sent_where program mac frames came) (λ frame. length frame) in
-    let d = sent_few program mac frames came in
-    omega (arith, a, b, d)
+pub sends_few : (program : Program) (mac : Mac) (came items : List Item) → length (sized_items (sent_lens program mac came) items) ≤ script_frames program + length came
+sends_few program mac came items =
+    let a = sized_lengths (sent_lens program mac came) items in
+    let d = sent_few program mac came in
+    omega (arith, a, d)
 
 -- leases are no more than frames
 pub leases_few : (frames : List (List ℕ)) (base : ℕ) (mac : Mac) (place : ℕ) (items : List Item) → length (leases_from frames base mac place items) ≤ length items

@@ -5,13 +5,13 @@ use Rattle.owner_law.specs.Things.{times, names_in, Buffer, is_same, Window, Nam
 use Rattle.owner_law.specs.Keeping.{Keeps, all_taken, all_put, things_in, things_out}
 use Rattle.owner_law.proofs.Sums.{sum_flat}
 use Rattle.owner_law.proofs.Named.{carried, buffers_are, buffers_none, keeps_plain}
-use Rattle.device_model.specs.Ethernet.Devices.{rx_free, rx_active, tx_active, tx_free, HoldingDeviceRow}
+use Rattle.device_model.specs.Ethernet.Devices.{rx_free, rx_active, tx_active, tx_free, DeviceRow, accepted}
 use Rattle.device_model.specs.declared.ethernet.EthDevice.{EthDevice}
 use Rattle.net_law.specs.Owners.Ends.{AreItemsOf, device_ends, DeviceNames}
 use Rattle.net_law.proofs.OwnersLemmas.Few.{few, filled_few}
 
 -- a device
-module _ (naming : Naming) (rx tx : List Window) (d : EthDevice) (passed : Passed) (m : Moved) (names : DeviceNames naming rx tx d) (items : AreItemsOf (device_ends d) passed m) (row : HoldingDeviceRow d passed) where
+module _ (naming : Naming) (rx tx : List Window) (d : EthDevice) (passed : Passed) (m : Moved) (names : DeviceNames naming rx tx d) (items : AreItemsOf (device_ends d) passed m) (row : DeviceRow d passed) where
   device_came : (f : Thing → ℕ) → sum_by f (all_taken naming m (device_ends d)) ≡ carried naming m (rx_free d) (m.taken (rx_free d)) f + carried naming m (tx_active d) (m.taken (tx_active d)) f
   device_came f =
       let parts : sum_by f (all_taken naming m (device_ends d)) ≡ 0 + carried naming m (rx_free d) (m.taken (rx_free d)) f + 0 + carried naming m (tx_active d) (m.taken (tx_active d)) f + 0 = sum_flat f (things_in naming m) (device_ends d) in
@@ -28,7 +28,7 @@ module _ (naming : Naming) (rx tx : List Window) (d : EthDevice) (passed : Passe
       let e = buffers_are naming m (rx_active d) (m.sent (rx_active d)) rx (as_buffer b) b names.active refl (λ c. refl) ∙ ap (λ xs. times b (names_in rx xs)) (items 1 _ refl) in
       let g = buffers_are naming m (tx_active d) (m.taken (tx_active d)) tx (as_buffer b) b names.wire refl (λ c. refl) ∙ ap (λ xs. times b (names_in tx xs)) (items 2 _ refl) in
       let h = buffers_are naming m (tx_free d) (m.sent (tx_free d)) tx (as_buffer b) b names.sent refl (λ c. refl) ∙ ap (λ xs. times b (names_in tx xs)) (items 3 _ refl) in
-      omega (arith, device_came (as_buffer b), device_went (as_buffer b), a, e, g, h, filled_few b rx d.frames (passed.sent (rx_active d)) (passed.taken (rx_free d)) row.filled, few b tx (passed.sent (tx_free d)) (passed.taken (tx_active d)) row.returns)
+      omega (arith, device_came (as_buffer b), device_went (as_buffer b), a, e, g, h, filled_few b rx (accepted d passed.calls) (passed.sent (rx_active d)) (passed.taken (rx_free d)) row.filled, few b tx (passed.sent (tx_free d)) (passed.taken (tx_active d)) row.returns)
 
   device_none_came : (f : Thing → ℕ) → f Rattle.owner_law.specs.Things.Nothing ≡ 0 → ((c : Buffer) → f (Rattle.owner_law.specs.Things.Whole c) ≡ 0) → sum_by f (all_taken naming m (device_ends d)) ≡ 0
   device_none_came f none whole = omega (arith, device_came f, buffers_none naming m (rx_free d) (m.taken (rx_free d)) rx f names.free none whole, buffers_none naming m (tx_active d) (m.taken (tx_active d)) tx f names.wire none whole)

@@ -6,12 +6,13 @@ use Rattle.owner_law.specs.Things.{times, names_in, Buffer, Window, Naming, Thin
 use Rattle.owner_law.specs.Keeping.{Keeps, all_taken, all_put, things_in, things_out}
 use Rattle.owner_law.proofs.Sums.{sum_flat}
 use Rattle.owner_law.proofs.Named.{carried, buffers_are, buffers_none, leases_are, leases_none, returns_are, returns_none, keeps_plain}
-use Rattle.net_copier.specs.Copying.{HoldingCopierRow, leased_bytes}
+use Rattle.wire_core.specs.Fates.{without}
+use Rattle.net_copier.specs.Copying.{CopierRow, leased_bytes, leases_dropped}
 use Rattle.net_copier.specs.declared.NetCopier.{NetCopier}
 use Rattle.net_law.specs.Owners.Ends.{AreItemsOf, copier_ends, CopierNames}
 use Rattle.net_law.proofs.OwnersLemmas.Few.{few, filled_few}
 
-module _ (naming : Naming) (leased buffers : List Window) (c : NetCopier) (passed : Passed) (m : Moved) (names : CopierNames naming leased buffers c) (items : AreItemsOf (copier_ends c) passed m) (row : HoldingCopierRow c passed) where
+module _ (naming : Naming) (leased buffers : List Window) (c : NetCopier) (passed : Passed) (m : Moved) (names : CopierNames naming leased buffers c) (items : AreItemsOf (copier_ends c) passed m) (row : CopierRow c passed) where
   abbrev came_leases : (Thing → ℕ) → ℕ
   came_leases f = carried naming m c.lease_input.queue.0 (m.taken c.lease_input.queue.0) f
 
@@ -48,7 +49,7 @@ module _ (naming : Naming) (leased buffers : List Window) (c : NetCopier) (passe
         into,
         out,
         returns_none naming m c.lease_output.queue.0 (m.sent c.lease_output.queue.0) leased (as_buffer b) names.returns refl (λ d. refl),
-        filled_few b buffers (map leased_bytes row.leases) (passed.sent c.buffer_output.queue.0) (passed.taken c.buffer_input.queue.0) row.copies,
+        filled_few b buffers (map leased_bytes (without (leases_dropped c passed.calls) row.leases)) (passed.sent c.buffer_output.queue.0) (passed.taken c.buffer_input.queue.0) row.copies,
       )
 
   copier_leases : (b : Buffer) → sum_by (as_lease b) (all_put naming m (copier_ends c)) ≤ sum_by (brings_leases b) (all_taken naming m (copier_ends c))

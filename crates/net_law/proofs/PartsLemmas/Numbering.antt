@@ -29,8 +29,8 @@ module _ (scene : Scene) (pool : PoolAt) (macs : List Mac) (pools : List ClientP
       let e : j ≡ suc (suc (suc (suc (suc (suc (suc (suc (6 * k + i)))))))) = omega (arith, same) in
       ap (layout_naming scene pool macs pools) e ∙ client_name pool pools k p i (6 * k + i) names at is refl
 
-  pub device_named : (frames : List (List ℕ)) → NamesPart (layout_naming scene pool macs pools) scene (device_at 0 frames)
-  device_named frames = ((by_address pool ∷ [], (refl, refl)), (map (λ (c : ClientPools). by_address c.tx) pools, (refl, refl)))
+  pub device_named : (frames : List (List ℕ)) (drops : Bool) → NamesPart (layout_naming scene pool macs pools) scene (device_at 0 frames drops)
+  device_named frames drops = ((by_address pool ∷ [], (refl, refl)), (map (λ (c : ClientPools). by_address c.tx) pools, (refl, refl)))
 
   pub driver_named : NamesPart (layout_naming scene pool macs pools) scene (driver_at 0)
   driver_named zero w at = subst (NameWay (layout_naming scene pool macs pools)) (some_is at) (by_address pool ∷ [], refl, inl refl)
@@ -39,8 +39,8 @@ module _ (scene : Scene) (pool : PoolAt) (macs : List Mac) (pools : List ClientP
   driver_named (suc (suc (suc zero))) w at = subst (NameWay (layout_naming scene pool macs pools)) (some_is at) (map (λ (c : ClientPools). by_address c.tx) pools, refl, inl refl)
   driver_named (suc (suc (suc (suc k)))) w at = cc
 
-  pub copier_named : (k : ℕ) (p : ClientPools) → slice_get pools k ≡ Some p → NamesPart (layout_naming scene pool macs pools) scene (copier_at 0 k)
-  copier_named k p at = (
+  pub copier_named : (k : ℕ) (p : ClientPools) (drops : Bool) → slice_get pools k ≡ Some p → NamesPart (layout_naming scene pool macs pools) scene (copier_at 0 k drops)
+  copier_named k p drops at = (
     (by_offset pool ∷ [], named_at k p 0 _ _ at (λ rest. refl) (plus (client_first 0 k)), named_at k p 1 _ _ at (λ rest. refl) refl),
     (by_offset p.rx ∷ [], (named_at k p 3 _ _ at (λ rest. refl) refl, named_at k p 2 _ _ at (λ rest. refl) refl)),
   )

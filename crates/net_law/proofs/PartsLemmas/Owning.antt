@@ -20,7 +20,7 @@ use Rattle.net_law.proofs.OwnersLemmas.Clients.{at_address, here_or_not}
 use Rattle.net_law.proofs.OwnersLemmas.Few.{address_still, either_are, either_none}
 use Rattle.net_law.proofs.OwnersLemmas.Lenders.{lender_keeps}
 use Rattle.net_law.specs.Parts.Parts.{NetPart, NetDevice, NetDriver, NetReceiver, NetCopier, NetClient, Way, Lessee}
-use Rattle.net_law.specs.Parts.Rows.{sent_where, AllCopy, IsIn, AreIn, sized_items, given_item, given_items, frame_at, lease_item, leases_from, borrower_of, lender_of}
+use Rattle.net_law.specs.Parts.Rows.{sent_lens, accepted_by, AllCopy, IsIn, AreIn, sized_items, given_item, given_items, frame_at, lease_item, leases_from, borrower_of, lender_of}
 use Rattle.net_law.specs.Parts.Table.{net_sheet, way_ends}
 use Rattle.net_law.specs.Parts.Naming.{NamesPart, NameWay}
 use Rattle.net_law.proofs.PartsLemmas.Counting.{numbered, buffer_is}
@@ -42,9 +42,9 @@ sized_few : (b : Buffer) (ws : List Window) (ns : List ℕ) (xs items : List Ite
 sized_few b ws ns xs items h = omega (arith, few_of b ws xs (sized_items ns items) h, times_few b (names_in ws (sized_items ns items)) (names_in ws items) (sized_begin ws ns items))
 
 -- a device
-module _ (naming : Naming) (scene : Scene) (rx_free rx_active tx_active tx_free : ℕ) (frames : List (List ℕ)) (m : Moved) (names : NamesPart naming scene (NetDevice rx_free rx_active tx_active tx_free frames)) (row : (net_sheet scene (NetDevice rx_free rx_active tx_active tx_free frames)).row m) where
+module _ (naming : Naming) (scene : Scene) (rx_free rx_active tx_active tx_free : ℕ) (frames : List (List ℕ)) (drops : Bool) (m : Moved) (names : NamesPart naming scene (NetDevice rx_free rx_active tx_active tx_free frames drops)) (row : (net_sheet scene (NetDevice rx_free rx_active tx_active tx_free frames drops)).row m) where
   abbrev device_seats : List Seat
-  device_seats = (net_sheet scene (NetDevice rx_free rx_active tx_active tx_free frames)).ends
+  device_seats = (net_sheet scene (NetDevice rx_free rx_active tx_active tx_free frames drops)).ends
 
   device_came : (f : Thing → ℕ) → sum_by f (all_taken naming m device_seats) ≡ carried naming m rx_free (m.taken rx_free) f + carried naming m tx_active (m.taken tx_active) f
   device_came f =
@@ -62,7 +62,7 @@ module _ (naming : Naming) (scene : Scene) (rx_free rx_active tx_active tx_free 
       let tx = names.1.0 in
       keeps_plain (λ pool. []) (all_taken naming m device_seats) (all_put naming m device_seats)
       (λ b. omega (arith, device_came (lends b), buffers_none naming m rx_free (m.taken rx_free) rx (lends b) names.0.1.0 refl (λ c. refl), buffers_none naming m tx_active (m.taken tx_active) tx (lends b) names.1.1.0 refl (λ c. refl)))
-      (λ b. omega (arith, device_came (as_buffer b), device_went (as_buffer b), buffers_are naming m rx_free (m.taken rx_free) rx (as_buffer b) b names.0.1.0 refl (λ c. refl), buffers_are naming m rx_active (m.sent rx_active) rx (as_buffer b) b names.0.1.1 refl (λ c. refl), buffers_are naming m tx_active (m.taken tx_active) tx (as_buffer b) b names.1.1.0 refl (λ c. refl), buffers_are naming m tx_free (m.sent tx_free) tx (as_buffer b) b names.1.1.1 refl (λ c. refl), sized_few b rx (map (λ frame. length frame) frames) (m.sent rx_active) (m.taken rx_free) row.filled, few_of b tx (m.sent tx_free) (m.taken tx_active) row.returns))
+      (λ b. omega (arith, device_came (as_buffer b), device_went (as_buffer b), buffers_are naming m rx_free (m.taken rx_free) rx (as_buffer b) b names.0.1.0 refl (λ c. refl), buffers_are naming m rx_active (m.sent rx_active) rx (as_buffer b) b names.0.1.1 refl (λ c. refl), buffers_are naming m tx_active (m.taken tx_active) tx (as_buffer b) b names.1.1.0 refl (λ c. refl), buffers_are naming m tx_free (m.sent tx_free) tx (as_buffer b) b names.1.1.1 refl (λ c. refl), sized_few b rx (map (λ frame. length frame) (accepted_by drops row.marks frames)) (m.sent rx_active) (m.taken rx_free) row.out.filled, few_of b tx (m.sent tx_free) (m.taken tx_active) row.out.returns))
       (λ b. omega (arith, device_went (as_lease b), buffers_none naming m rx_active (m.sent rx_active) rx (as_lease b) names.0.1.1 refl (λ c. refl), buffers_none naming m tx_free (m.sent tx_free) tx (as_lease b) names.1.1.1 refl (λ c. refl)))
 
 -- a driver
@@ -99,9 +99,9 @@ module _ (naming : Naming) (m : Moved) where
       (λ b. omega (arith, ways_went_none ways names (as_lease b) refl (λ c. refl) (λ c r. refl)))
 
 -- a copier
-module _ (naming : Naming) (scene : Scene) (lease_active lease_free rx_active rx_free : ℕ) (m : Moved) (names : NamesPart naming scene (NetCopier lease_active lease_free rx_active rx_free)) (row : (net_sheet scene (NetCopier lease_active lease_free rx_active rx_free)).row m) where
+module _ (naming : Naming) (scene : Scene) (lease_active lease_free rx_active rx_free : ℕ) (drops : Bool) (m : Moved) (names : NamesPart naming scene (NetCopier lease_active lease_free rx_active rx_free drops)) (row : (net_sheet scene (NetCopier lease_active lease_free rx_active rx_free drops)).row m) where
   abbrev copier_seats : List Seat
-  copier_seats = (net_sheet scene (NetCopier lease_active lease_free rx_active rx_free)).ends
+  copier_seats = (net_sheet scene (NetCopier lease_active lease_free rx_active rx_free drops)).ends
 
   copier_came : (f : Thing → ℕ) → sum_by f (all_taken naming m copier_seats) ≡ carried naming m lease_active (m.taken lease_active) f + carried naming m rx_free (m.taken rx_free) f
   copier_came f =
@@ -119,8 +119,8 @@ module _ (naming : Naming) (scene : Scene) (lease_active lease_free rx_active rx
       let buffers = names.1.0 in
       keeps_plain (λ pool. []) (all_taken naming m copier_seats) (all_put naming m copier_seats)
       (λ b. omega (arith, copier_came (lends b), leases_none naming m lease_active (m.taken lease_active) leased (lends b) names.0.1 refl (λ d. refl), buffers_none naming m rx_free (m.taken rx_free) buffers (lends b) names.1.1.0 refl (λ d. refl)))
-      (λ b. omega (arith, copier_came (as_buffer b), copier_went (as_buffer b), buffers_are naming m rx_free (m.taken rx_free) buffers (as_buffer b) b names.1.1.0 refl (λ d. refl), buffers_are naming m rx_active (m.sent rx_active) buffers (as_buffer b) b names.1.1.1 refl (λ d. refl), returns_none naming m lease_free (m.sent lease_free) leased (as_buffer b) names.0.2 refl (λ d. refl), sized_few b buffers (map Rattle.buffer_kit.specs.Entries.len_of (m.taken lease_active)) (m.sent rx_active) (m.taken rx_free) row.copies))
-      (λ b. omega (arith, copier_came (brings_leases b), copier_went (as_lease b), leases_are naming m lease_active (m.taken lease_active) leased (brings_leases b) b names.0.1 refl (λ d. refl), returns_are naming m lease_free (m.sent lease_free) leased (as_lease b) b names.0.2 refl (λ d. refl), buffers_none naming m rx_active (m.sent rx_active) buffers (as_lease b) names.1.1.1 refl (λ d. refl), few_of b leased (m.sent lease_free) (m.taken lease_active) row.gives_back))
+      (λ b. omega (arith, copier_came (as_buffer b), copier_went (as_buffer b), buffers_are naming m rx_free (m.taken rx_free) buffers (as_buffer b) b names.1.1.0 refl (λ d. refl), buffers_are naming m rx_active (m.sent rx_active) buffers (as_buffer b) b names.1.1.1 refl (λ d. refl), returns_none naming m lease_free (m.sent lease_free) leased (as_buffer b) names.0.2 refl (λ d. refl), sized_few b buffers (map Rattle.buffer_kit.specs.Entries.len_of (Rattle.wire_core.specs.Fates.without row.marks (m.taken lease_active))) (m.sent rx_active) (m.taken rx_free) row.out.copies))
+      (λ b. omega (arith, copier_came (brings_leases b), copier_went (as_lease b), leases_are naming m lease_active (m.taken lease_active) leased (brings_leases b) b names.0.1 refl (λ d. refl), returns_are naming m lease_free (m.sent lease_free) leased (as_lease b) b names.0.2 refl (λ d. refl), buffers_none naming m rx_active (m.sent rx_active) buffers (as_lease b) names.1.1.1 refl (λ d. refl), few_of b leased (m.sent lease_free) (m.taken lease_active) row.out.gives_back))
 
 -- a window's buffers, from one on, are named by their numbers
 given_few : (w : Window) (b : Buffer) (k count : ℕ) → 0 < w.size → k + count ≤ w.buffers → times b (names_in (w ∷ []) (map (given_item w) (numbers_from k count))) ≤ count_by (λ x. x == b.no) (if w.pool == b.pool then numbers_from k count else [])
@@ -157,7 +157,6 @@ module _ (naming : Naming) (scene : Scene) (program : Program) (mac : Mac) (rx_a
 
   client_buffers : (b : Buffer) → sum_by (as_buffer b) (all_put naming m Client.ends) ≤ at_start Client.hand b + sum_by (as_buffer b) (all_taken naming m Client.ends)
   client_buffers b =
-      let frames = sent_where program mac scene.frames (length (m.taken rx_active)) in
       omega (
         arith,
         client_came (as_buffer b),
@@ -167,7 +166,7 @@ module _ (naming : Naming) (scene : Scene) (program : Program) (mac : Mac) (rx_a
         buffers_are naming m tx_active (m.sent tx_active) (spare ∷ []) (as_buffer b) b names.1.0 refl (λ d. refl),
         buffers_are naming m tx_free (m.taken tx_free) (spare ∷ []) (as_buffer b) b names.1.1 refl (λ d. refl),
         few_of b (own ∷ []) (m.sent rx_free) (given_items own ++ m.taken rx_active) row.given,
-        sized_few b (spare ∷ []) (map (λ frame. length frame) frames) (m.sent tx_active) (given_items spare ++ m.taken tx_free) row.sends.filled,
+        sized_few b (spare ∷ []) (sent_lens program mac (m.taken rx_active)) (m.sent tx_active) (given_items spare ++ m.taken tx_free) row.sends.filled,
         split b (own ∷ []) (given_items own) (m.taken rx_active),
         split b (spare ∷ []) (given_items spare) (m.taken tx_free),
         given_few own b 0 rx.buffers row.sized (omega arith),
@@ -222,8 +221,8 @@ module _ (naming : Naming) (scene : Scene) (active free : ℕ) (pool : PoolAt) (
       subst (λ s. Keeps (pool_hand pool) (all_taken naming m s) (all_put naming m s)) ends (lender_keeps naming (by_address pool ∷ []) (by_offset pool ∷ []) l m names lends_row)
 
 pub net_puts : (naming : Naming) (scene : Scene) (p : NetPart) → NamesPart naming scene p → PutsItsOwn naming (net_sheet scene p)
-net_puts naming scene (NetDevice rx_free rx_active tx_active tx_free frames) names m apart row = device_keeps naming scene rx_free rx_active tx_active tx_free frames m names row
+net_puts naming scene (NetDevice rx_free rx_active tx_active tx_free frames drops) names m apart row = device_keeps naming scene rx_free rx_active tx_active tx_free frames drops m names row
 net_puts naming scene (NetDriver ways) names m apart row = driver_keeps naming m ways names row
 net_puts naming scene (NetReceiver active free pool clients) names m apart row = receiver_keeps naming scene active free pool clients m names row
-net_puts naming scene (NetCopier lease_active lease_free rx_active rx_free) names m apart row = copier_keeps naming scene lease_active lease_free rx_active rx_free m names row
+net_puts naming scene (NetCopier lease_active lease_free rx_active rx_free drops) names m apart row = copier_keeps naming scene lease_active lease_free rx_active rx_free drops m names row
 net_puts naming scene (NetClient program mac rx_active rx_free tx_active tx_free rx tx) names m apart row = client_keeps naming scene program mac rx_active rx_free tx_active tx_free rx tx m names row

@@ -13,23 +13,28 @@ use Rattle.wire_core.specs.Lists.{Passed, if_there}
 use Rattle.play_core.proofs.Lists.{some_is, map_get}
 use Rattle.turn_kit.specs.declared.pipe.Pipe.{Pipe}
 use Rattle.pipe_driver.specs.declared.pipes.Pipes.{Pipes}
+use Rattle.wire_core.specs.Fates.{without}
+use Rattle.device_model.specs.Ethernet.Devices.{accepted}
 use Rattle.device_model.specs.declared.ethernet.EthDevice.{EthDevice}
 use Rattle.class_expect.specs.NetExpect.Expecting.{is_for_client, frames_for}
 use Rattle.buffer_kit.specs.Entries.{addr_of, frame_of, with_len, filled, all_filled}
 use Rattle.buffer_kit.specs.Virtualising.{from_queues}
 use Rattle.buffer_kit.specs.declared.stock.Stock.{Stock}
+use Rattle.client_programs.specs.Net.Clients.{rx_active}
 use Rattle.client_programs.specs.declared.net.NetClient.{NetClient}
-use Rattle.net_copier.specs.Copying.{leased_bytes}
+use Rattle.net_copier.specs.Copying.{leased_bytes, leases_dropped}
 use Rattle.net_copier.specs.declared.NetCopier.{NetCopier}
 use Rattle.net_virt_rx.specs.Sharing.{IsBuffer, IsFrameInTurn, IsLeaseInTurn, lease_of, leases_for, named, number_of}
 use Rattle.net_virt_rx.specs.Receiving.{IsOutOfTurn, RxRow, queue_at}
 use Rattle.net_virt_rx.specs.declared.NetVirtRx.{NetVirtRx}
 use Rattle.net_law.proofs.Beginnings.{begins_on, begins_map}
 use Rattle.net_law.proofs.Filled.{frames_are}
-use Rattle.net_law.proofs.Arriving.{record_begins}
+use Rattle.net_law.specs.Delivering.{IsDelivering, copied_bytes}
+use Rattle.net_law.proofs.DeliveringLemmas.Reaching.{accepted_part, record_delivered}
+use Rattle.net_law.proofs.DropsLemmas.Leaving.{part_there, whole_filled, copier_fills}
 use Rattle.net_law.proofs.RxOwners.Receivers.{named_more}
 use Rattle.net_law.specs.Parts.Rows.{frame_at}
-use Rattle.net_law.specs.Parts.Playing.{IsLease, AreLeases}
+use Rattle.net_law.specs.Parts.Playing.{IsLease, AreLeases, AreWhole}
 use Rattle.net_law.specs.Parts.Turning.{IsReceiveHalf, IsClient}
 use Rattle.net_law.proofs.PartsLemmas.Items.{all_at}
 use Rattle.net_law.proofs.PartsLemmas.Leasing.{prefix_get}
@@ -121,15 +126,19 @@ module _ (d : EthDevice) (p : Pipes (Pipes (Pipes Pipe))) (v : NetVirtRx) (copie
   abbrev free : List Cargo
   free = passed.taken d.free.queue.0
 
+  -- the frames that the device accepted
+  abbrev kept : List (List ℕ)
+  kept = accepted d passed.calls
+
   -- what the virtualiser took are buffers that the device filled
-  came_filled : IsPrefix came (all_filled d.frames free)
+  came_filled : IsPrefix came (all_filled kept free)
   came_filled =
       let active = passed.taken p.rest.first.output.queue.0 in
       let device = passed.sent d.active.queue.0 in
       let driven : IsPrefix active device = begins_on active (passed.sent p.rest.first.output.queue.0) device (h.hands_over p.rest.first.output.queue.0)
       (begins_on (passed.sent p.rest.first.output.queue.0) (passed.taken p.rest.first.input.queue.0) device h.driver.1.0
       (subst (λ n. IsPrefix (passed.taken p.rest.first.input.queue.0) (passed.sent n)) h.from_device (h.hands_over p.rest.first.input.queue.0))) in
-      subst (λ n. IsPrefix (passed.taken n) (all_filled d.frames free)) (sym h.from_driver) (begins_on active device (all_filled d.frames free) driven h.device.filled)
+      subst (λ n. IsPrefix (passed.taken n) (all_filled kept free)) (sym h.from_driver) (begins_on active device (all_filled kept free) driven h.device.filled)
 
   -- and these are buffers that the virtualiser gave
   free_given : IsPrefix free gave
@@ -147,14 +156,14 @@ module _ (d : EthDevice) (p : Pipes (Pipes (Pipes Pipe))) (v : NetVirtRx) (copie
   frame_in_turn : (x : Cargo) (rest : List Cargo) → row.stray ≡ x ∷ rest → row.place ≡ into → IsFrameInTurn s (row.turn into) gave x
   frame_in_turn x rest is here =
       let taken = taken_here into x rest is here in
-      let whole : IsPrefix (row.turn into ++ x ∷ rest) (all_filled d.frames free) = subst (λ l. IsPrefix l (all_filled d.frames free)) taken came_filled in
+      let whole : IsPrefix (row.turn into ++ x ∷ rest) (all_filled kept free) = subst (λ l. IsPrefix l (all_filled kept free)) taken came_filled in
       let k = length (row.turn into) in
-      let f = filled_at d.frames free k x (prefix_get (row.turn into ++ x ∷ rest) (all_filled d.frames free) whole k x (get_middle (row.turn into) x rest)) in
+      let f = filled_at kept free k x (prefix_get (row.turn into ++ x ∷ rest) (all_filled kept free) whole k x (get_middle (row.turn into) x rest)) in
       let given = all_at (IsBuffer s) gave row.given_within k f.1 (prefix_get free gave free_given k f.1 f.2) in
       let buffer : IsBuffer s x = subst (IsBuffer s) f.3 (filled_buffer s f.0 f.1 given) in
       let number = buffer_number s x buffer in
       let b = number_of x.1 in
-      (buffer, omega (arith, named_next s.base s.size b (row.turn into) x rest number.1, named_few s.base s.size b (row.turn into ++ x ∷ rest) (all_filled d.frames free) whole, filled_few s.base s.size b d.frames free, named_few s.base s.size b free gave free_given))
+      (buffer, omega (arith, named_next s.base s.size b (row.turn into) x rest number.1, named_few s.base s.size b (row.turn into ++ x ∷ rest) (all_filled kept free) whole, filled_few s.base s.size b kept free, named_few s.base s.size b free gave free_given))
 
   module _ (k : ℕ) (c : NetCopier) (mac : Mac) (at : slice_get copiers k ≡ Some c) (address : slice_get v.work.macs.items k ≡ Some mac) where
     abbrev leases : List Cargo
@@ -205,17 +214,20 @@ module _ (d : EthDevice) (p : Pipes (Pipes (Pipes Pipe))) (v : NetVirtRx) (copie
       by [] is = is
       by (x ∷ rest) is = absurd (none_out x rest is (all_at (IsOutOfTurn into v.ends.output.queue.0 (from_queues v.ends) v.work row.turn passed.sent row.place) row.stray row.out_of_turn 0 x (ap (λ l. slice_get l 0) is)))
 
-  -- the frames that came are the device's, in their order
-  came_frames : IsPrefix (map frame_of came) d.frames
+  -- the frames that came are those that the device accepted, in their order
+  came_frames : IsPrefix (map frame_of came) kept
   came_frames =
-      let filled = all_filled d.frames free in
-      begins_on (map frame_of came) (map frame_of filled) d.frames (begins_map frame_of came filled came_filled) (frames_are d.frames free h.room_at_device)
+      let filled = all_filled kept free in
+      begins_on (map frame_of came) (map frame_of filled) kept (begins_map frame_of came filled came_filled) (frames_are kept free h.room_at_device)
 
-  frame_there : (k : ℕ) (c : Cargo) → slice_get came k ≡ Some c → slice_get d.frames k ≡ Some (frame_of c)
-  frame_there k c at = prefix_get (map frame_of came) d.frames came_frames k (frame_of c) (map_get frame_of came k c at)
+  kept_there : (k : ℕ) (c : Cargo) → slice_get came k ≡ Some c → slice_get kept k ≡ Some (frame_of c)
+  kept_there k c at = prefix_get (map frame_of came) kept came_frames k (frame_of c) (map_get frame_of came k c at)
 
-  pub frames_of_places : (k : ℕ) (c : Cargo) → slice_get came k ≡ Some c → frame_of c ≡ frame_at d.frames k
-  frames_of_places k c at = sym (index_is d.frames k (frame_of c) [] (frame_there k c at))
+  frame_there : (k : ℕ) (c : Cargo) → slice_get came k ≡ Some c → (i : ℕ) × (slice_get d.frames i ≡ Some (frame_of c))
+  frame_there k c at = part_there kept d.frames (accepted_part d passed.calls) k (frame_of c) (kept_there k c at)
+
+  pub frames_of_places : (k : ℕ) (c : Cargo) → slice_get came k ≡ Some c → frame_of c ≡ frame_at kept k
+  frames_of_places k c at = sym (index_is kept k (frame_of c) [] (kept_there k c at))
 
   turn_begins : IsPrefix (row.turn into) came
   turn_begins = (if_there (row.place == into) row.stray, sym (row.taken into))
@@ -224,7 +236,8 @@ module _ (d : EthDevice) (p : Pipes (Pipes (Pipes Pipe))) (v : NetVirtRx) (copie
   copiers_take k c at j x is =
       let client = h.client_of k c at in
       let f = lease_at s.size client.0 (row.turn into) j x (prefix_get (passed.taken c.lease_input.queue.0) (leases_for s.size client.0 (row.turn into)) (leases_taken k c client.0 at client.1) j x is) in
-      let few = h.short f.1 (frame_of f.0) (frame_there f.1 f.0 (prefix_get (row.turn into) came turn_begins f.1 f.0 f.2)) in
+      let there = frame_there f.1 f.0 (prefix_get (row.turn into) came turn_begins f.1 f.0 f.2) in
+      let few = h.short there.0 (frame_of f.0) there.1 in
       let lease : IsLease (lease_of s.size f.0) = record { in_turn = lt-leb 65536 (length (frame_of f.0)) few; long = refl } in
       subst IsLease f.3 lease
 
@@ -232,24 +245,36 @@ module _ (d : EthDevice) (p : Pipes (Pipes (Pipes Pipe))) (v : NetVirtRx) (copie
   copiers_read k c at j x is =
       let client = h.client_of k c at in
       let f = lease_at s.size client.0 (row.turn into) j x (prefix_get (passed.taken c.lease_input.queue.0) (leases_for s.size client.0 (row.turn into)) (leases_taken k c client.0 at client.1) j x is) in
-      let there : slice_get d.frames f.1 ≡ Some (frame_of f.0) = frame_there f.1 f.0 (prefix_get (row.turn into) came turn_begins f.1 f.0 f.2) in
-      (f.1, subst (λ (y : Cargo). slice_get d.frames f.1 ≡ Some (leased_bytes y)) f.3 there)
+      let there = frame_there f.1 f.0 (prefix_get (row.turn into) came turn_begins f.1 f.0 f.2) in
+      (there.0, subst (λ (y : Cargo). slice_get d.frames there.0 ≡ Some (leased_bytes y)) f.3 there.1)
 
-  pub records_begin : (k : ℕ) (mac : Mac) (c : NetClient) → IsClient v copiers k mac c passed → IsPrefix c.frames.tape.shown (frames_for mac d.frames)
-  records_begin k mac c client = record_begins d p v client.copier c mac passed (record {
-    hands_over = h.hands_over;
-    device = h.device;
-    driver = h.driver;
-    virtualiser = h.virtualiser;
-    copier = h.copier k client.copier client.there;
-    client = client.row;
-    from_device = h.from_device;
-    from_driver = h.from_driver;
-    place = k;
-    address = client.address;
-    to_copier = h.to_copier k client.copier client.there;
-    from_copier = h.from_copier k client.copier client.there;
-    to_client = client.to_client;
-    room_at_device = h.room_at_device;
-    room_at_copier = client.room;
-  })
+  module _ (k : ℕ) (mac : Mac) (c : NetClient) (client : IsClient v copiers k mac c passed) where
+    delivering : IsDelivering d p v client.copier c mac passed
+    delivering = record {
+      hands_over = h.hands_over;
+      device = h.device;
+      driver = h.driver;
+      virtualiser = h.virtualiser;
+      copier = h.copier k client.copier client.there;
+      client = client.row;
+      from_device = h.from_device;
+      from_driver = h.from_driver;
+      place = k;
+      address = client.address;
+      to_copier = h.to_copier k client.copier client.there;
+      from_copier = h.from_copier k client.copier client.there;
+      to_client = client.to_client;
+      room_at_device = h.room_at_device;
+      room_at_copier = client.room;
+    }
+
+    pub records_begin : IsPrefix c.frames.tape.shown (without (leases_dropped client.copier passed.calls) (frames_for mac kept))
+    records_begin = record_delivered d p v client.copier c mac passed delivering
+
+    -- what came to the client is filled, so each entry has a whole frame
+    pub all_whole : AreWhole (passed.taken (rx_active c))
+    all_whole j x at =
+        let copier = client.copier in
+        let sent = passed.sent copier.buffer_output.queue.0 in
+        let came : IsPrefix (passed.taken (rx_active c)) sent = subst (λ n. IsPrefix (passed.taken (rx_active c)) (passed.sent n)) (sym client.to_client) (h.hands_over (rx_active c)) in
+        whole_filled (copied_bytes copier passed) (passed.taken copier.buffer_input.queue.0) client.room j x (prefix_get sent (all_filled (copied_bytes copier passed) (passed.taken copier.buffer_input.queue.0)) (copier_fills copier passed (h.copier k copier client.there)) j x (prefix_get (passed.taken (rx_active c)) sent came j x at))

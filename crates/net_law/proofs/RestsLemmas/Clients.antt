@@ -13,13 +13,13 @@ use Rattle.buffer_kit.specs.Pools.{given_entry}
 use Rattle.buffer_kit.specs.Stocks.{stock_list}
 use Rattle.buffer_kit.proofs.Filling.{filled_length}
 use Rattle.client_programs.specs.declared.net.NetClient.{NetClient}
-use Rattle.client_programs.specs.Net.Programs.{program_of, is_echo}
+use Rattle.client_programs.specs.Net.Programs.{program_of, is_echo, frames_out}
 use Rattle.client_programs.specs.Net.Sending.{needs_buffer, is_sending, is_through}
 use Rattle.client_programs.specs.Net.Clients.{FitsClient, ClientStandsFor, is_giving, needs_frame, client_round, client_owes, client_frames, rx_active, rx_free, tx_active, tx_free}
 use Rattle.client_programs.proofs.NetLemmas.Sending.{echo_long}
-use Rattle.net_law.specs.Parts.Rows.{sized_items, sent_where, is_answering, given_item, given_items}
+use Rattle.net_law.specs.Parts.Rows.{sized_items, sent_lens, is_answering, given_item, given_items}
 use Rattle.net_law.specs.Parts.Table.{net_sheet}
-use Rattle.net_law.specs.Parts.Playing.{client_part, AnswersInTurn, stock_pool}
+use Rattle.net_law.specs.Parts.Playing.{client_part, AnswersWhole, stock_pool}
 use Rattle.owner_law.specs.Pools.Places.{by_offset, numbers_from}
 use Rattle.net_law.proofs.PartsLemmas.Items.{sent_by, echo_is}
 use Rattle.net_law.proofs.PartsLemmas.Plain.{numbers_length}
@@ -106,8 +106,8 @@ sending_is None (Some y) next stock frames put had least sum all few none some a
 
 -- a client needs and owes what its sheet says of its items
 module _ (scene : Scene) (w : List Queue) (passed : Passed) (m : Moved) (h : HaveItems passed m) where
-  pub client_meets : (c : NetClient) → AnswersInTurn scene.frames c → FitsClient (end_at w) c → ClientStandsFor c passed → Meet (end_at w) (client_round c).posts (client_round c).needs ((net_sheet scene (client_part c)).wants m)
-  client_meets c turn f st =
+  pub client_meets : (c : NetClient) → AnswersWhole c passed → FitsClient (end_at w) c → ClientStandsFor c passed → Meet (end_at w) (client_round c).posts (client_round c).needs ((net_sheet scene (client_part c)).wants m)
+  client_meets c whole f st =
       let load = c.frames.pipe.load in
       let n = length (m.sent (rx_free c)) in
       let t = length (m.taken (rx_active c)) in
@@ -127,10 +127,10 @@ module _ (scene : Scene) (w : List Queue) (passed : Passed) (m : Moved) (h : Hav
       let b = length (m.taken (tx_free c)) in
       let s = st.sends in
       let sq = length (stock_list o.stock) in
-      let where_ = sent_where (program_of c.program) c.program.mac scene.frames t in
+      let where_ = sent_lens (program_of c.program) c.program.mac (m.taken (rx_active c)) in
       let got_long : length c.frames.tape.shown ≡ t = ap (λ l. length l) st.got ∙ (length-map (passed.taken (rx_active c)) frame_of ∙ came_is) in
-      let same : fs ≡ where_ = sent_by c.program.kind c.program.script c.program.mac c.frames.tape.shown scene.frames t turn got_long in
-      let long : length where_ ≡ length fs = ap (λ l. length l) (sym same) in
+      let lens : map (λ (frame : List ℕ). length frame) fs ≡ where_ = ap (λ l. map (λ (frame : List ℕ). length frame) (frames_out c.program l)) st.got ∙ (sent_by c.program.kind c.program.script c.program.mac (passed.taken (rx_active c)) whole ∙ ap (sent_lens (program_of c.program) c.program.mac) (h.taken (rx_active c))) in
+      let long : length where_ ≡ length fs = ap (λ l. length l) (sym lens) ∙ length-map fs (λ (frame : List ℕ). length frame) in
       let put_is = put passed m h (tx_active c) in
       let filled = ap (λ l. length l) s.filled ∙ filled_length fs s.used (omega (arith, s.many, s.few)) in
       let parts = length-append (passed.sent (tx_active c)) (option_to_list o.load) in
@@ -144,8 +144,8 @@ module _ (scene : Scene) (w : List Queue) (passed : Passed) (m : Moved) (h : Hav
       let items = given_items w_tx ++ m.taken (tx_free c) in
       let made : length (given_items w_tx) ≡ length (numbers_from 0 o.stock.buffers) = length-map (numbers_from 0 o.stock.buffers) (given_item w_tx) in
       let items_long : length items ≡ o.stock.buffers + b = omega (arith, length-append (given_items w_tx) (m.taken (tx_free c)), made, numbers_length 0 o.stock.buffers) in
-      let ns = map (λ (frame : List ℕ). length frame) where_ in
-      let ns_long : length ns ≡ length fs = length-map where_ (λ (frame : List ℕ). length frame) ∙ long in
+      let ns = where_ in
+      let ns_long : length ns ≡ length fs = long in
       let least = sized_as ns items in
       let buffer : needs_buffer o (length fs) ≡ (nat_lt p (length where_) && not (nat_lt p (o.stock.buffers + b))) =
       needed_is o.load o.stock.next o.next sq (length fs) p (o.stock.buffers + b) sent had s.few (none_left o.stock f.outbox.stock) (some_left o.stock) ∙ ap (λ k. nat_lt p k && not (nat_lt p (o.stock.buffers + b))) (sym long) in

@@ -21,7 +21,7 @@ NameWay naming w = (ws : List Window) × (naming w.input ≡ Buffers ws)
 -- at an actor's queues: buffers at each pair of a device's, each way of a driver's and each pair of
 -- a client's; frames, buffers and leases at a virtualiser's; and leases and buffers at a copier's
 abbrev pub NamesPart : Naming → Scene → NetPart → Type 0
-NamesPart naming scene (NetDevice rx_free rx_active tx_active tx_free frames) =
+NamesPart naming scene (NetDevice rx_free rx_active tx_active tx_free frames drops) =
     ((rx : List Window) × NamePair naming rx rx_free rx_active)
     × ((tx : List Window) × NamePair naming tx tx_active tx_free)
 NamesPart naming scene (NetDriver ways) = (k : ℕ) (w : Way) → slice_get ways k ≡ Some w
@@ -29,7 +29,7 @@ NamesPart naming scene (NetDriver ways) = (k : ℕ) (w : Way) → slice_get ways
 NamesPart naming scene (NetReceiver active free pool clients) =
     LenderNames naming (by_address pool ∷ []) (by_offset pool ∷ [])
     (lender_of scene.frames active free pool clients)
-NamesPart naming scene (NetCopier lease_active lease_free rx_active rx_free) =
+NamesPart naming scene (NetCopier lease_active lease_free rx_active rx_free drops) =
     ((leased : List Window) × (naming lease_active ≡ Leases leased)
     × (naming lease_free ≡ Returns leased))
     × ((buffers : List Window) × NamePair naming buffers rx_free rx_active)

@@ -1,6 +1,6 @@
 -- The network's receive half by the number of the class's first queue, in the order of the layout's
 -- table: four queues at the device, four at the driver's other side, and then six for each client.
-use Rattle.std.specs.Prelude.{◌+◌, ◌*◌, ℕ, List, [], ◌∷◌}
+use Rattle.std.specs.Prelude.{◌+◌, ◌*◌, ℕ, Bool, false, List, [], ◌∷◌, slice_index_or}
 use Rattle.frame_core.specs.declared.mac.Mac.{Mac}
 use Rattle.owner_law.specs.Things.{Naming, naming_of}
 use Rattle.play_core.specs.Sheets.{Scene}
@@ -12,9 +12,9 @@ use Rattle.net_law.specs.Parts.Parts.{NetPart, NetDevice, NetDriver, NetReceiver
 use Rattle.net_law.specs.Parts.Parts.{NetClient, Lessee}
 use Rattle.net_law.specs.Parts.Rows.{lender_of}
 
--- the device's part, with the frames that it receives
-abbrev pub device_at : (first : ℕ) → List (List ℕ) → NetPart
-device_at first frames = NetDevice first (first + 1) (first + 2) (first + 3) frames
+-- the device's part, with the frames that it receives, and whether it may drop
+abbrev pub device_at : (first : ℕ) → List (List ℕ) → (drops : Bool) → NetPart
+device_at first frames drops = NetDevice first (first + 1) (first + 2) (first + 3) frames drops
 
 -- the driver's part: free buffers and received frames, frames to send and buffers that were sent
 abbrev pub driver_at : (first : ℕ) → NetPart
@@ -39,10 +39,14 @@ abbrev pub receiver_at : (first : ℕ) → PoolAt → List Mac → NetPart
 receiver_at first pool macs =
     NetReceiver (first + 4) (first + 5) pool (lessees_from first 0 macs)
 
--- the part of the copier of the client of a number
-abbrev pub copier_at : (first k : ℕ) → NetPart
-copier_at first k = NetCopier (client_first first k) (client_first first k + 1)
-    (client_first first k + 2) (client_first first k + 3)
+-- the part of the copier of the client of a number, and whether it may drop
+abbrev pub copier_at : (first k : ℕ) → (drops : Bool) → NetPart
+copier_at first k drops = NetCopier (client_first first k) (client_first first k + 1)
+    (client_first first k + 2) (client_first first k + 3) drops
+
+-- whether frames for the client of a place may be dropped
+abbrev pub policy_at : List Bool → ℕ → Bool
+policy_at drops k = slice_index_or drops k false
 
 -- the part of the client of a number, with its program, its address and its pools
 abbrev pub client_at : (first k : ℕ) → Program → Mac → ClientPools → NetPart

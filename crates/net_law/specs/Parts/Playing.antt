@@ -1,13 +1,12 @@
 -- Which part each actor of the network's receive half plays, and what the laws ask of what passed
 -- at its ends.
 use Rattle.std.specs.Prelude.{◌≡◌, ℕ, true, false, Some, List, [], ◌∷◌, length, map, slice_get}
-use Rattle.cargo_core.specs.Lists.{IsPrefix}
 use Rattle.frame_core.specs.declared.mac.Mac.{Mac}
 use Rattle.wire_core.specs.declared.names.QueueId.{QueueId}
 use Rattle.wire_core.specs.Deeds.{Cargo}
 use Rattle.wire_core.specs.Lists.{Passed}
 use Rattle.turn_kit.specs.declared.pipe.Pipe.{Pipe}
-use Rattle.buffer_kit.specs.Entries.{len_of}
+use Rattle.buffer_kit.specs.Entries.{frame_of, len_of}
 use Rattle.buffer_kit.specs.Virtualising.{from_queues, to_queues}
 use Rattle.buffer_kit.specs.declared.stock.Stock.{Stock}
 use Rattle.device_model.specs.Ethernet.Devices as device
@@ -20,7 +19,6 @@ use Rattle.net_copier.specs.declared.NetCopier.{NetCopier}
 use Rattle.net_virt_rx.specs.Receiving.{RxRow}
 use Rattle.net_virt_rx.specs.declared.NetVirtRx.{NetVirtRx}
 use Rattle.net_law.specs.RxOwners.Virtualiser.{TakesFrames}
-use Rattle.class_expect.specs.NetExpect.Expecting.{frames_for}
 use Rattle.owner_law.specs.Pools.Places.{PoolAt}
 use Rattle.net_law.specs.Parts.Rows.{frame_at}
 use Rattle.net_law.specs.Parts.Parts.{NetPart, NetDevice, NetDriver, NetReceiver}
@@ -30,7 +28,7 @@ use Rattle.net_law.specs.Parts.Parts.{Lessee}
 -- a device's part
 abbrev pub device_part : EthDevice → NetPart
 device_part d = NetDevice (device.rx_free d) (device.rx_active d) (device.tx_active d)
-    (device.tx_free d) d.frames
+    (device.tx_free d) d.frames d.drops
 
 -- a pipe as a way
 abbrev pub way_of : Pipe → Way
@@ -43,7 +41,7 @@ driver_part ps = NetDriver (map way_of ps)
 -- a copier's part
 abbrev pub copier_part : NetCopier → NetPart
 copier_part c = CopierPart c.lease_input.queue.0 c.lease_output.queue.0 c.buffer_output.queue.0
-    c.buffer_input.queue.0
+    c.buffer_input.queue.0 c.drops
 
 -- the pool of which a stock has the buffers
 abbrev pub stock_pool : Stock → PoolAt
@@ -92,7 +90,14 @@ pub record HasBuffers (c : NetClient) : Type 0 where
   pub base : c.stock.base ≡ 0
   pub spare_base : c.outbox.stock.base ≡ 0
 
--- what an echo recorded is a beginning of those of the device's frames that are for it
-abbrev pub AnswersInTurn : List (List ℕ) → NetClient → Type 0
-AnswersInTurn frames c = is_echo c.program.kind ≡ true
-    → IsPrefix c.frames.tape.shown (frames_for c.program.mac frames)
+-- an entry has a frame of as many bytes as its item says
+abbrev pub IsWhole : Cargo → Type 0
+IsWhole c = length (frame_of c) ≡ len_of c.0
+
+-- each of these has
+abbrev pub AreWhole : List Cargo → Type 0
+AreWhole cs = (k : ℕ) (c : Cargo) → slice_get cs k ≡ Some c → IsWhole c
+
+-- what came to an echo are entries that have whole frames
+abbrev pub AnswersWhole : NetClient → Passed → Type 0
+AnswersWhole c passed = is_echo c.program.kind ≡ true → AreWhole (passed.taken (client.rx_active c))

@@ -1,6 +1,6 @@
 -- What each actor of the network's receive half may have put for what it took, of items alone.
-use Rattle.std.specs.Prelude.{◌≡◌, ◌+◌, ◌-◌, ◌*◌, ◌<◌, ◌≤◌, ℕ, Bool, true, false, nat_lt}
-use Rattle.std.specs.Prelude.{if◌then◌else◌, Some, List, [], ◌∷◌, ◌++◌, length, map, take}
+use Rattle.std.specs.Prelude.{◌≡◌, ◌+◌, ◌-◌, ◌*◌, ◌<◌, ◌≤◌, ℕ, Bool, true, false, nat_le, nat_lt}
+use Rattle.std.specs.Prelude.{if◌then◌else◌, cond, Some, List, [], ◌∷◌, ◌++◌, length, map, take}
 use Rattle.std.specs.Prelude.{slice_get, slice_index_or}
 use Rattle.cargo_core.specs.Items.{kind_of}
 use Rattle.cargo_core.specs.Lists.{IsPrefix}
@@ -9,10 +9,11 @@ use Rattle.cargo_core.specs.declared.item.Item.TheVariants as ItemOf
 use Rattle.cargo_core.specs.declared.item.QueueKind.TheVariants as Kind
 use Rattle.frame_core.specs.declared.mac.Mac.{Mac}
 use Rattle.wire_core.specs.Bells.{bit}
+use Rattle.wire_core.specs.Fates.{without, marked}
 use Rattle.play_core.specs.Moved.{Moved}
 use Rattle.owner_law.specs.Things.{Buffer, Window, names_in, times}
 use Rattle.owner_law.specs.Keeping.{at_start}
-use Rattle.class_expect.specs.NetExpect.Expecting.{Program, Sink, Source, Echo, is_for_client, answers_for}
+use Rattle.class_expect.specs.NetExpect.Expecting.{Program, Sink, Source, Echo, is_for_client}
 use Rattle.buffer_kit.specs.Entries.{addr_of, len_of, with_len}
 use Rattle.owner_law.specs.Pools.Places.{PoolAt, by_address, by_offset, numbers_from, pool_hand}
 use Rattle.net_law.specs.Owners.Lending.{Borrower, Lender, leases_due, leases_back, names_where}
@@ -24,27 +25,53 @@ sized_items [] items = []
 sized_items (n ∷ ns) [] = []
 sized_items (n ∷ ns) (item ∷ items) = with_len n item ∷ sized_items ns items
 
--- what a device may have put: the buffers that it took, in their order and each with the length of
--- the frame of its place, of which it took no more than there are frames; and what was sent, as it
--- came
-pub record FillsFrames (frames : List (List ℕ)) (buffers gave came back : List Item) : Type 0 where
-  pub filled : IsPrefix gave (sized_items (map (λ frame. length frame) frames) buffers)
-  pub takes : length buffers ≤ length frames
+-- the frames that a device accepts, of which so many are used up and those that are marked were
+-- dropped; all of them where it waits
+abbrev pub accepted_by : (drops : Bool) → (marks : List Bool) → List (List ℕ) → List (List ℕ)
+accepted_by drops marks frames = cond drops (without marks (take (length marks) frames)) frames
+
+-- what a device may have put that looked in vain for a buffer so often: the buffers that it took, in
+-- their order and each with the length of the accepted frame of its place, of which it took no more
+-- than frames are accepted; it used up no more frames than there are; as many are marked as looks
+-- were in vain; and what was sent, as it came
+pub record FillsOut (marks : List Bool) (drops : Bool) (gone : ℕ) (frames : List (List ℕ))
+    (buffers gave came back : List Item) : Type 0 where
+  pub filled : IsPrefix gave
+      (sized_items (map (λ frame. length frame) (accepted_by drops marks frames)) buffers)
+  pub takes : length buffers ≤ length (accepted_by drops marks frames)
+  pub used : length buffers + gone ≤ length frames
+  pub settled : length marks ≤ length frames
+  pub as_many : marked marks ≡ gone
   pub returns : IsPrefix back came
+
+-- so it is with some frames marked
+pub record FillsSome (drops : Bool) (gone : ℕ) (frames : List (List ℕ))
+    (buffers gave came back : List Item) : Type 0 where
+  pub marks : List Bool
+  pub out : FillsOut marks drops gone frames buffers gave came back
 
 -- each way's output copies its input
 abbrev pub AllCopy : List Way → Moved → Type 0
 AllCopy ways m = (k : ℕ) (w : Way) → slice_get ways k ≡ Some w
     → IsPrefix (m.sent w.output) (m.taken w.input)
 
--- what a copier may have put: the buffers that it took, in their order and each with the length of
--- the lease of its place, of which it took no more than leases; and the leases as they came, no
--- more of them than buffers
-pub record CopiesLeases (leases buffers gave back : List Item) : Type 0 where
-  pub copies : IsPrefix gave (sized_items (map len_of leases) buffers)
-  pub takes_for : length buffers ≤ length leases
+-- what a copier may have put that dropped so many leases, those that are marked: the buffers that
+-- it took, in their order and each with the length of the lease of its place among those that weren't
+-- dropped, of which it took no more, with the dropped leases, than leases; and the leases as they
+-- came, no more of them than buffers and dropped leases
+pub record CopiesOut (marks : List Bool) (gone : ℕ) (leases buffers gave back : List Item) :
+    Type 0 where
+  pub copies : IsPrefix gave (sized_items (map len_of (without marks leases)) buffers)
+  pub takes_for : length buffers + gone ≤ length leases
   pub gives_back : IsPrefix back leases
-  pub after_copy : length back ≤ length gave
+  pub after_copy : length back ≤ length gave + gone
+  pub settled : length marks ≤ length leases
+  pub as_many : marked marks ≡ gone
+
+-- so it is with some leases marked
+pub record CopiesSome (gone : ℕ) (leases buffers gave back : List Item) : Type 0 where
+  pub marks : List Bool
+  pub out : CopiesOut marks gone leases buffers gave back
 
 -- the item by which the buffer of a number is given
 abbrev pub given_item : Window → ℕ → Item
@@ -54,12 +81,15 @@ given_item w k = ItemOf.Net (record { addr = w.base + k * w.size; len = 0 })
 abbrev pub given_items : Window → List Item
 given_items w = map (given_item w) (numbers_from 0 w.buffers)
 
--- the frames that the client of an address sends by its program where so many came, of those that
--- the device receives
-abbrev pub sent_where : Program → Mac → List (List ℕ) → (came : ℕ) → List (List ℕ)
-sent_where Sink mac frames came = []
-sent_where (Source script) mac frames came = script
-sent_where Echo mac frames came = take came (answers_for mac frames)
+-- how long the answer to a frame of so many bytes is of the echo of an address
+abbrev pub answer_len : Mac → ℕ → ℕ
+answer_len mac n = if nat_le 14 n then 6 + length mac.0 + (n - 12) else n
+
+-- how long the frames are that the client of an address sends by its program, where these came to it
+abbrev pub sent_lens : Program → Mac → (came : List Item) → List ℕ
+sent_lens Sink mac came = []
+sent_lens (Source script) mac came = map (λ frame. length frame) script
+sent_lens Echo mac came = map (λ item. answer_len mac (len_of item)) came
 
 -- it answers each frame before it takes the next
 abbrev pub is_answering : Program → Bool
@@ -67,28 +97,27 @@ is_answering Sink = false
 is_answering (Source script) = false
 is_answering Echo = true
 
--- the items by which it sends these frames: its own buffers in rising number and then those that
--- came back, each with the length of the frame of its place
-abbrev pub sent_items : List (List ℕ) → Window → List Item → List Item
-sent_items frames own back =
-    sized_items (map (λ frame. length frame) frames) (given_items own ++ back)
+-- the items by which it sends frames of these lengths: its own buffers in rising number and then
+-- those that came back, each with the length of its place
+abbrev pub sent_items : List ℕ → Window → List Item → List Item
+sent_items lens own back = sized_items lens (given_items own ++ back)
 
 -- what a client may have put to be sent: the first of those items; and it takes a buffer only where
 -- it has a frame to send and no buffer in its hand
-pub record SendsItems (frames : List (List ℕ)) (own : Window) (back put : List Item) : Type 0 where
-  pub filled : IsPrefix put (sent_items frames own back)
-  pub needed : 0 < length back → own.buffers + length back ≤ length frames
+pub record SendsItems (lens : List ℕ) (own : Window) (back put : List Item) : Type 0 where
+  pub filled : IsPrefix put (sent_items lens own back)
+  pub needed : 0 < length back → own.buffers + length back ≤ length lens
   pub none_in_hand : 0 < length back → own.buffers + length back ≤ length put + 1
 
 -- what a client may have put: its own buffers in rising number and then those that it took, as they
 -- came; and the frames of its program, where an echo takes a frame only after its answer to the one
 -- before. No buffer is empty
-pub record ServesClient (program : Program) (mac : Mac) (frames : List (List ℕ)) (rx tx : Window)
+pub record ServesClient (program : Program) (mac : Mac) (rx tx : Window)
     (came gave back put : List Item) : Type 0 where
   pub sized : 0 < rx.size
   pub spare_sized : 0 < tx.size
   pub given : IsPrefix gave (given_items rx ++ came)
-  pub sends : SendsItems (sent_where program mac frames (length came)) tx back put
+  pub sends : SendsItems (sent_lens program mac came) tx back put
   pub answered : is_answering program ≡ true → length came ≤ length put + 1
 
 -- an item of the network names a buffer of a window, by the address at which it begins

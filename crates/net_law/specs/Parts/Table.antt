@@ -5,7 +5,8 @@ use Rattle.std.specs.Prelude.{length, map, flat_map}
 use Rattle.cargo_core.specs.declared.item.Item.{Item}
 use Rattle.wire_core.specs.Bells.{bit}
 use Rattle.wire_core.specs.Marks.{sum_below}
-use Rattle.play_core.specs.Moved.{Moved, Seat}
+use Rattle.wire_core.specs.Ends.{Consumer}
+use Rattle.play_core.specs.Moved.{Moved, Seat, gone_at}
 use Rattle.play_core.specs.Wants.{Want, intake, outlet, intake_want, outlet_want}
 use Rattle.play_core.specs.Sheets.{Scene, Sheet, Due}
 use Rattle.frame_core.specs.declared.mac.Mac.{Mac}
@@ -14,8 +15,8 @@ use Rattle.owner_law.specs.Pools.Places.{PoolAt, by_offset, pool_hand}
 use Rattle.net_law.specs.Owners.Lending.{Lender}
 use Rattle.net_law.specs.Parts.Parts.{NetPart, NetDevice, NetDriver, NetReceiver, NetCopier}
 use Rattle.net_law.specs.Parts.Parts.{NetClient, Way, Lessee}
-use Rattle.net_law.specs.Parts.Rows.{FillsFrames, AllCopy, CopiesLeases, ServesClient}
-use Rattle.net_law.specs.Parts.Rows.{sent_where, sent_items, is_answering, SharesFrames}
+use Rattle.net_law.specs.Parts.Rows.{FillsSome, AllCopy, CopiesSome, ServesClient}
+use Rattle.net_law.specs.Parts.Rows.{sent_lens, sent_items, is_answering, SharesFrames}
 use Rattle.net_law.specs.Parts.Rows.{leases_from, lender_of, is_lent}
 
 -- the first list is shorter than the second
@@ -74,22 +75,22 @@ lessee_wants frames pool active busy m c =
     ∷ intake_want c.free (not busy) ∷ []
 
 -- the items by which a client sends, where these came to it and those buffers came back
-abbrev pub client_items : Program → Mac → List (List ℕ) → (came : List Item) → PoolAt
-    → (back : List Item) → List Item
-client_items program mac frames came tx back =
-    sent_items (sent_where program mac frames (length came)) (by_offset tx) back
+abbrev pub client_items : Program → Mac → (came : List Item) → PoolAt → (back : List Item)
+    → List Item
+client_items program mac came tx back =
+    sent_items (sent_lens program mac came) (by_offset tx) back
 
--- what is said of an actor: what it puts is what the device's frames and what it took allow; it
--- needs room for what it still has to put, and an input while nothing that came there is still to
--- be put
+-- what is said of an actor: what it puts is what the frames that the device accepted and what it
+-- took allow; it needs room for what it still has to put, and an input while nothing that came
+-- there is still to be put. What was dropped counts as what was put
 abbrev pub net_sheet : Scene → NetPart → Sheet
-net_sheet scene (NetDevice rx_free rx_active tx_active tx_free frames) = record {
+net_sheet scene (NetDevice rx_free rx_active tx_active tx_free frames drops) = record {
   ends = intake rx_free ∷ outlet rx_active ∷ intake tx_active ∷ outlet tx_free ∷ [];
-  row = λ m. FillsFrames frames (m.taken rx_free) (m.sent rx_active) (m.taken tx_active)
-      (m.sent tx_free);
+  row = λ m. FillsSome drops (gone_at drops m Consumer rx_free) frames (m.taken rx_free)
+      (m.sent rx_active) (m.taken tx_active) (m.sent tx_free);
   wants = λ m.
-      intake_want rx_free (is_short (m.taken rx_free) frames
-      && not (is_short (m.sent rx_active) (m.taken rx_free)))
+      intake_want rx_free (nat_lt (length (m.taken rx_free) + gone_at drops m Consumer rx_free)
+      (length frames) && not (is_short (m.sent rx_active) (m.taken rx_free)))
       ∷ outlet_want rx_active (is_short (m.sent rx_active) (m.taken rx_free))
       ∷ intake_want tx_active (not (is_short (m.sent tx_free) (m.taken tx_active)))
       ∷ outlet_want tx_free (is_short (m.sent tx_free) (m.taken tx_active)) ∷ [];
@@ -123,23 +124,28 @@ net_sheet scene (NetReceiver active free pool clients) = record {
       }) clients;
   hand = pool_hand pool;
 }
-net_sheet scene (NetCopier lease_active lease_free rx_active rx_free) = record {
+net_sheet scene (NetCopier lease_active lease_free rx_active rx_free drops) = record {
   ends = intake lease_active ∷ intake rx_free ∷ outlet rx_active ∷ outlet lease_free ∷ [];
-  row = λ m. CopiesLeases (m.taken lease_active) (m.taken rx_free) (m.sent rx_active)
-      (m.sent lease_free);
+  row = λ m. CopiesSome (gone_at drops m Consumer rx_free) (m.taken lease_active)
+      (m.taken rx_free) (m.sent rx_active) (m.sent lease_free);
   wants = λ m.
       intake_want lease_active (not (is_short (m.sent lease_free) (m.taken lease_active)))
-      ∷ intake_want rx_free (is_short (m.taken rx_free) (m.taken lease_active))
+      ∷ intake_want rx_free (nat_lt (length (m.taken rx_free)
+      + gone_at drops m Consumer rx_free) (length (m.taken lease_active)))
       ∷ outlet_want rx_active (is_short (m.sent rx_active) (m.taken rx_free))
-      ∷ outlet_want lease_free (is_short (m.sent lease_free) (m.sent rx_active)) ∷ [];
+      ∷ outlet_want lease_free (nat_lt (length (m.sent lease_free))
+      (length (m.sent rx_active) + gone_at drops m Consumer rx_free)) ∷ [];
   dues = λ m. record { queue = rx_active; number = length (m.taken rx_free) }
-      ∷ record { queue = lease_free; number = length (m.sent rx_active) } ∷ [];
+      ∷ record {
+        queue = lease_free;
+        number = length (m.sent rx_active) + gone_at drops m Consumer rx_free;
+      } ∷ [];
   hand = λ pool. [];
 }
 net_sheet scene (NetClient program mac rx_active rx_free tx_active tx_free rx tx) = record {
   ends = intake rx_active ∷ outlet rx_free ∷ intake tx_free ∷ outlet tx_active ∷ [];
-  row = λ m. ServesClient program mac scene.frames (by_offset rx) (by_offset tx)
-      (m.taken rx_active) (m.sent rx_free) (m.taken tx_free) (m.sent tx_active);
+  row = λ m. ServesClient program mac (by_offset rx) (by_offset tx) (m.taken rx_active)
+      (m.sent rx_free) (m.taken tx_free) (m.sent tx_active);
   wants = λ m.
       intake_want rx_active (not (nat_lt 0 (length (m.taken rx_active))
       && nat_lt (length (m.sent rx_free)) (rx.buffers + length (m.taken rx_active)))
@@ -147,16 +153,15 @@ net_sheet scene (NetClient program mac rx_active rx_free tx_active tx_free rx tx
       ∷ outlet_want rx_free
       (nat_lt (length (m.sent rx_free)) (rx.buffers + length (m.taken rx_active)))
       ∷ intake_want tx_free (is_short (m.sent tx_active)
-      (sent_where program mac scene.frames (length (m.taken rx_active)))
+      (sent_lens program mac (m.taken rx_active))
       && not (nat_lt (length (m.sent tx_active)) (tx.buffers + length (m.taken tx_free))))
       ∷ outlet_want tx_active (is_short (m.sent tx_active)
-      (client_items program mac scene.frames (m.taken rx_active) tx (m.taken tx_free))) ∷ [];
+      (client_items program mac (m.taken rx_active) tx (m.taken tx_free))) ∷ [];
   dues = λ m.
       record { queue = rx_free; number = rx.buffers + length (m.taken rx_active) }
       ∷ record {
         queue = tx_active;
-        number = length (client_items program mac scene.frames (m.taken rx_active) tx
-            (m.taken tx_free));
+        number = length (client_items program mac (m.taken rx_active) tx (m.taken tx_free));
       } ∷ [];
   hand = λ pool. pool_hand rx pool ++ pool_hand tx pool;
 }

@@ -1,6 +1,6 @@
 -- The whole network by the number of the class's first queue, in the order of the layout's table:
 -- where it stands, what its clients have of their pools, and the sending virtualiser's part.
-use Rattle.std.specs.Prelude.{◌+◌, ℕ, List, [], ◌∷◌}
+use Rattle.std.specs.Prelude.{◌+◌, ℕ, Bool, List, [], ◌∷◌}
 use Rattle.frame_core.specs.declared.mac.Mac.{Mac}
 use Rattle.class_expect.specs.NetExpect.Expecting.{Program}
 use Rattle.net_law.specs.Owners.Names.{ClientPools}
@@ -8,15 +8,17 @@ use Rattle.owner_law.specs.Pools.Places.{PoolAt, own_pool}
 use Rattle.net_law.specs.Parts.Numbers.{client_first}
 use Rattle.net_law.specs.TxParts.Parts.{SendPart, Shipper}
 
--- where the network class stands: its first queue, the pool in which the device receives, and of
--- each client its address, its pools by device addresses, and its program; and how many bytes a
--- frame has at most
+-- where the network class stands: its first queue, whether its device may drop, the pool in which
+-- that receives, and of each client its address, its pools by device addresses, its program, and
+-- whether frames for it may be dropped; and how many bytes a frame has at most
 pub record NetPlace : Type 0 where
   pub first : ℕ
+  pub device_drops : Bool
   pub pool : PoolAt
   pub macs : List Mac
   pub pools : List ClientPools
   pub programs : List Program
+  pub drops : List Bool
   pub most : ℕ
 
 -- a client's pools as the client has them

@@ -9,7 +9,7 @@ use Rattle.turn_kit.specs.declared.pipe.Pipe.{Pipe}
 use Rattle.pipe_driver.specs.Drivers.{PipesRow}
 use Rattle.pipe_driver.specs.declared.pipes.Pipes.{Pipes}
 use Rattle.eth_driver.specs.Four.{four_pipes}
-use Rattle.device_model.specs.Ethernet.Devices.{HoldingDeviceRow, tx_active}
+use Rattle.device_model.specs.Ethernet.Devices.{DeviceRow, tx_active}
 use Rattle.device_model.specs.declared.ethernet.EthDevice.{EthDevice}
 use Rattle.buffer_kit.specs.Entries.{frame_of}
 use Rattle.buffer_kit.specs.Virtualising.{from_queues}
@@ -26,7 +26,7 @@ pub record IsSending (d : EthDevice) (p : Pipes (Pipes (Pipes Pipe))) (v : NetVi
   pub hands_over : HandsOver passed
   pub virtualiser : TxRow v passed
   pub driver : PipesRow (four_pipes p) passed
-  pub device : HoldingDeviceRow d passed
+  pub device : DeviceRow d passed
   pub to_driver : p.rest.rest.first.input.queue.0 ≡ v.ends.output.queue.0
   pub to_device : tx_active d ≡ p.rest.rest.first.output.queue.0
 

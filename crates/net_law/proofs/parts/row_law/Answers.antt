@@ -1,4 +1,5 @@
-use Rattle.net_law.proofs.PartsLemmas.Items.{device_row, driver_row, copier_row, client_row}
+use Rattle.net_law.proofs.DropsLemmas.Telling.{device_row, copier_row}
+use Rattle.net_law.proofs.PartsLemmas.Items.{driver_row, client_row}
 use Rattle.net_law.proofs.PartsLemmas.Leasing.{receiver_row}
 use Rattle.net_law.proofs.parts.row_law.Goals as goal
 

@@ -1,4 +1,4 @@
-use Rattle.net_law.proofs.PartsLemmas.Turning.{all_in_turn, frames_of_places, copiers_take, copiers_read, records_begin}
+use Rattle.net_law.proofs.PartsLemmas.Turning.{all_in_turn, frames_of_places, copiers_take, copiers_read, records_begin, all_whole}
 use Rattle.net_law.proofs.parts.turn_law.Goals as goal
 
 pub returns-clause-turn : goal.returns-clause-turn
@@ -15,3 +15,6 @@ returns-clause-bytes c = copiers_read
 
 pub returns-clause-records : goal.returns-clause-records
 returns-clause-records c = records_begin
+
+pub returns-clause-whole : goal.returns-clause-whole
+returns-clause-whole c = all_whole

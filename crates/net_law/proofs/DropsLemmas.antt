@@ -1,0 +1,4 @@
+pub mod Leaving
+pub mod Telling
+pub mod Holding
+pub mod Growing
