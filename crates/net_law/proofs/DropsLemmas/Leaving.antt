@@ -17,7 +17,7 @@ use Rattle.net_law.proofs.Filled.{frame_is, filled_len}
 use Rattle.net_law.proofs.DeliveringLemmas.Passing.{settled_few}
 
 -- what is left was there
-left_there : {X : Type 0} (bs : List Bool) (xs : List X) (k : ℕ) (x : X) → slice_get (without bs xs) k ≡ Some x → (i : ℕ) × (slice_get xs i ≡ Some x)
+pub left_there : {X : Type 0} (bs : List Bool) (xs : List X) (k : ℕ) (x : X) → slice_get (without bs xs) k ≡ Some x → (i : ℕ) × (slice_get xs i ≡ Some x)
 left_there [] xs k x at = (k, at)
 left_there (b ∷ bs) [] k x at = cc
 left_there (true ∷ bs) (y ∷ xs) k x at = let f = left_there bs xs k x at in (suc f.0, f.1)
