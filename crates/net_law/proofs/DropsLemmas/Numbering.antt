@@ -20,7 +20,7 @@ used_is d first frames drops calls e =
     ∙ (ap (λ fs. accepted_by d.drops (told_used d.drops first calls) fs) own.1
     ∙ ap (λ b. accepted_by b (told_used b first calls) frames) own.2))
 
-copier_told : (c : NetCopier) (first k : ℕ) (drops : Bool) → copier_part c ≡ copier_at first k drops → (c.lease_input.queue.0 ≡ client_first first k) × (c.buffer_input.queue.0 ≡ client_first first k + 3) × (c.drops ≡ drops)
+pub copier_told : (c : NetCopier) (first k : ℕ) (drops : Bool) → copier_part c ≡ copier_at first k drops → (c.lease_input.queue.0 ≡ client_first first k) × (c.buffer_input.queue.0 ≡ client_first first k + 3) × (c.drops ≡ drops)
 copier_told c first k drops e = (cc, cc, cc)
 
 pub marks_are : (c : NetCopier) (first k : ℕ) (drops : List Bool) (calls : List Event) → copier_part c ≡ copier_at first k (policy_at drops k) → lease_marks c calls ≡ told_marks first drops calls k
