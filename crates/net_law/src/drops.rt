@@ -1,7 +1,8 @@
-//! Frames that the device or a copier drops: which ones their calls tell, what is said where both
-//! wait, and that the same is said as more frames are accepted.
+//! Frames that the device or a copier drops: which ones their calls tell, what a client sends upon
+//! those that are left, what is said where both wait, and that the same is said as more frames are
+//! accepted.
 
-ghost use Rattle.std.specs.Prelude.{◌≡◌, ◌++◌, ◌≤◌, false, true, ℕ, Bool, List, length, map};
+ghost use Rattle.std.specs.Prelude.{◌≡◌, ◌++◌, ◌≤◌, false, true, ℕ, Bool, List, [], length, map};
 ghost use Rattle.cargo_core.specs.Lists.{IsPrefix};
 ghost use Rattle.frame_core.specs.declared.mac.Mac.{Mac};
 ghost use Rattle.wire_core.specs.declared.names.Event.{Event};
@@ -11,8 +12,11 @@ ghost use Rattle.wire_core.specs.Lists.{Passed};
 ghost use Rattle.play_core.specs.Moved.{Moved, gone_at};
 ghost use Rattle.play_core.specs.Sheets.{Scene};
 ghost use Rattle.owner_law.specs.Pools.Places.{PoolAt};
-ghost use Rattle.class_expect.specs.NetExpect.Expecting.{Program, frames_for};
-ghost use Rattle.buffer_kit.specs.Entries.{len_of};
+ghost use Rattle.class_expect.specs.NetExpect.Expecting.{Program, frames_for, sends_of};
+ghost use Rattle.buffer_kit.specs.Entries.{frame_of, len_of};
+ghost use Rattle.client_programs.specs.Net.Programs.{program_of};
+ghost use Rattle.client_programs.specs.Net.Clients.{ClientRow, tx_active as sent_out};
+ghost use Rattle.client_programs.specs.declared.net.NetClient.{NetClient};
 ghost use Rattle.device_model.specs.Ethernet.Devices.{DeviceRow, DeviceStandsFor, accepted};
 ghost use Rattle.device_model.specs.Ethernet.Devices.{frames_dropped, rx_free, rx_active};
 ghost use Rattle.device_model.specs.Ethernet.Devices.{tx_active, tx_free};
@@ -21,10 +25,13 @@ ghost use Rattle.net_copier.specs.Copying.{CopierRow, leases_dropped};
 ghost use Rattle.net_copier.specs.declared.NetCopier.{NetCopier};
 ghost use Rattle.net_law.specs.Parts.Parts.{NetPart, NetDevice, NetCopier as CopierPart};
 ghost use Rattle.net_law.specs.Parts.Parts.{NetClient as ClientPart};
-ghost use Rattle.net_law.specs.Parts.Playing.{AreLeases};
+ghost use Rattle.net_law.specs.Delivering.{HasRoomToSend};
+ghost use Rattle.net_law.specs.Parts.Numbers.{device_at, copier_at, policy_at};
+ghost use Rattle.net_law.specs.Parts.Playing.{AreLeases, device_part, copier_part};
 ghost use Rattle.net_law.specs.Parts.Rows.{FillsOut, CopiesOut, accepted_by, is_answering};
 ghost use Rattle.net_law.specs.Parts.Table.{net_sheet};
 ghost use Rattle.net_law.specs.Dropped.{frame_marks, lease_marks, TellsDevice, TellsCopier};
+ghost use Rattle.net_law.specs.Dropped.{told_used, told_marks, left_for, sends_upon};
 ghost use Rattle.net_law.specs.Growing.{ReadsWithin};
 ghost use Rattle.net_law.specs.Holding.{holding_device_sheet, holding_copier_sheet};
 ghost use Rattle.net_law.specs.Holding.{holding_client_sheet};
@@ -50,6 +57,30 @@ pub fn told_law()
         → without (lease_marks c calls) frames ≡ without (leases_dropped c calls) frames }
     ensures settled { (d : EthDevice) (passed : Passed) → DeviceStandsFor d passed
         → d.drops ≡ true → length (frames_dropped d passed.calls) ≤ length d.frames }
+{}
+
+/// The calls alone tell it too, by the numbers of the layout's queues: which frames a device
+/// accepted that has the class's first queues, and which leases the copier of a client dropped.
+pub fn number_law()
+    ensures used { (d : EthDevice) (first : ℕ) (frames : List (List ℕ)) (drops : Bool)
+        (calls : List Event) → device_part d ≡ device_at first frames drops
+        → accepted d calls ≡ accepted_by drops (told_used drops first calls) frames }
+    ensures marks { (c : NetCopier) (first k : ℕ) (drops : List Bool) (calls : List Event)
+        → copier_part c ≡ copier_at first k (policy_at drops k)
+        → lease_marks c calls ≡ told_marks first drops calls k }
+{}
+
+/// The frames that a client puts to be sent are a beginning of those that it sends by its program
+/// where it gets what its copier left of the frames for it; where nothing is marked, these are those
+/// that it sends where it gets all frames for it.
+pub fn sends_law()
+    ensures begins { (c : NetClient) (mac : Mac) (frames : List (List ℕ)) (marks : List Bool)
+        (passed : Passed) → c.program.mac ≡ mac → (row : ClientRow c passed)
+        → IsPrefix c.frames.tape.shown (left_for marks mac frames) → HasRoomToSend c passed row
+        → IsPrefix (map frame_of (passed.sent (sent_out c)))
+        (sends_upon (program_of c.program) mac (left_for marks mac frames)) }
+    ensures holds { (program : Program) (mac : Mac) (frames : List (List ℕ))
+        → sends_upon program mac (left_for [] mac frames) ≡ sends_of program mac frames }
 {}
 
 /// Where the device waits, and a copier, all that is said of them is what is said where nothing is

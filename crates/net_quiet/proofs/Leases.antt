@@ -1,8 +1,11 @@
 -- The leases of frames: how many they are, which buffers they name, and that none is out where all
 -- came back.
-use Rattle.std.proofs.Common.{◌≡◌, ◌+◌, ◌<◌, ◌≤◌, ℕ, zero, suc, Bool, true, false, not, cond, Some, List, [], ◌∷◌, length, map, slice_get, sum_by, refl, sym, ap, ap₂, ◌∙◌, subst, arith}
+use Rattle.std.proofs.Common.{◌≡◌, ◌+◌, ◌<◌, ◌≤◌, ℕ, zero, suc, Bool, true, false, not, cond, Some, List, [], ◌∷◌, length, map, take, slice_get, sum_by, refl, sym, ap, ap₂, ◌∙◌, subst, arith}
 use Rattle.std.proofs.lemmas.Bool.{le-ltb}
+use Rattle.std.proofs.lemmas.List.{length-take-le}
 use Rattle.std.proofs.lemmas.List.Sums.{sum_by-cons}
+use Rattle.wire_core.specs.Fates.{without, marked}
+use Rattle.wire_core.proofs.Fating.{without_length}
 use Rattle.cargo_core.specs.Lists.{IsPrefix}
 use Rattle.cargo_core.specs.declared.item.Item.{Item}
 use Rattle.frame_core.specs.declared.mac.Mac.{Mac}
@@ -16,7 +19,7 @@ use Rattle.class_expect.specs.NetExpect.Expecting.{is_for_client, frames_for}
 use Rattle.owner_law.specs.Pools.Places.{PoolAt, by_address, by_offset}
 use Rattle.net_law.specs.Owners.Lending.{names_where, leases_due, leases_back}
 use Rattle.net_law.specs.Parts.Parts.{Lessee}
-use Rattle.net_law.specs.Parts.Rows.{IsIn, AreIn, frame_at, lease_item, leases_from, borrower_of, lender_of, is_lent}
+use Rattle.net_law.specs.Parts.Rows.{IsIn, AreIn, accepted_by, frame_at, lease_item, leases_from, borrower_of, lender_of, is_lent}
 use Rattle.net_law.specs.Parts.Table.{home_count, some_owed, leases_of, is_short}
 use Rattle.net_law.proofs.PartsLemmas.Counting.{numbered, buffer_is, count_in, below_few, below_more, below_rest}
 use Rattle.net_law.proofs.PartsLemmas.Leasing.{prefix_get}
@@ -104,6 +107,14 @@ leases_all (f ∷ frames) base mac (x ∷ items) e = by (is_for_client mac f) (l
     by : (t : Bool) → length (leases_from frames base mac 0 items) ≡ length (frames_for mac frames) → leases_from (f ∷ frames) base mac 1 items ≡ leases_from frames base mac 0 items → length (cond t (lease_item base f x ∷ leases_from (f ∷ frames) base mac 1 items) (leases_from (f ∷ frames) base mac 1 items)) ≡ length (cond t (f ∷ frames_for mac frames) (frames_for mac frames))
     by true rest later = let same = ap length later in omega (arith, rest, same)
     by false rest later = let same = ap length later in omega (arith, rest, same)
+
+-- no more frames are accepted than there are, but for those that were dropped
+pub kept_few : (drops : Bool) (noes : ℕ) (marks : List Bool) (frames : List (List ℕ)) → length marks ≤ length frames → marked marks ≡ cond drops noes 0 → length (accepted_by drops marks frames) + cond drops noes 0 ≤ length frames
+kept_few true noes marks frames settled many =
+    let first = length-take-le (length marks) frames settled in
+    let left = without_length marks (take (length marks) frames) (omega (arith, first)) in
+    omega (arith, left, first, settled, many)
+kept_few false noes marks frames settled many = omega arith
 
 -- no client is owed a lease
 pub none_owed : (frames : List (List ℕ)) (pool : PoolAt) (active : ℕ) (m : Moved) (cs : List Lessee) → ((k : ℕ) (c : Lessee) → slice_get cs k ≡ Some c → is_short (m.sent c.active) (leases_of frames pool active m c) ≡ false) → some_owed frames pool active m cs ≡ false

@@ -26,7 +26,7 @@ use Rattle.net_law.specs.Owners.Names.{ClientPools}
 use Rattle.owner_law.specs.Pools.Places.{PoolAt, by_offset, numbers_from}
 use Rattle.net_law.specs.Parts.Parts.{Way}
 use Rattle.net_law.specs.Parts.Numbers.{client_first, device_at, driver_at, client_at}
-use Rattle.net_law.specs.Parts.Rows.{AllCopy, FillsFrames, ServesClient, given_item, given_items, sent_where}
+use Rattle.net_law.specs.Parts.Rows.{AllCopy, ServesClient, given_item, given_items, sent_lens}
 use Rattle.net_law.specs.Parts.Table.{net_sheet, is_short, client_items}
 use Rattle.net_law.proofs.PartsLemmas.Pairs.{twice, pair_first, pair_second}
 use Rattle.net_law.proofs.PartsLemmas.Plain.{numbers_length}
@@ -67,7 +67,7 @@ given_long tx back =
 abbrev pub ways_at : (first : ℕ) → List Way
 ways_at first = record { input = first + 5; output = first } ∷ record { input = first + 1; output = first + 4 } ∷ record { input = first + 6; output = first + 2 } ∷ record { input = first + 3; output = first + 7 } ∷ []
 
-module _ (hostile : Hostiles) (h : History) (rows : List QueueRow) (actors : Needful) (j : List Entry) (scene : Scene) (net : NetPlace) (still : IsStill hostile h rows actors j) (w : IsNetwork hostile scene rows actors net (moved h j)) where
+module _ (hostile : Hostiles) (h : History) (rows : List QueueRow) (actors : Needful) (j : List Entry) (scene : Scene) (frames : List (List ℕ)) (used : List Bool) (net : NetPlace) (still : IsStill hostile h rows actors j) (w : IsNetwork hostile scene frames used rows actors net (moved h j)) where
   abbrev pub m : Moved
   m = moved h j
 
@@ -99,9 +99,6 @@ module _ (hostile : Hostiles) (h : History) (rows : List QueueRow) (actors : Nee
   pub driver_row : AllCopy (ways_at net.first) m
   driver_row = w.driver.row
 
-  device_row : FillsFrames scene.frames (got net.first) (put (net.first + 1)) (got (net.first + 2)) (put (net.first + 3))
-  device_row = w.device.row
-
   sender_row : MergesSends (sender_at net.first net.most net.pools) m
   sender_row = w.sender.row
 
@@ -111,8 +108,8 @@ module _ (hostile : Hostiles) (h : History) (rows : List QueueRow) (actors : Nee
   want_driver : (place : ℕ) (x : Want) → slice_get ((net_sheet scene (driver_at net.first)).wants m) place ≡ Some x → HasWant hostile actors x
   want_driver = want_at (net_sheet scene (driver_at net.first)) w.driver
 
-  want_device : (place : ℕ) (x : Want) → slice_get ((net_sheet scene (device_at net.first scene.frames)).wants m) place ≡ Some x → HasWant hostile actors x
-  want_device = want_at (net_sheet scene (device_at net.first scene.frames)) w.device
+  want_device : (place : ℕ) (x : Want) → slice_get ((net_sheet scene (device_at net.first frames net.device_drops)).wants m) place ≡ Some x → HasWant hostile actors x
+  want_device = want_at (net_sheet scene (device_at net.first frames net.device_drops)) w.device
 
   want_sender : (place : ℕ) (x : Want) → slice_get ((send_sheet (sender_at net.first net.most net.pools)).wants m) place ≡ Some x → HasWant hostile actors x
   want_sender = want_at (send_sheet (sender_at net.first net.most net.pools)) w.sender
@@ -188,7 +185,7 @@ module _ (hostile : Hostiles) (h : History) (rows : List QueueRow) (actors : Nee
   came_back : got (net.first + 7) ≡ put (net.first + 6)
   came_back =
       let copied : put (net.first + 7) ≡ got (net.first + 3) = whole_prefix (put (net.first + 7)) (got (net.first + 3)) (driver_row 3 _ refl) free_paid in
-      let returned : put (net.first + 3) ≡ got (net.first + 2) = whole_prefix (put (net.first + 3)) (got (net.first + 2)) device_row.returns back_paid in
+      let returned : put (net.first + 3) ≡ got (net.first + 2) = whole_prefix (put (net.first + 3)) (got (net.first + 2)) w.fills.returns back_paid in
       sym free_drained ∙ (copied ∙ (sym back_drained ∙ (returned ∙ wire_is)))
 
   -- all that came from the clients
@@ -240,11 +237,11 @@ module _ (hostile : Hostiles) (h : History) (rows : List QueueRow) (actors : Nee
     abbrev tf : ℕ
     tf = client_first net.first k + 5
 
-    abbrev fs : List (List ℕ)
-    fs = sent_where program mac scene.frames (length (got ra))
+    abbrev lens : List ℕ
+    lens = sent_lens program mac (got ra)
 
     abbrev items : List Item
-    items = client_items program mac scene.frames (got ra) (own_pools q).tx (got tf)
+    items = client_items program mac (got ra) (own_pools q).tx (got tf)
 
     below : k < length net.macs
     below = there_below net.macs k mac of.address
@@ -252,7 +249,7 @@ module _ (hostile : Hostiles) (h : History) (rows : List QueueRow) (actors : Nee
     client : Plays hostile actors m (net_sheet scene (client_at net.first k program mac (own_pools q)))
     client = w.client k program mac q of
 
-    client_row : ServesClient program mac scene.frames (by_offset (own_pools q).rx) (by_offset (own_pools q).tx) (got ra) (put (client_first net.first k + 3)) (got tf) (put ta)
+    client_row : ServesClient program mac (by_offset (own_pools q).rx) (by_offset (own_pools q).tx) (got ra) (put (client_first net.first k + 3)) (got tf) (put ta)
     client_row = client.row
 
     want_client : (place : ℕ) (x : Want) → slice_get ((net_sheet scene (client_at net.first k program mac (own_pools q))).wants m) place ≡ Some x → HasWant hostile actors x
@@ -277,16 +274,13 @@ module _ (hostile : Hostiles) (h : History) (rows : List QueueRow) (actors : Nee
     pub ta_drained : put ta ≡ got ta
     ta_drained = drained_one ta _ at_ta ta_needs ta_owes
 
-    frames_long : length (map (λ (frame : List ℕ). length frame) fs) ≡ length fs
-    frames_long = length-map fs (λ (frame : List ℕ). length frame)
-
-    put_few : (length (put ta) ≤ length fs) × (length (put ta) ≤ q.tx.buffers + length (got tf))
+    put_few : (length (put ta) ≤ length lens) × (length (put ta) ≤ q.tx.buffers + length (got tf))
     put_few =
-        let few = sized_few (map (λ (frame : List ℕ). length frame) fs) (given_items (by_offset (own_pools q).tx) ++ got tf) (put ta) client_row.sends.filled in
+        let few = sized_few lens (given_items (by_offset (own_pools q).tx) ++ got tf) (put ta) client_row.sends.filled in
         let given = given_long (own_pools q).tx (got tf) in
-        (omega (arith, few.0, frames_long), omega (arith, few.1, given))
+        (few.0, omega (arith, few.1, given))
 
-    tf_needs : Needs hostile actors tf (nat_lt (length (put ta)) (length fs) && not (nat_lt (length (put ta)) (q.tx.buffers + length (got tf))))
+    tf_needs : Needs hostile actors tf (nat_lt (length (put ta)) (length lens) && not (nat_lt (length (put ta)) (q.tx.buffers + length (got tf))))
     tf_needs = want_client 2 _ refl
 
     tf_owes : Owes hostile actors tf (nat_lt (length (put tf)) (length (at_home q.tx (got (net.first + 7)))))
@@ -304,16 +298,16 @@ module _ (hostile : Hostiles) (h : History) (rows : List QueueRow) (actors : Nee
         roomy hostile h rows actors j still tf q.tx.buffers (length (at_home q.tx (got (net.first + 7)))) _ at_tf tf_needs tf_owes (omega (arith, back, same, put_few.1))
 
     -- a frame that is left would have a buffer
-    no_frame : (b : Bool) → nat_lt (length (put ta)) (length fs) ≡ b → length fs ≤ length (put ta)
-    no_frame false e = ltb-false (length (put ta)) (length fs) e
-    no_frame true e = by (sized_as (map (λ (frame : List ℕ). length frame) fs) (given_items (by_offset (own_pools q).tx) ++ got tf)).2
+    no_frame : (b : Bool) → nat_lt (length (put ta)) (length lens) ≡ b → length lens ≤ length (put ta)
+    no_frame false e = ltb-false (length (put ta)) (length lens) e
+    no_frame true e = by (sized_as lens (given_items (by_offset (own_pools q).tx) ++ got tf)).2
       where
-        by : (length items ≡ length (map (λ (frame : List ℕ). length frame) fs)) ⊎ (length items ≡ length (given_items (by_offset (own_pools q).tx) ++ got tf)) → length fs ≤ length (put ta)
-        by (inl all) = omega (arith, all, frames_long, ta_paid)
+        by : (length items ≡ length lens) ⊎ (length items ≡ length (given_items (by_offset (own_pools q).tx) ++ got tf)) → length lens ≤ length (put ta)
+        by (inl all) = omega (arith, all, ta_paid)
         by (inr all) =
             let given = given_long (own_pools q).tx (got tf) in
             let none : nat_lt (length (put ta)) (q.tx.buffers + length (got tf)) ≡ false = le-ltb (length (put ta)) (q.tx.buffers + length (got tf)) (omega (arith, all, given, ta_paid)) in
-            let wanted : (nat_lt (length (put ta)) (length fs) && not (nat_lt (length (put ta)) (q.tx.buffers + length (got tf)))) ≡ true = rw (e, none) refl in
+            let wanted : (nat_lt (length (put ta)) (length lens) && not (nat_lt (length (put ta)) (q.tx.buffers + length (got tf)))) ≡ true = rw (e, none) refl in
             let needs : Needs hostile actors tf true = needs_as hostile h rows actors j still tf _ true wanted tf_needs in
             let same : length (put tf) ≡ length (got tf) = ap length (drained hostile h rows actors j still tf q.tx.buffers _ at_tf needs tf_owes) in
             let back = home_back k q of.pools in
@@ -321,5 +315,5 @@ module _ (hostile : Hostiles) (h : History) (rows : List QueueRow) (actors : Nee
             let some = (w.pools.each k q of.pools).1 in
             absurd (omega (arith, all, given, ta_paid, same, back, drained_ta, tf_paid, some))
 
-    pub all_sent : length (put ta) ≡ length fs
+    pub all_sent : length (put ta) ≡ length lens
     all_sent = let all = no_frame _ refl in let few = put_few.0 in omega (arith, all, few)

@@ -1,26 +1,28 @@
 -- The whole network at the layout's queues where nobody is runnable: its actors, its pools and its
 -- queues, and what went through these.
-use Rattle.std.specs.Prelude.{◌≡◌, ◌+◌, ◌*◌, ◌<◌, ◌≤◌, ℕ, Some, List, length, slice_get}
+use Rattle.std.specs.Prelude.{◌≡◌, ◌+◌, ◌*◌, ◌<◌, ◌≤◌, ℕ, Bool, Some, List, [], ◌∷◌, length}
+use Rattle.std.specs.Prelude.{slice_get}
 use Rattle.cargo_core.specs.Ranges.{IsApart}
 use Rattle.cargo_core.specs.declared.ranges.Range.{Range}
 use Rattle.frame_core.specs.declared.mac.Mac.{Mac}
 use Rattle.wire_core.specs.declared.names.QueueRow.{QueueRow}
+use Rattle.wire_core.specs.Ends.{Consumer}
 use Rattle.wire_core.specs.Journal.{Hostiles}
-use Rattle.play_core.specs.Moved.{Moved}
+use Rattle.play_core.specs.Moved.{Moved, gone_at}
 use Rattle.play_core.specs.Sheets.{Scene}
 use Rattle.play_core.specs.Still.{Plays, Holds}
 use Rattle.play_core.specs.Totals.{total}
 use Rattle.play_core.specs.Wants.{Needful}
-use Rattle.class_expect.specs.NetExpect.Expecting.{Program, frames_for, sends_of}
+use Rattle.class_expect.specs.NetExpect.Expecting.{Program, frames_for}
 use Rattle.net_law.specs.Owners.Names.{ClientPools}
 use Rattle.owner_law.specs.Pools.Places.{PoolAt}
 use Rattle.net_law.specs.Parts.Numbers.{client_first, device_at, driver_at, receiver_at}
-use Rattle.net_law.specs.Parts.Numbers.{copier_at, client_at}
-use Rattle.net_law.specs.Parts.Rows.{leases_from}
+use Rattle.net_law.specs.Parts.Numbers.{copier_at, client_at, policy_at}
+use Rattle.net_law.specs.Parts.Rows.{FillsOut, accepted_by, leases_from, sent_lens}
 use Rattle.net_law.specs.Parts.Table.{net_sheet}
 use Rattle.net_law.specs.TxParts.Numbers.{NetPlace, own_pools, sender_at}
 use Rattle.net_law.specs.TxParts.Table.{send_sheet}
-use Rattle.net_quiet.specs.TxCast.Casting.{IsClientOf, sends_at}
+use Rattle.net_quiet.specs.TxCast.Casting.{IsClientOf}
 
 -- the device addresses of a pool's buffers
 abbrev pub range_of : PoolAt → Range
@@ -54,38 +56,67 @@ pub record HasRooms (hostile : Hostiles) (rows : List QueueRow) (net : NetPlace)
   pub tx_free : (k : ℕ) (q : ClientPools) → slice_get net.pools k ≡ Some q
       → Holds hostile rows (client_first net.first k + 5) q.tx.buffers
 
+-- how many frames the device dropped
+abbrev pub device_gone : NetPlace → Moved → ℕ
+device_gone net m = gone_at net.device_drops m Consumer net.first
+
+-- how many the copier of the client of a number did
+abbrev pub copier_gone : NetPlace → Moved → ℕ → ℕ
+copier_gone net m k =
+    gone_at (policy_at net.drops k) m Consumer (client_first net.first k + 3)
+
 -- the whole network is among the actors: each of its actors has the ends of its sheet, and its row
--- holds
-pub record IsNetwork (hostile : Hostiles) (scene : Scene) (rows : List QueueRow)
-    (actors : Needful) (net : NetPlace) (m : Moved) : Type 0 where
+-- holds. The device receives these frames, of which those were dropped that are marked, and accepts
+-- those of the scene
+pub record IsNetwork (hostile : Hostiles) (scene : Scene) (frames : List (List ℕ))
+    (used : List Bool) (rows : List QueueRow) (actors : Needful) (net : NetPlace)
+    (m : Moved) : Type 0 where
   pub pools : HasPools net
   pub rooms : HasRooms hostile rows net
-  pub device : Plays hostile actors m (net_sheet scene (device_at net.first scene.frames))
+  pub device : Plays hostile actors m
+      (net_sheet scene (device_at net.first frames net.device_drops))
+  pub fills : FillsOut used net.device_drops (device_gone net m) frames (m.taken net.first)
+      (m.sent (net.first + 1)) (m.taken (net.first + 2)) (m.sent (net.first + 3))
+  pub accepted : scene.frames ≡ accepted_by net.device_drops used frames
   pub driver : Plays hostile actors m (net_sheet scene (driver_at net.first))
   pub receiver : Plays hostile actors m (net_sheet scene (receiver_at net.first net.pool net.macs))
   pub sender : Plays hostile actors m (send_sheet (sender_at net.first net.most net.pools))
   pub copier : (k : ℕ) → k < length net.macs
-      → Plays hostile actors m (net_sheet scene (copier_at net.first k))
+      → Plays hostile actors m
+      (net_sheet scene (copier_at net.first k (policy_at net.drops k)))
   pub client : (k : ℕ) (program : Program) (mac : Mac) (q : ClientPools)
       → IsClientOf net k program mac q
       → Plays hostile actors m (net_sheet scene (client_at net.first k program mac (own_pools q)))
 
--- all frames came into the device's buffers and up to the receiving virtualiser; each copier took
--- the leases of those that are for its client, and the client as many frames as these
-pub record ArrivesAll (scene : Scene) (net : NetPlace) (m : Moved) : Type 0 where
-  pub frames : length (m.taken net.first) ≡ length scene.frames
+-- all frames are used up; those that the device accepted came into its buffers and up to the
+-- receiving virtualiser; each copier took the leases of those that are for its client, and the
+-- client as many frames as these, but for those that its copier dropped
+pub record ArrivesAll (scene : Scene) (frames : List (List ℕ)) (net : NetPlace)
+    (m : Moved) : Type 0 where
+  pub used : length (m.taken net.first) + device_gone net m ≡ length frames
+  pub frames_in : length (m.taken net.first) ≡ length scene.frames
   pub received : length (m.taken (net.first + 4)) ≡ length scene.frames
   pub leased : (k : ℕ) (mac : Mac) → slice_get net.macs k ≡ Some mac
       → m.taken (client_first net.first k)
       ≡ leases_from scene.frames net.pool.base mac 0 (m.taken (net.first + 4))
   pub got : (k : ℕ) (mac : Mac) → slice_get net.macs k ≡ Some mac
-      → length (m.taken (client_first net.first k + 2)) ≡ length (frames_for mac scene.frames)
+      → length (m.taken (client_first net.first k + 2)) + copier_gone net m k
+      ≡ length (frames_for mac scene.frames)
 
--- each client put as many entries to be sent as it sends frames by its program, and the device took
--- all of them
-pub record SendsAll (scene : Scene) (net : NetPlace) (m : Moved) : Type 0 where
+-- the lengths of what clients send, from a number on, where these came to them
+abbrev pub lens_from : (first : ℕ) → Moved → (k : ℕ) → List Program → List Mac → List (List ℕ)
+lens_from first m k [] macs = []
+lens_from first m k (program ∷ programs) [] = []
+lens_from first m k (program ∷ programs) (mac ∷ macs) =
+    sent_lens program mac (m.taken (client_first first k + 2))
+    ∷ lens_from first m (k + 1) programs macs
+
+-- each client put as many entries to be sent as it sends frames by its program, where these came to
+-- it, and the device took all of them
+pub record SendsAll (net : NetPlace) (m : Moved) : Type 0 where
   pub puts : (k : ℕ) (program : Program) (mac : Mac) (q : ClientPools)
       → IsClientOf net k program mac q
-      → length (m.sent (client_first net.first k + 4)) ≡ length (sends_of program mac scene.frames)
+      → length (m.sent (client_first net.first k + 4))
+      ≡ length (sent_lens program mac (m.taken (client_first net.first k + 2)))
   pub wire : length (m.taken (net.first + 2))
-      ≡ total (sends_at net.programs net.macs scene.frames)
+      ≡ total (lens_from net.first m 0 net.programs net.macs)

@@ -3,35 +3,48 @@
 //! for it. What is asked of a buffer's room follows from the buffers that the actors had at the
 //! start.
 
-ghost use Rattle.std.specs.Prelude.{◌≡◌, ◌<◌, ℕ, Some, List, [], length, slice_get};
+ghost use Rattle.std.specs.Prelude.{◌≡◌, ◌<◌, ℕ, Bool, Some, List, [], length, slice_get};
 ghost use Rattle.cargo_core.specs.Lists.{IsPrefix};
 ghost use Rattle.frame_core.specs.declared.mac.Mac.{Mac};
 ghost use Rattle.wire_core.specs.Lists.{Passed};
-ghost use Rattle.class_expect.specs.NetExpect.Expecting.{frames_for};
+ghost use Rattle.client_programs.specs.Net.Clients.{rx_active};
 ghost use Rattle.client_programs.specs.declared.net.NetClient.{NetClient};
 ghost use Rattle.net_virt_rx.specs.Receiving.{RxRow};
 ghost use Rattle.owner_law.specs.Pools.Places.{PoolAt};
 ghost use Rattle.net_law.specs.RxOwners.Virtualiser.{TakesFrames};
 ghost use Rattle.net_law.specs.Parts.Rows.{frame_at};
 ghost use Rattle.net_law.specs.Parts.Numbers.{client_first};
-ghost use Rattle.net_law.specs.Parts.Playing.{AreLeases};
-ghost use Rattle.net_quiet.specs.Cast.Casting.{IsCast, IsClientAt};
+ghost use Rattle.net_law.specs.Parts.Playing.{AreLeases, AreWhole};
+ghost use Rattle.net_law.specs.Dropped.{left_for, told_marks};
+ghost use Rattle.net_quiet.specs.Cast.Casting.{IsCast, IsClientAt, kept_frames};
 
-/// Nothing comes out of turn at the receiving virtualiser, which takes the frames of their places,
-/// nor at a copier, which takes leases alone, each as long as its item says. Each client's record
-/// is a beginning of the frames that are for its address.
+/// Nothing comes out of turn at the receiving virtualiser, which takes the frames of their places
+/// among those that the device accepted, nor at a copier, which takes leases alone, each as long as
+/// its item says. Each client's record is a beginning of the accepted frames that are for its
+/// address without those that its copier dropped, and each entry that came to it has a whole frame.
 pub fn cast_law()
-    ensures turn { (first : ℕ) (frames : List (List ℕ)) (pool : PoolAt) (macs : List Mac)
-        (passed : Passed) → (h : IsCast first frames pool macs passed)
+    ensures turn { (first : ℕ) (device_drops : Bool) (frames : List (List ℕ)) (pool : PoolAt)
+        (macs : List Mac) (drops : List Bool) (passed : Passed)
+        → (h : IsCast first device_drops frames pool macs drops passed)
         → (row : RxRow h.receiver passed) → row.stray ≡ [] }
-    ensures takes { (first : ℕ) (frames : List (List ℕ)) (pool : PoolAt) (macs : List Mac)
-        (passed : Passed) → (h : IsCast first frames pool macs passed)
-        → TakesFrames (frame_at frames) h.receiver passed }
-    ensures leases { (first : ℕ) (frames : List (List ℕ)) (pool : PoolAt) (macs : List Mac)
-        (passed : Passed) → IsCast first frames pool macs passed → (k : ℕ) → k < length macs
+    ensures takes { (first : ℕ) (device_drops : Bool) (frames : List (List ℕ)) (pool : PoolAt)
+        (macs : List Mac) (drops : List Bool) (passed : Passed)
+        → (h : IsCast first device_drops frames pool macs drops passed)
+        → TakesFrames (frame_at (kept_frames first device_drops frames passed.calls)) h.receiver
+        passed }
+    ensures leases { (first : ℕ) (device_drops : Bool) (frames : List (List ℕ)) (pool : PoolAt)
+        (macs : List Mac) (drops : List Bool) (passed : Passed)
+        → IsCast first device_drops frames pool macs drops passed → (k : ℕ) → k < length macs
         → AreLeases (passed.taken (client_first first k)) }
-    ensures records { (first : ℕ) (frames : List (List ℕ)) (pool : PoolAt) (macs : List Mac)
-        (passed : Passed) → IsCast first frames pool macs passed → (k : ℕ) (mac : Mac)
+    ensures records { (first : ℕ) (device_drops : Bool) (frames : List (List ℕ)) (pool : PoolAt)
+        (macs : List Mac) (drops : List Bool) (passed : Passed)
+        → IsCast first device_drops frames pool macs drops passed → (k : ℕ) (mac : Mac)
         → slice_get macs k ≡ Some mac → (c : NetClient) → IsClientAt first k frames c passed
-        → IsPrefix c.frames.tape.shown (frames_for mac frames) }
+        → IsPrefix c.frames.tape.shown (left_for (told_marks first drops passed.calls k) mac
+        (kept_frames first device_drops frames passed.calls)) }
+    ensures whole { (first : ℕ) (device_drops : Bool) (frames : List (List ℕ)) (pool : PoolAt)
+        (macs : List Mac) (drops : List Bool) (passed : Passed)
+        → IsCast first device_drops frames pool macs drops passed → (k : ℕ) (mac : Mac)
+        → slice_get macs k ≡ Some mac → (c : NetClient) → IsClientAt first k frames c passed
+        → AreWhole (passed.taken (rx_active c)) }
 {}

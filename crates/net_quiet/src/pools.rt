@@ -13,12 +13,12 @@ ghost use Rattle.owner_law.specs.Things.{Naming};
 ghost use Rattle.owner_law.specs.Keeping.{IsNaming};
 ghost use Rattle.turn_kit.specs.declared.pipe.Pipe.{Pipe};
 ghost use Rattle.pipe_driver.specs.Drivers.{PipesRow, PipesBalance, pipes_hand};
-ghost use Rattle.device_model.specs.Ethernet.Devices.{HoldingDeviceRow, DeviceBalances};
+ghost use Rattle.device_model.specs.Ethernet.Devices.{DeviceRow, DeviceBalances};
 ghost use Rattle.device_model.specs.Ethernet.Devices.{device_hand};
 ghost use Rattle.device_model.specs.declared.ethernet.EthDevice.{EthDevice};
 ghost use Rattle.client_programs.specs.Net.Clients.{ClientRow, ClientBalances, client_hand};
 ghost use Rattle.client_programs.specs.declared.net.NetClient.{NetClient};
-ghost use Rattle.net_copier.specs.Copying.{HoldingCopierRow, CopierBalances, copier_hand};
+ghost use Rattle.net_copier.specs.Copying.{CopierRow, CopierBalances, copier_hand};
 ghost use Rattle.net_copier.specs.declared.NetCopier.{NetCopier};
 ghost use Rattle.buffer_kit.specs.Virtualising.{from_queues, to_queues};
 ghost use Rattle.net_virt_rx.specs.Sharing.{sharer_hand};
@@ -46,13 +46,13 @@ ghost use Rattle.net_quiet.specs.Pools.Holders.{holder_of, no_lent, rx_lent};
 /// client its own buffers and those that came, or came back.
 pub fn hand_on_law()
     ensures device { (naming : Naming) (scene : Scene) (d : EthDevice) (passed : Passed) (m : Moved)
-        → NamesPart naming scene (device_part d) → HoldingDeviceRow d passed
+        → NamesPart naming scene (device_part d) → DeviceRow d passed
         → HandsOn naming m passed (net_sheet scene (device_part d)).ends }
     ensures driver { (naming : Naming) (scene : Scene) (ps : List Pipe) (passed : Passed)
         (m : Moved) → NamesPart naming scene (driver_part ps) → PipesRow ps passed
         → HandsOn naming m passed (net_sheet scene (driver_part ps)).ends }
     ensures copier { (naming : Naming) (scene : Scene) (c : NetCopier) (passed : Passed) (m : Moved)
-        → NamesPart naming scene (copier_part c) → HoldingCopierRow c passed
+        → NamesPart naming scene (copier_part c) → CopierRow c passed
         → HandsOn naming m passed (net_sheet scene (copier_part c)).ends }
     ensures receiver { (naming : Naming) (scene : Scene) (v : NetVirtRx) (passed : Passed)
         (m : Moved) → NamesPart naming scene (receiver_part v)

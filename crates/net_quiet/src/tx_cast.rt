@@ -10,17 +10,19 @@ ghost use Rattle.frame_core.specs.declared.mac.Mac.{Mac};
 ghost use Rattle.wire_core.specs.Lists.{Passed};
 ghost use Rattle.wire_core.specs.Queues.{items_of};
 ghost use Rattle.play_core.specs.Names.{Wild};
-ghost use Rattle.class_expect.specs.NetExpect.Expecting.{Program, sends_of};
+ghost use Rattle.class_expect.specs.NetExpect.Expecting.{Program};
 ghost use Rattle.buffer_kit.specs.Entries.{frame_of};
 ghost use Rattle.client_programs.specs.declared.net.NetClient.{NetClient};
 ghost use Rattle.net_virt_tx.specs.Sending.{TxRow};
+ghost use Rattle.net_law.specs.Dropped.{left_for, sends_upon};
 ghost use Rattle.net_law.specs.Owners.Names.{ClientPools};
 ghost use Rattle.net_law.specs.Parts.Numbers.{client_first};
 ghost use Rattle.net_law.specs.TxParts.Numbers.{NetPlace};
 ghost use Rattle.net_law.specs.TxScene.Playing.{CalmGood};
 ghost use Rattle.net_quiet.specs.TxCast.Casting.{IsWholeCast, IsClientOf, IsSendingClient};
 ghost use Rattle.net_quiet.specs.TxCast.Casting.{AreClients, AreSends, CalmSend, NoneHostile};
-ghost use Rattle.net_quiet.specs.TxCast.Casting.{sends_at, sends_beside, wire_at, wire_beside};
+ghost use Rattle.net_quiet.specs.TxCast.Casting.{net_kept, net_marks, sends_at, sends_beside};
+ghost use Rattle.net_quiet.specs.TxCast.Casting.{wire_at, wire_beside};
 ghost use Rattle.net_quiet.specs.TxTurns.Turning.{StraysWild};
 
 /// Where each client that isn't hostile put good descriptors of its own buffers alone, nothing
@@ -55,7 +57,8 @@ pub fn whole_law()
         → (c : NetClient) → IsSendingClient net k program mac q c passed
         → AreSends net.most q.tx (passed.sent (client_first net.first k + 4))
         → IsPrefix (map frame_of (passed.sent (client_first net.first k + 4)))
-        (sends_of program mac frames) }
+        (sends_upon program mac (left_for (net_marks net passed.calls k) mac
+        (net_kept net frames passed.calls))) }
     ensures wire { (wild : Wild) (net : NetPlace) (frames : List (List ℕ)) (passed : Passed)
         → (h : IsWholeCast net frames passed) → AreClients wild net passed
         → CalmSend wild net passed
@@ -66,7 +69,9 @@ pub fn whole_law()
         → h.half.device.wire.tape.shown ≡ wire_beside wild net frames passed }
     ensures calm { (wild : Wild) (net : NetPlace) (frames : List (List ℕ)) (passed : Passed)
         → IsWholeCast net frames passed → NoneHostile wild net
-        → (sends_beside wild net frames passed ≡ sends_at net.programs net.macs frames)
+        → (sends_beside wild net frames passed ≡ sends_at (net_marks net passed.calls) 0
+        net.programs net.macs (net_kept net frames passed.calls))
         × (wire_beside wild net frames passed
-        ≡ wire_at net frames (items_of (passed.taken (net.first + 2)))) }
+        ≡ wire_at net (net_marks net passed.calls) (net_kept net frames passed.calls)
+        (items_of (passed.taken (net.first + 2)))) }
 {}

@@ -44,7 +44,7 @@ pub due_part : (d : EthDevice) (mac : Mac) (calls : List Event) → IsSubsequenc
 due_part d mac calls = part_filter (is_for_client mac) (accepted d calls) d.frames (accepted_part d calls)
 
 -- an echo's answers to some of the frames that are for it
-answers_some : (mac : Mac) (frames came : List (List ℕ)) → IsSubsequence came (frames_for mac frames) → map (answer_to mac) came ≡ map (λ (f : List ℕ). turned_round f mac) came
+pub answers_some : (mac : Mac) (frames came : List (List ℕ)) → IsSubsequence came (frames_for mac frames) → map (answer_to mac) came ≡ map (λ (f : List ℕ). turned_round f mac) came
 answers_some mac frames came a =
     let all = frames_for mac frames in
     ap (map (answer_to mac)) (sym a.1) ∙ (without-map (answer_to mac) a.0 all ∙ (ap (without a.0) (answers_are mac frames) ∙ (sym (without-map (λ (f : List ℕ). turned_round f mac) a.0 all) ∙ ap (map (λ (f : List ℕ). turned_round f mac)) a.1)))

@@ -1,4 +1,4 @@
-use Rattle.std.proofs.Common.{◌≡◌, ◌++◌, ℕ, zero, suc, Bool, true, false, Some, List, [], ◌∷◌, length, map, slice_get, refl, sym, ap, ◌∙◌, subst}
+use Rattle.std.proofs.Common.{◌≡◌, ◌++◌, ℕ, zero, suc, Bool, true, false, Some, List, [], ◌∷◌, length, map, take, slice_get, refl, sym, ap, ◌∙◌, subst}
 use Rattle.std.proofs.lemmas.List.{map-append}
 use Rattle.cargo_core.specs.Lists.{IsPrefix}
 use Rattle.play_core.proofs.Lists.{some_is}
@@ -11,13 +11,15 @@ use Rattle.net_copier.specs.Copying.{CopierRow, leased_bytes, leases_dropped}
 use Rattle.net_copier.specs.declared.NetCopier.{NetCopier}
 use Rattle.net_law.specs.Delivering.{IsSubsequence, copied_bytes}
 use Rattle.net_law.specs.Parts.Playing.{IsWhole}
+use Rattle.net_law.specs.Parts.Rows.{accepted_by}
 use Rattle.net_law.specs.Receiving.{AreRoomy}
 use Rattle.net_law.proofs.Beginnings.{begins_on}
 use Rattle.net_law.proofs.Filled.{frame_is, filled_len}
+use Rattle.net_law.proofs.DeliveringLemmas.Leaving.{part_on, part_take}
 use Rattle.net_law.proofs.DeliveringLemmas.Passing.{settled_few}
 
 -- what is left was there
-left_there : {X : Type 0} (bs : List Bool) (xs : List X) (k : ℕ) (x : X) → slice_get (without bs xs) k ≡ Some x → (i : ℕ) × (slice_get xs i ≡ Some x)
+pub left_there : {X : Type 0} (bs : List Bool) (xs : List X) (k : ℕ) (x : X) → slice_get (without bs xs) k ≡ Some x → (i : ℕ) × (slice_get xs i ≡ Some x)
 left_there [] xs k x at = (k, at)
 left_there (b ∷ bs) [] k x at = cc
 left_there (true ∷ bs) (y ∷ xs) k x at = let f = left_there bs xs k x at in (suc f.0, f.1)
@@ -26,6 +28,13 @@ left_there (false ∷ bs) (y ∷ xs) (suc k) x at = let f = left_there bs xs k x
 
 pub part_there : {X : Type 0} (xs ys : List X) → IsSubsequence xs ys → (k : ℕ) (x : X) → slice_get xs k ≡ Some x → (i : ℕ) × (slice_get ys i ≡ Some x)
 part_there xs ys part k x at = left_there part.0 ys k x (ap (λ l. slice_get l k) part.1 ∙ at)
+
+-- what is accepted was there
+pub accepted_there : (drops : Bool) (marks : List Bool) (frames : List (List ℕ)) (k : ℕ) (f : List ℕ) → slice_get (accepted_by drops marks frames) k ≡ Some f → (i : ℕ) × (slice_get frames i ≡ Some f)
+accepted_there true marks frames k f at =
+    let part : IsSubsequence (without marks (take (length marks) frames)) frames = part_on (without marks (take (length marks) frames)) (take (length marks) frames) frames (marks, refl) (part_take (length marks) frames) in
+    part_there (without marks (take (length marks) frames)) frames part k f at
+accepted_there false marks frames k f at = (k, at)
 
 -- an entry that is filled has a whole frame, where it has room
 pub whole_filled : (fs : List (List ℕ)) (cs : List Cargo) → AreRoomy fs cs → (k : ℕ) (c : Cargo) → slice_get (all_filled fs cs) k ≡ Some c → IsWhole c

@@ -1,4 +1,4 @@
-use Rattle.std.proofs.Common.{◌≡◌, ◌+◌, ◌-◌, ◌++◌, ℕ, zero, suc, Bool, true, false, nat_le, if◌then◌else◌, Some, List, [], ◌∷◌, All, length, map, take, drop, slice_get, refl, sym, ap, ap₂, ◌∙◌, subst, arith}
+use Rattle.std.proofs.Common.{◌≡◌, ◌+◌, ◌-◌, ◌++◌, ◌≤◌, ℕ, zero, suc, Bool, true, false, nat_le, if◌then◌else◌, Some, List, [], ◌∷◌, All, length, map, take, drop, slice_get, refl, sym, ap, ap₂, ◌∙◌, subst, arith}
 use Rattle.std.proofs.lemmas.Bool.{leb-true}
 use Rattle.std.proofs.lemmas.List.{append-nil, length-append, length-drop, length-map, length-take-le, map-append}
 use Rattle.cargo_core.specs.Lists.{IsPrefix}
@@ -102,19 +102,22 @@ stock_items s pages base is =
 items_more : (xs ys : List Cargo) → items_of (xs ++ ys) ≡ items_of xs ++ items_of ys
 items_more xs ys = map-append (λ (d : Cargo). d.0) xs ys
 
+turned_long : (mac : Mac) (f : List ℕ) → 14 ≤ length f → length (turned_round f mac) ≡ 6 + length mac.0 + (length f - 12)
+turned_long mac f le =
+    let dropped = length-drop 6 f in
+    let first = length-take-le 6 (drop 6 f) (omega (arith, le, dropped)) in
+    let last = length-drop 12 f in
+    let a = length-append (take 6 (drop 6 f) ++ mac.0) (drop 12 f) in
+    let b = length-append (take 6 (drop 6 f)) mac.0 in
+    let is : length (turned_round f mac) ≡ length ((take 6 (drop 6 f) ++ mac.0) ++ drop 12 f) = refl in
+    omega (arith, le, first, last, a, b, is)
+
 -- an answer is as long as its frame's length tells
 pub answer_long : (mac : Mac) (f : List ℕ) → length (answer_to mac f) ≡ answer_len mac (length f)
 answer_long mac f = by (nat_le 14 (length f)) refl
   where
     by : (b : Bool) → nat_le 14 (length f) ≡ b → length (if b then turned_round f mac else f) ≡ (if b then 6 + length mac.0 + (length f - 12) else length f)
-    by true e =
-        let le = leb-true 14 (length f) e in
-        let dropped = length-drop 6 f in
-        let first = length-take-le 6 (drop 6 f) (omega (arith, le, dropped)) in
-        let last = length-drop 12 f in
-        let a = length-append (take 6 (drop 6 f)) (mac.0 ++ drop 12 f) in
-        let b = length-append mac.0 (drop 12 f) in
-        omega (arith, first, last, a, b)
+    by true e = turned_long mac f (leb-true 14 (length f) e)
     by false e = refl
 
 answers_long : (mac : Mac) (cs : List Cargo) → AreWhole cs → map (λ (f : List ℕ). length f) (map (answer_to mac) (map frame_of cs)) ≡ map (λ item. answer_len mac (len_of item)) (items_of cs)

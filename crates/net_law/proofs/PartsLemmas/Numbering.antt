@@ -1,4 +1,4 @@
-use Rattle.std.proofs.Common.{◌≡◌, ◌+◌, ◌*◌, ◌++◌, ℕ, zero, suc, Some, List, [], ◌∷◌, length, map, flat_map, slice_get, slice_index_or, refl, sym, ap, ◌∙◌, subst, arith, inl, inr}
+use Rattle.std.proofs.Common.{◌≡◌, ◌+◌, ◌*◌, ◌++◌, ℕ, Bool, zero, suc, Some, List, [], ◌∷◌, length, map, flat_map, slice_get, slice_index_or, refl, sym, ap, ◌∙◌, subst, arith, inl, inr}
 use Rattle.frame_core.specs.declared.mac.Mac.{Mac}
 use Rattle.play_core.specs.Sheets.{Scene}
 use Rattle.play_core.proofs.Lists.{some_is, map_from, there_is, there_below}

@@ -62,21 +62,18 @@ module _ (scene : Scene) (rx_free rx_active tx_active tx_free : ℕ) (frames : L
   }
 
   module _ (m : Moved) (apart : AreApart Device.ends) (row : Device.row m) where
-    abbrev gone : ℕ
-    gone = gone_at drops m Consumer rx_free
-
     abbrev sized : List Item
     sized = sized_items (map (λ frame. length frame) (accepted_by drops row.marks frames)) (m.taken rx_free)
 
-    long : length sized ≡ length (m.taken rx_free)
-    long = frames_long row.marks drops gone frames (m.taken rx_free) (m.sent rx_active) (m.taken tx_active) (m.sent tx_free) row.out
+    sized_long : length sized ≡ length (m.taken rx_free)
+    sized_long = frames_long row.marks drops (gone_at drops m Consumer rx_free) frames (m.taken rx_free) (m.sent rx_active) (m.taken tx_active) (m.sent tx_free) row.out
 
     away : rx_active ≢ tx_free
     away same = let e : 1 ≡ 3 = apart 1 3 (outlet rx_active) refl (ap (λ n. Some (outlet n)) (sym same)) in omega (arith, e)
 
     fills : is_short (m.sent rx_active) (m.taken rx_free) ≡ true → CouldPut Device m rx_active
     fills lt =
-        let more = copy_more m rx_active sized row.out.filled (subst (λ n. nat_lt (length (m.sent rx_active)) n ≡ true) (sym long) lt) in (
+        let more = copy_more m rx_active sized row.out.filled (subst (λ n. nat_lt (length (m.sent rx_active)) n ≡ true) (sym sized_long) lt) in (
           more.0,
           record {
             marks = row.marks;
@@ -93,7 +90,7 @@ module _ (scene : Scene) (rx_free rx_active tx_active tx_free : ℕ) (frames : L
 
     fills_only : CouldPut Device m rx_active → is_short (m.sent rx_active) (m.taken rx_free) ≡ true
     fills_only put =
-        let then = frames_long put.1.marks drops gone frames (m.taken rx_free) ((with_put m rx_active put.0).sent rx_active) (m.taken tx_active) ((with_put m rx_active put.0).sent tx_free) put.1.out in
+        let then = frames_long put.1.marks drops (gone_at drops m Consumer rx_free) frames (m.taken rx_free) ((with_put m rx_active put.0).sent rx_active) (m.taken tx_active) ((with_put m rx_active put.0).sent tx_free) put.1.out in
         subst (λ n. nat_lt (length (m.sent rx_active)) n ≡ true) then (copy_shorter m rx_active (sized_items (map (λ frame. length frame) (accepted_by drops put.1.marks frames)) (m.taken rx_free)) put.0 put.1.out.filled)
 
     gives : is_short (m.sent tx_free) (m.taken tx_active) ≡ true → CouldPut Device m tx_free
@@ -221,14 +218,14 @@ module _ (scene : Scene) (lease_active lease_free rx_active rx_free : ℕ) (drop
   }
 
   module _ (m : Moved) (apart : AreApart Copier.ends) (row : Copier.row m) where
-    abbrev gone : ℕ
-    gone = gone_at drops m Consumer rx_free
+    abbrev lost : ℕ
+    lost = gone_at drops m Consumer rx_free
 
     abbrev filled : List Item
     filled = sized_items (map len_of (without row.marks (m.taken lease_active))) (m.taken rx_free)
 
     long : length filled ≡ length (m.taken rx_free)
-    long = filled_long row.marks gone (m.taken lease_active) (m.taken rx_free) (m.sent rx_active) (m.sent lease_free) row.out
+    long = filled_long row.marks lost (m.taken lease_active) (m.taken rx_free) (m.sent rx_active) (m.sent lease_free) row.out
 
     two_outputs : rx_active ≢ lease_free
     two_outputs same = let e : 2 ≡ 3 = apart 2 3 (outlet rx_active) refl (ap (λ n. Some (outlet n)) (sym same)) in omega (arith, e)
@@ -256,13 +253,13 @@ module _ (scene : Scene) (lease_active lease_free rx_active rx_free : ℕ) (drop
 
     copies_only : CouldPut Copier m rx_active → is_short (m.sent rx_active) (m.taken rx_free) ≡ true
     copies_only put =
-        let then = filled_long put.1.marks gone (m.taken lease_active) (m.taken rx_free) ((with_put m rx_active put.0).sent rx_active) ((with_put m rx_active put.0).sent lease_free) put.1.out in
+        let then = filled_long put.1.marks lost (m.taken lease_active) (m.taken rx_free) ((with_put m rx_active put.0).sent rx_active) ((with_put m rx_active put.0).sent lease_free) put.1.out in
         subst (λ n. nat_lt (length (m.sent rx_active)) n ≡ true) then (copy_shorter m rx_active (sized_items (map len_of (without put.1.marks (m.taken lease_active))) (m.taken rx_free)) put.0 put.1.out.copies)
 
-    returns : nat_lt (length (m.sent lease_free)) (length (m.sent rx_active) + gone) ≡ true → CouldPut Copier m lease_free
+    returns : nat_lt (length (m.sent lease_free)) (length (m.sent rx_active) + lost) ≡ true → CouldPut Copier m lease_free
     returns lt =
-        let less : length (m.sent lease_free) < length (m.sent rx_active) + gone = ltb-true (length (m.sent lease_free)) (length (m.sent rx_active) + gone) lt in
-        let few = few_hops row.marks gone (m.taken lease_active) (m.taken rx_free) (m.sent rx_active) (m.sent lease_free) row.out in
+        let less : length (m.sent lease_free) < length (m.sent rx_active) + lost = ltb-true (length (m.sent lease_free)) (length (m.sent rx_active) + lost) lt in
+        let few = few_hops row.marks lost (m.taken lease_active) (m.taken rx_free) (m.sent rx_active) (m.sent lease_free) row.out in
         let more = copy_more m lease_free (m.taken lease_active) row.out.gives_back (lt-ltb (length (m.sent lease_free)) (length (m.taken lease_active)) (omega (arith, less, few))) in
         let beside = put_beside m lease_free more.0 rx_active (λ e. two_outputs (sym e)) in
         let n = put_length m lease_free more.0 in
@@ -281,12 +278,12 @@ module _ (scene : Scene) (lease_active lease_free rx_active rx_free : ℕ) (drop
           },
         )
 
-    returns_only : CouldPut Copier m lease_free → nat_lt (length (m.sent lease_free)) (length (m.sent rx_active) + gone) ≡ true
+    returns_only : CouldPut Copier m lease_free → nat_lt (length (m.sent lease_free)) (length (m.sent rx_active) + lost) ≡ true
     returns_only put =
         let beside = ap length (put_beside m lease_free put.0 rx_active (λ e. two_outputs (sym e))) in
         let n = put_length m lease_free put.0 in
         let t = put.1.out.after_copy in
-        lt-ltb (length (m.sent lease_free)) (length (m.sent rx_active) + gone) (omega (arith, n, beside, t))
+        lt-ltb (length (m.sent lease_free)) (length (m.sent rx_active) + lost) (omega (arith, n, beside, t))
 
     copier_fits : AllFit Copier m (Copier.wants m)
     copier_fits = (intake_fits Copier m lease_active _, (intake_fits Copier m rx_free _, (outlet_fits Copier m rx_active _ copies copies_only, (outlet_fits Copier m lease_free _ returns returns_only, tt))))

@@ -1,5 +1,5 @@
 -- The actors of a cast are a receive half, so nothing comes out of turn at any of them.
-use Rattle.std.proofs.Common.{◌≡◌, ◌+◌, ◌*◌, ◌<◌, ◌≤◌, ℕ, zero, suc, Some, List, [], ◌∷◌, length, map, slice_get, refl, sym, ap, ◌∙◌, subst, arith}
+use Rattle.std.proofs.Common.{◌≡◌, ◌+◌, ◌*◌, ◌<◌, ◌≤◌, ℕ, Bool, zero, suc, Some, List, [], ◌∷◌, length, map, slice_get, refl, sym, ap, ◌∙◌, subst, arith}
 use Rattle.cargo_core.specs.Items.{kind_of}
 use Rattle.cargo_core.specs.Lists.{IsPrefix}
 use Rattle.cargo_core.specs.declared.item.Body.TheVariants as Carried
@@ -13,22 +13,31 @@ use Rattle.class_expect.specs.NetExpect.Expecting.{frames_for}
 use Rattle.buffer_kit.specs.Virtualising.{from_queues, to_queues}
 use Rattle.buffer_kit.specs.declared.stock.Stock.{Stock}
 use Rattle.client_programs.specs.declared.net.NetClient.{NetClient}
-use Rattle.net_copier.specs.Copying.{leased_bytes}
+use Rattle.wire_core.specs.Fates.{without}
+use Rattle.device_model.specs.Ethernet.Devices.{accepted}
+use Rattle.client_programs.specs.Net.Clients.{rx_active}
+use Rattle.net_copier.specs.Copying.{leased_bytes, leases_dropped}
 use Rattle.net_copier.specs.declared.NetCopier.{NetCopier}
 use Rattle.net_virt_rx.specs.Sharing.{IsBuffer}
 use Rattle.net_virt_rx.specs.Receiving.{RxRow}
 use Rattle.net_virt_rx.specs.declared.NetVirtRx.{NetVirtRx}
 use Rattle.net_law.specs.Receiving.{HasRoom, AreRoomy}
+use Rattle.net_law.specs.Delivering.{copied_bytes}
+use Rattle.net_law.specs.Dropped.{left_for, told_marks, told_used}
 use Rattle.owner_law.specs.Pools.Places.{PoolAt}
 use Rattle.net_law.specs.RxOwners.Virtualiser.{TakesFrames, AreNet}
-use Rattle.net_law.specs.Parts.Rows.{frame_at}
-use Rattle.net_law.specs.Parts.Numbers.{client_first}
-use Rattle.net_law.specs.Parts.Playing.{AreLeases}
+use Rattle.net_law.specs.Parts.Rows.{accepted_by, frame_at}
+use Rattle.net_law.specs.Parts.Numbers.{client_first, policy_at}
+use Rattle.net_law.specs.Parts.Playing.{AreLeases, AreWhole}
 use Rattle.net_law.specs.Parts.Turning.{IsReceiveHalf, IsClient}
 use Rattle.net_law.proofs.PartsLemmas.Items.{all_at}
 use Rattle.net_law.proofs.PartsLemmas.Leasing.{prefix_get}
-use Rattle.net_law.proofs.PartsLemmas.Turning.{all_in_turn, frames_of_places, copiers_take, copiers_read, records_begin}
-use Rattle.net_quiet.specs.Cast.Casting.{IsCast, IsCopierAt, IsClientAt}
+use Rattle.net_law.proofs.PartsLemmas.Turning.{all_in_turn, frames_of_places, copiers_take, copiers_read, records_begin, all_whole}
+use Rattle.net_law.proofs.DeliveringLemmas.Reaching.{accepted_part}
+use Rattle.net_law.proofs.DropsLemmas.Leaving.{left_there, part_there}
+use Rattle.net_law.proofs.DropsLemmas.Numbering.{marks_are}
+use Rattle.net_law.proofs.DropsLemmas.Telling.{accepted_is, left_is}
+use Rattle.net_quiet.specs.Cast.Casting.{IsCast, IsCopierAt, IsClientAt, kept_frames}
 use Rattle.net_quiet.proofs.CastLemmas.Numbers.{driver_queues, copier_queues, receiver_long, receiver_queues, lessees_are}
 use Rattle.net_quiet.proofs.CastLemmas.Rooms.{IsLong, AreLong, roomy, back_long}
 
@@ -51,18 +60,18 @@ buffer_long s (item, Carried.Page page) is = let e : length page.bytes ≡ s.siz
 buffer_long s (item, Carried.Empty) is = absurd is
 buffer_long s (item, Carried.Lease lease) is = absurd is
 
-module _ (first : ℕ) (frames : List (List ℕ)) (pool : PoolAt) (macs : List Mac) (passed : Passed) (h : IsCast first frames pool macs passed) where
+module _ (first : ℕ) (device_drops : Bool) (frames : List (List ℕ)) (pool : PoolAt) (macs : List Mac) (drops : List Bool) (passed : Passed) (h : IsCast first device_drops frames pool macs drops passed) where
   abbrev v : NetVirtRx
   v = h.receiver
 
-  copier_list : (cs : List NetCopier) × (length cs ≡ length macs) × ((k : ℕ) (c : NetCopier) → slice_get cs k ≡ Some c → IsCopierAt first (0 + k) c passed)
-  copier_list = list_of (λ k c. IsCopierAt first k c passed) (length macs) 0 (λ k lt. let c = h.copiers k lt in let plus : k ≡ 0 + k = omega arith in (c.0, subst (λ m. IsCopierAt first m c.0 passed) plus c.1))
+  copier_list : (cs : List NetCopier) × (length cs ≡ length macs) × ((k : ℕ) (c : NetCopier) → slice_get cs k ≡ Some c → IsCopierAt first (0 + k) drops c passed)
+  copier_list = list_of (λ k c. IsCopierAt first k drops c passed) (length macs) 0 (λ k lt. let c = h.copiers k lt in let plus : k ≡ 0 + k = omega arith in (c.0, subst (λ m. IsCopierAt first m drops c.0 passed) plus c.1))
 
   abbrev copiers : List NetCopier
   copiers = copier_list.0
 
-  copier_at : (k : ℕ) (c : NetCopier) → slice_get copiers k ≡ Some c → IsCopierAt first k c passed
-  copier_at k c at = let plus : 0 + k ≡ k = omega arith in subst (λ m. IsCopierAt first m c passed) plus (copier_list.2 k c at)
+  copier_at : (k : ℕ) (c : NetCopier) → slice_get copiers k ≡ Some c → IsCopierAt first k drops c passed
+  copier_at k c at = let plus : 0 + k ≡ k = omega arith in subst (λ m. IsCopierAt first m drops c passed) plus (copier_list.2 k c at)
 
   driven : (h.driver.first.input.queue.0 ≡ first + 5) × (h.driver.first.output.queue.0 ≡ first) × (h.driver.rest.first.input.queue.0 ≡ first + 1) × (h.driver.rest.first.output.queue.0 ≡ first + 4)
   driven = driver_queues first h.driver h.driver_at.part
@@ -110,14 +119,14 @@ module _ (first : ℕ) (frames : List (List ℕ)) (pool : PoolAt) (macs : List M
   to_copier k c at =
       let q = there_is (to_queues v.ends) k (let lt = copier_below k c at in let e = h.receiver_at.to_each in let m = macs_long in omega (arith, lt, e, m)) in
       let plus : client_first first (0 + k) ≡ client_first first k = omega arith in
-      let own = copier_queues first k c (copier_at k c at).part in
+      let own = copier_queues first k (policy_at drops k) c (copier_at k c at).part in
       q.1 ∙ ap (λ (x : QueueId). Some x) (queue_same q.0 c.lease_input.queue (served.1 k q.0 q.1 ∙ (plus ∙ sym own.0)))
 
   from_copier : (k : ℕ) (c : NetCopier) → slice_get copiers k ≡ Some c → slice_get (from_queues v.ends) k ≡ Some c.lease_output.queue
   from_copier k c at =
       let q = there_is (from_queues v.ends) k (let lt = copier_below k c at in let e = h.receiver_at.from_each in let m = macs_long in omega (arith, lt, e, m)) in
       let plus : client_first first (0 + k) + 1 ≡ client_first first k + 1 = omega arith in
-      let own = copier_queues first k c (copier_at k c at).part in
+      let own = copier_queues first k (policy_at drops k) c (copier_at k c at).part in
       q.1 ∙ ap (λ (x : QueueId). Some x) (queue_same q.0 c.lease_output.queue (served.2 k q.0 q.1 ∙ (plus ∙ sym own.1)))
 
   half_with : RxRow v passed → IsReceiveHalf h.device h.driver v copiers passed
@@ -135,7 +144,7 @@ module _ (first : ℕ) (frames : List (List ℕ)) (pool : PoolAt) (macs : List M
     client_of = λ k c at. there_is v.work.macs.items k (let lt = copier_below k c at in let e = macs_long in omega (arith, lt, e));
     to_copier = to_copier;
     from_copier = from_copier;
-    room_at_device = roomy pool.size h.device.frames (passed.taken h.device.free.queue.0) (λ k f at. (h.short k f (subst (λ fs. slice_get fs k ≡ Some f) h.device_at.frames_are at)).0) device_long;
+    room_at_device = roomy pool.size (accepted h.device passed.calls) (passed.taken h.device.free.queue.0) (λ k f at. let there = part_there (accepted h.device passed.calls) h.device.frames (accepted_part h.device passed.calls) k f at in (h.short there.0 f (subst (λ fs. slice_get fs there.0 ≡ Some f) h.device_at.frames_are there.1)).0) device_long;
     short = λ k f at. (h.short k f (subst (λ fs. slice_get fs k ≡ Some f) h.device_at.frames_are at)).1;
   }
 
@@ -146,7 +155,18 @@ module _ (first : ℕ) (frames : List (List ℕ)) (pool : PoolAt) (macs : List M
   unfolding half_with
   cast_in_turn row = all_in_turn h.device h.driver v copiers passed (half_with row)
 
-  pub cast_takes : TakesFrames (frame_at frames) v passed
+  -- the frames that the device accepted
+  abbrev kept : List (List ℕ)
+  kept = kept_frames first device_drops frames passed.calls
+
+  kept_is : accepted h.device passed.calls ≡ kept
+  kept_is =
+      sym (accepted_is h.device passed.calls)
+      ∙ (ap (λ n. accepted_by h.device.drops (told_used h.device.drops n passed.calls) h.device.frames) h.device_at.free
+      ∙ (ap (λ fs. accepted_by h.device.drops (told_used h.device.drops first passed.calls) fs) h.device_at.frames_are
+      ∙ ap (λ b. accepted_by b (told_used b first passed.calls) frames) h.device_at.drops_are))
+
+  pub cast_takes : TakesFrames (frame_at kept) v passed
   cast_takes = record {
     net = net_taken 4 v.ends.input.queue.0 (omega arith) virtualised.0;
     given_net = subst (λ n. AreNet (passed.sent n)) (sym virtualised.1) (h.net 5 (omega arith));
@@ -154,32 +174,53 @@ module _ (first : ℕ) (frames : List (List ℕ)) (pool : PoolAt) (macs : List M
         let lt : k < length macs = (let b = there_below (from_queues v.ends) k r at in let e = h.receiver_at.from_each in let m = macs_long in omega (arith, b, e, m)) in
         let is : r.0 ≡ first + (9 + 6 * k) = (let e = served.2 k r at in omega (arith, e)) in
         net_taken (9 + 6 * k) r.0 (omega (arith, lt)) is;
-    frames = λ k c at. subst (λ fs. Rattle.buffer_kit.specs.Entries.frame_of c ≡ frame_at fs k) h.device_at.frames_are (frames_of_places h.device h.driver v copiers passed half k c at);
+    frames = λ k c at. subst (λ fs. Rattle.buffer_kit.specs.Entries.frame_of c ≡ frame_at fs k) kept_is (frames_of_places h.device h.driver v copiers passed half k c at);
   }
 
   pub cast_leases : (k : ℕ) → k < length macs → AreLeases (passed.taken (client_first first k))
   cast_leases k lt =
       let c = copier_there k lt in
-      let own = copier_queues first k c.0 (copier_at k c.0 c.1).part in
+      let own = copier_queues first k (policy_at drops k) c.0 (copier_at k c.0 c.1).part in
       subst (λ n. AreLeases (passed.taken n)) own.0 (copiers_take h.device h.driver v copiers passed half k c.0 c.1)
 
-  pub cast_records : (k : ℕ) (mac : Mac) → slice_get macs k ≡ Some mac → (c : NetClient) → IsClientAt first k frames c passed → IsPrefix c.frames.tape.shown (frames_for mac frames)
-  cast_records k mac at c x =
-      let y = copier_there k (there_below macs k mac at) in
-      let place = copier_at k y.0 y.1 in
-      let own = copier_queues first k y.0 place.part in
-      let leases = passed.taken y.0.lease_input.queue.0 in
-      let is_client : IsClient v copiers k mac c passed = record {
-        row = x.row;
-        address = subst (λ ms. slice_get ms k ≡ Some mac) (sym served.0) at;
-        copier = y.0;
-        there = y.1;
-        to_client = own.2 ∙ sym x.active;
-        room = roomy c.stock.size (map leased_bytes leases) (passed.taken y.0.buffer_input.queue.0)
-            (λ j f is.
-            let lease = map_from leased_bytes leases j f is in
-            let read = copiers_read h.device h.driver v copiers passed half k y.0 y.1 j lease.0 lease.1 in
-            subst (λ (g : List ℕ). length g ≤ c.stock.size) lease.2 (x.long read.0 (leased_bytes lease.0) (subst (λ fs. slice_get fs read.0 ≡ Some (leased_bytes lease.0)) h.device_at.frames_are read.1)))
-            (back_long c y.0 passed h.hands_over x.some x.row place.row (own.2 ∙ sym x.active) (own.3 ∙ sym x.free));
-      } in
-      subst (λ fs. IsPrefix c.frames.tape.shown (frames_for mac fs)) h.device_at.frames_are (records_begin h.device h.driver v copiers passed half k mac c is_client)
+  module _ (k : ℕ) (mac : Mac) (at : slice_get macs k ≡ Some mac) (c : NetClient) (x : IsClientAt first k frames c passed) where
+    copier : (y : NetCopier) × (slice_get copiers k ≡ Some y)
+    copier = copier_there k (there_below macs k mac at)
+
+    abbrev leases : List Cargo
+    leases = passed.taken copier.0.lease_input.queue.0
+
+    abbrev marks : List Bool
+    marks = leases_dropped copier.0 passed.calls
+
+    is_client : IsClient v copiers k mac c passed
+    is_client =
+        let place = copier_at k copier.0 copier.1 in
+        let own = copier_queues first k (policy_at drops k) copier.0 place.part in
+        record {
+          row = x.row;
+          address = subst (λ ms. slice_get ms k ≡ Some mac) (sym served.0) at;
+          copier = copier.0;
+          there = copier.1;
+          to_client = own.2 ∙ sym x.active;
+          room = roomy c.stock.size (copied_bytes copier.0 passed) (passed.taken copier.0.buffer_input.queue.0)
+              (λ j f is.
+              let lease = map_from leased_bytes (without marks leases) j f is in
+              let place = left_there marks leases j lease.0 lease.1 in
+              let read = copiers_read h.device h.driver v copiers passed half k copier.0 copier.1 place.0 lease.0 place.1 in
+              subst (λ (g : List ℕ). length g ≤ c.stock.size) lease.2 (x.long read.0 (leased_bytes lease.0) (subst (λ fs. slice_get fs read.0 ≡ Some (leased_bytes lease.0)) h.device_at.frames_are read.1)))
+              (back_long c copier.0 passed h.hands_over x.some x.row place.row (own.2 ∙ sym x.active) (own.3 ∙ sym x.free));
+        }
+
+    left_same : without marks (frames_for mac (accepted h.device passed.calls)) ≡ left_for (told_marks first drops passed.calls k) mac kept
+    left_same =
+        sym (left_is copier.0 passed.calls (frames_for mac (accepted h.device passed.calls)))
+        ∙ (ap (λ bs. without bs (frames_for mac (accepted h.device passed.calls))) (marks_are copier.0 first k drops passed.calls (copier_at k copier.0 copier.1).part)
+        ∙ ap (λ fs. left_for (told_marks first drops passed.calls k) mac fs) kept_is)
+
+    pub cast_records : IsPrefix c.frames.tape.shown (left_for (told_marks first drops passed.calls k) mac kept)
+    unfolding is_client
+    cast_records = subst (IsPrefix c.frames.tape.shown) left_same (records_begin h.device h.driver v copiers passed half k mac c is_client)
+
+    pub cast_whole : AreWhole (passed.taken (rx_active c))
+    cast_whole = all_whole h.device h.driver v copiers passed half k mac c is_client

@@ -1,5 +1,5 @@
 -- Which queues the actors of a cast have, by their parts.
-use Rattle.std.proofs.Common.{◌≡◌, ◌+◌, ◌*◌, ◌<◌, ℕ, zero, suc, Some, List, [], ◌∷◌, length, slice_get, refl, sym, ap, ap₂, ◌∙◌, subst, arith}
+use Rattle.std.proofs.Common.{◌≡◌, ◌+◌, ◌*◌, ◌<◌, ℕ, Bool, zero, suc, Some, List, [], ◌∷◌, length, slice_get, refl, sym, ap, ap₂, ◌∙◌, subst, arith}
 use Rattle.frame_core.specs.declared.mac.Mac.{Mac}
 use Rattle.wire_core.specs.declared.names.QueueId.{QueueId}
 use Rattle.play_core.proofs.Lists.{some_is}
@@ -19,8 +19,8 @@ driver_queues first p e =
     let two : way_of p.rest.first ≡ record { input = first + 1; output = first + 4 } = cc in
     (ap (λ (w : Way). w.input) one, ap (λ (w : Way). w.output) one, ap (λ (w : Way). w.input) two, ap (λ (w : Way). w.output) two)
 
-pub copier_queues : (first k : ℕ) (c : NetCopier) → copier_part c ≡ copier_at first k → (c.lease_input.queue.0 ≡ client_first first k) × (c.lease_output.queue.0 ≡ client_first first k + 1) × (c.buffer_output.queue.0 ≡ client_first first k + 2) × (c.buffer_input.queue.0 ≡ client_first first k + 3)
-copier_queues first k c e = (cc, cc, cc, cc)
+pub copier_queues : (first k : ℕ) (drops : Bool) (c : NetCopier) → copier_part c ≡ copier_at first k drops → (c.lease_input.queue.0 ≡ client_first first k) × (c.lease_output.queue.0 ≡ client_first first k + 1) × (c.buffer_output.queue.0 ≡ client_first first k + 2) × (c.buffer_input.queue.0 ≡ client_first first k + 3)
+copier_queues first k drops c e = (cc, cc, cc, cc)
 
 -- a receiving virtualiser's buffers are as long as its pool's
 pub receiver_long : (first : ℕ) (pool : PoolAt) (macs : List Mac) (v : NetVirtRx) → receiver_part v ≡ receiver_at first pool macs → v.work.stock.size ≡ pool.size

@@ -17,7 +17,8 @@ use Rattle.buffer_kit.specs.Pools.{given_entry}
 use Rattle.buffer_kit.proofs.TwoLists.{get_front, get_behind}
 use Rattle.client_programs.specs.Net.Clients as client
 use Rattle.client_programs.specs.declared.net.NetClient.{NetClient}
-use Rattle.net_copier.specs.Copying.{HoldingCopierRow, leased_bytes}
+use Rattle.wire_core.specs.Fates.{without}
+use Rattle.net_copier.specs.Copying.{CopierRow, leased_bytes, leases_dropped}
 use Rattle.net_copier.specs.declared.NetCopier.{NetCopier}
 use Rattle.net_law.specs.Receiving.{HandsOver, HasRoom, IsRoomy, AreRoomy}
 use Rattle.net_law.proofs.PartsLemmas.Leasing.{prefix_get}
@@ -60,7 +61,7 @@ filled_long size bytes (item, Carried.Lease lease) l = absurd l.1
 
 -- a client and its copier: the client gives its own buffers and then those that the copier filled,
 -- which are buffers that it gave before
-module _ (c : NetClient) (k : NetCopier) (passed : Passed) (hands : HandsOver passed) (some : 1 ≤ c.stock.buffers) (row : client.ClientRow c passed) (copies : HoldingCopierRow k passed)
+module _ (c : NetClient) (k : NetCopier) (passed : Passed) (hands : HandsOver passed) (some : 1 ≤ c.stock.buffers) (row : client.ClientRow c passed) (copies : CopierRow k passed)
     (to : k.buffer_output.queue.0 ≡ client.rx_active c) (from : k.buffer_input.queue.0 ≡ client.rx_free c) where
   abbrev gave : List Cargo
   gave = passed.sent (client.rx_free c)
@@ -72,7 +73,7 @@ module _ (c : NetClient) (k : NetCopier) (passed : Passed) (hands : HandsOver pa
   own = map (given_entry c.stock.base c.stock.size) row.start
 
   abbrev bytes : List (List ℕ)
-  bytes = map leased_bytes copies.leases
+  bytes = map leased_bytes (without (leases_dropped k passed.calls) copies.leases)
 
   abbrev back : List Cargo
   back = passed.taken k.buffer_input.queue.0

@@ -25,8 +25,8 @@ use Rattle.net_law.specs.TxParts.Parts.{SendPart, Shipper}
 use Rattle.net_law.specs.TxParts.Numbers.{own_pools, shippers_from, sender_at}
 use Rattle.net_law.specs.TxParts.Playing.{sender_pool, shippers, send_part}
 
-pub device_sends : (first : ℕ) (frames : List (List ℕ)) (d : EthDevice) → device_part d ≡ device_at first frames → (tx_active d ≡ first + 2) × (tx_free d ≡ first + 3)
-device_sends first frames d e = (cc, cc)
+pub device_sends : (first : ℕ) (frames : List (List ℕ)) (drops : Bool) (d : EthDevice) → device_part d ≡ device_at first frames drops → (tx_active d ≡ first + 2) × (tx_free d ≡ first + 3)
+device_sends first frames drops d e = (cc, cc)
 
 pub driver_sends : (first : ℕ) (p : Pipes (Pipes (Pipes Pipe))) → driver_part (four_pipes p) ≡ driver_at first → (p.rest.rest.first.input.queue.0 ≡ first + 6) × (p.rest.rest.first.output.queue.0 ≡ first + 2) × (p.rest.rest.rest.input.queue.0 ≡ first + 3) × (p.rest.rest.rest.output.queue.0 ≡ first + 7)
 driver_sends first p e =

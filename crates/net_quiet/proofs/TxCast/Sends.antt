@@ -11,7 +11,7 @@ use Rattle.frame_core.specs.Frames.{turned_round}
 use Rattle.wire_core.specs.Deeds.{Cargo}
 use Rattle.wire_core.specs.Lists.{Passed}
 use Rattle.play_core.proofs.Lists.{some_is, map_from, there_is, there_below}
-use Rattle.class_expect.specs.NetExpect.Expecting.{Program, Sink, Source, Echo, frames_for, is_for_client, sends_of}
+use Rattle.class_expect.specs.NetExpect.Expecting.{Program, Sink, Source, Echo, frames_for, is_for_client}
 use Rattle.buffer_kit.specs.Entries.{frame_of, filled, all_filled}
 use Rattle.buffer_kit.specs.Pools.{given_entry}
 use Rattle.buffer_kit.proofs.TwoLists.{get_front, get_behind}
@@ -20,7 +20,10 @@ use Rattle.client_programs.specs.Net.Programs.{program_of, sent_for, frames_out,
 use Rattle.client_programs.specs.declared.net.NetClient.{NetClient}
 use Rattle.net_virt_tx.specs.Clients.{at_address}
 use Rattle.net_virt_tx.proofs.Counting.{at_append}
-use Rattle.net_law.proofs.Answering.{sends_begin}
+use Rattle.wire_core.specs.Fates.{without}
+use Rattle.net_law.specs.Dropped.{left_for, sends_upon}
+use Rattle.net_law.proofs.DropsLemmas.Leaving.{left_there}
+use Rattle.net_law.proofs.DropsLemmas.Sending.{sends_left}
 use Rattle.net_law.specs.Owners.Names.{ClientPools}
 use Rattle.net_law.proofs.PartsLemmas.Leasing.{prefix_get}
 use Rattle.owner_law.proofs.PoolsLemmas.Merging.{kept_is}
@@ -52,6 +55,10 @@ answer_frame most frame mac six is =
 for_frames : (most : ℕ) (mac : Mac) (frames : List (List ℕ)) → AreFrames most frames → AreFrames most (frames_for mac frames)
 for_frames most mac frames are k frame at = let kept = kept_is (is_for_client mac) frames k frame at in are kept.1.0 frame kept.1.1
 
+-- what isn't marked are some of them
+left_frames : (most : ℕ) (marks : List Bool) (frames : List (List ℕ)) → AreFrames most frames → AreFrames most (without marks frames)
+left_frames most marks frames are k frame at = let there = left_there marks frames k frame at in are there.0 frame there.1
+
 begun_frames : (most : ℕ) (xs ys : List (List ℕ)) → IsPrefix xs ys → AreFrames most ys → AreFrames most xs
 begun_frames most xs ys begins are k frame at = are k frame (prefix_get xs ys begins k frame at)
 
@@ -72,7 +79,7 @@ filled_from (f ∷ fs) (y ∷ cs) (suc k) c at = filled_from fs cs k c at
 
 -- a client of a number, with what it recorded
 module _ (net : NetPlace) (k : ℕ) (program : Program) (mac : Mac) (q : ClientPools) (frames : List (List ℕ)) (c : NetClient) (passed : Passed) (h : IsSendingClient net k program mac q c passed)
-    (six : length mac.0 ≡ 6) (received : AreFrames net.most frames) (scripts : (script : List (List ℕ)) → program ≡ Source script → AreFrames net.most script) (records : IsPrefix c.frames.tape.shown (frames_for mac frames)) (fits : net.most ≤ q.tx.size) where
+    (marks : List Bool) (six : length mac.0 ≡ 6) (received : AreFrames net.most frames) (scripts : (script : List (List ℕ)) → program ≡ Source script → AreFrames net.most script) (records : IsPrefix c.frames.tape.shown (left_for marks mac frames)) (fits : net.most ≤ q.tx.size) where
   abbrev put : List Cargo
   put = passed.sent (client.tx_active c)
 
@@ -103,7 +110,7 @@ module _ (net : NetPlace) (k : ℕ) (program : Program) (mac : Mac) (q : ClientP
   -- the frames that it sends
   out_are : AreFrames net.most out
   out_are = subst (λ p. AreFrames net.most (sent_for p c.program.mac came)) (sym plays.0) (subst (λ m. AreFrames net.most (sent_for program m came)) (sym plays.1)
-      (out_frames net.most program mac came six (begun_frames net.most came (frames_for mac frames) (subst (λ l. IsPrefix l (frames_for mac frames)) h.row.got records) (for_frames net.most mac frames received)) scripts))
+      (out_frames net.most program mac came six (begun_frames net.most came (left_for marks mac frames) (subst (λ l. IsPrefix l (left_for marks mac frames)) h.row.got records) (left_frames net.most marks (frames_for mac frames) (for_frames net.most mac frames received))) scripts))
 
   had_is : had ≡ map (given_entry 0 q.tx.size) spare
   had_is = ap₂ (λ b n. map (given_entry b n) spare) ships.1 ships.3
@@ -149,15 +156,11 @@ module _ (net : NetPlace) (k : ℕ) (program : Program) (mac : Mac) (q : ClientP
         let f = filled_from out (had ++ back) j x (prefix_get put (all_filled out (had ++ back)) h.row.sends.filled j x at) in
         subst (IsSend net.most q.tx) f.4 (filled_sends net.most q.tx fits f.0 f.1 (out_are j f.0 f.2) (all_at j f.1 f.3))
 
-    pub begins : IsPrefix (map frame_of put) (sends_of program mac frames)
+    pub begins : IsPrefix (map frame_of put) (sends_upon program mac (left_for marks mac frames))
     begins =
-        subst (λ p. IsPrefix (map frame_of put) (sends_of p mac frames)) plays.0
-        (sends_begin c mac frames passed (record {
-          row = h.row;
-          address = plays.1;
-          came = records;
-          room = roomy q.tx.size out (had ++ back) (λ j f at. let high = (out_are j f at).1 in omega (arith, high, fits)) (λ j x at. long_at x (all_at j x at));
-        }))
+        subst (λ p. IsPrefix (map frame_of put) (sends_upon p mac (left_for marks mac frames))) plays.0
+        (sends_left c mac frames marks passed plays.1 h.row records
+        (roomy q.tx.size out (had ++ back) (λ j f at. let high = (out_are j f at).1 in omega (arith, high, fits)) (λ j x at. long_at x (all_at j x at))))
       where
         long_at : (x : Cargo) → IsAtBuffer q.tx x → IsLong q.tx.size x
         long_at (item, Carried.Page page) is = (is.0, is.4)

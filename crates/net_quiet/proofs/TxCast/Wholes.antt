@@ -13,7 +13,7 @@ use Rattle.wire_core.specs.Queues.{items_of}
 use Rattle.play_core.proofs.Lists.{prefix_trans, some_is, there_is, there_below}
 use Rattle.play_core.specs.Names.{Wild, by_sort}
 use Rattle.client_programs.specs.Net.Clients as client
-use Rattle.class_expect.specs.NetExpect.Expecting.{Program, Source, frames_for, sends_of}
+use Rattle.class_expect.specs.NetExpect.Expecting.{Program, Source}
 use Rattle.buffer_kit.specs.Entries.{frame_of}
 use Rattle.buffer_kit.specs.Virtualising.{from_queues, to_queues}
 use Rattle.client_programs.specs.declared.net.NetClient.{NetClient}
@@ -25,6 +25,8 @@ use Rattle.net_virt_tx.specs.Serving.{IsServed, bad_ones, is_good_of, is_own, ow
 use Rattle.net_virt_tx.specs.Sending.{TxRow}
 use Rattle.net_virt_tx.specs.Traffics.{senders}
 use Rattle.net_law.proofs.Beginnings.{begins_map, begins_filter}
+use Rattle.net_law.specs.Dropped.{Marks, left_for, sends_upon}
+use Rattle.net_law.proofs.DropsLemmas.Leaving.{accepted_there}
 use Rattle.net_law.specs.Wire.Sending.{AllBegin}
 use Rattle.net_law.specs.Wire.Telling.{told_frames}
 use Rattle.net_law.proofs.WireLemmas.Wires.{wire_sends}
@@ -42,7 +44,7 @@ use Rattle.net_quiet.specs.Cast.Casting.{IsClientAt}
 use Rattle.net_quiet.proofs.CastLemmas.Casting.{cast_records}
 use Rattle.net_quiet.specs.TxTurns.Turning.{IsSendHalf, SendsFromHand, StraysWild}
 use Rattle.net_quiet.proofs.TxTurns.Turning.{comes_back, front, none_stray, takes_good}
-use Rattle.net_quiet.specs.TxCast.Casting.{AreClients, AreSends, AreFrames, CalmSend, IsSend, IsClientOf, IsSendingClient, IsWholeCast, NoneHostile, good_frames, sends_at, sends_beside, sends_from, wire_at, wire_beside}
+use Rattle.net_quiet.specs.TxCast.Casting.{AreClients, AreSends, AreFrames, CalmSend, IsSend, IsClientOf, IsSendingClient, IsWholeCast, NoneHostile, good_frames, net_kept, net_marks, net_used, sends_at, sends_beside, sends_from, wire_at, wire_beside}
 use Rattle.net_quiet.proofs.TxCast.Numbers.{Ships, device_sends, driver_sends, client_queues, sender_queues, shippers_are, client_rx}
 use Rattle.net_quiet.proofs.TxCast.Entries.{send_good}
 use Rattle.net_quiet.proofs.TxCast.Sends as one
@@ -59,7 +61,7 @@ same_maps f g (x ∷ xs) [] n same = absurd (omega (arith, n))
 same_maps f g (x ∷ xs) (y ∷ ys) n same = ap₂ (λ z zs. z ∷ zs) (same 0 x y refl refl) (same_maps f g xs ys (omega (arith, n)) (λ k a b at there. same (suc k) a b at there))
 
 -- what the client of a number sends, where clients may be hostile
-module _ (wild : Wild) (first most : ℕ) (frames : List (List ℕ)) (passed : Passed) where
+module _ (wild : Wild) (first most : ℕ) (marks : Marks) (frames : List (List ℕ)) (passed : Passed) where
   record Sends (n : ℕ) (k : ℕ) (programs : List Program) (macs : List Mac) (pools : List ClientPools) (l : List (List ℕ)) : Type 0 where
     program : Program
     mac : Mac
@@ -67,23 +69,23 @@ module _ (wild : Wild) (first most : ℕ) (frames : List (List ℕ)) (passed : P
     plays : slice_get programs k ≡ Some program
     address : slice_get macs k ≡ Some mac
     pooled : slice_get pools k ≡ Some q
-    is : by_sort (wild (client_first first n + 4)) (good_frames first most passed n q.tx) (sends_of program mac frames) ≡ l
+    is : by_sort (wild (client_first first n + 4)) (good_frames first most passed n q.tx) (sends_upon program mac (left_for (marks n) mac frames)) ≡ l
 
   next_sends : (j k : ℕ) (p : Program) (m : Mac) (q : ClientPools) (ps : List Program) (ms : List Mac) (qs : List ClientPools) (l : List (List ℕ)) → Sends (j + 1 + k) k ps ms qs l → Sends (j + suc k) (suc k) (p ∷ ps) (m ∷ ms) (q ∷ qs) l
   next_sends j k p m q ps ms qs l h =
       let shift : j + 1 + k ≡ j + suc k = omega arith in
-      record { program = h.program; mac = h.mac; q = h.q; plays = h.plays; address = h.address; pooled = h.pooled; is = subst (λ n. by_sort (wild (client_first first n + 4)) (good_frames first most passed n h.q.tx) (sends_of h.program h.mac frames) ≡ l) shift h.is }
+      record { program = h.program; mac = h.mac; q = h.q; plays = h.plays; address = h.address; pooled = h.pooled; is = subst (λ n. by_sort (wild (client_first first n + 4)) (good_frames first most passed n h.q.tx) (sends_upon h.program h.mac (left_for (marks n) h.mac frames)) ≡ l) shift h.is }
 
-  sends_there : (j : ℕ) (programs : List Program) (macs : List Mac) (pools : List ClientPools) (k : ℕ) (l : List (List ℕ)) → slice_get (sends_from wild first most frames passed j programs macs pools) k ≡ Some l → Sends (j + k) k programs macs pools l
+  sends_there : (j : ℕ) (programs : List Program) (macs : List Mac) (pools : List ClientPools) (k : ℕ) (l : List (List ℕ)) → slice_get (sends_from wild first most marks frames passed j programs macs pools) k ≡ Some l → Sends (j + k) k programs macs pools l
   sends_there j [] macs pools k l at = absurd cc
   sends_there j (p ∷ ps) [] pools k l at = absurd cc
   sends_there j (p ∷ ps) (m ∷ ms) [] k l at = absurd cc
   sends_there j (p ∷ ps) (m ∷ ms) (q ∷ qs) zero l at =
       let plus : j ≡ j + 0 = omega arith in
-      record { program = p; mac = m; q = q; plays = refl; address = refl; pooled = refl; is = subst (λ n. by_sort (wild (client_first first n + 4)) (good_frames first most passed n q.tx) (sends_of p m frames) ≡ l) plus (some_is at) }
+      record { program = p; mac = m; q = q; plays = refl; address = refl; pooled = refl; is = subst (λ n. by_sort (wild (client_first first n + 4)) (good_frames first most passed n q.tx) (sends_upon p m (left_for (marks n) m frames)) ≡ l) plus (some_is at) }
   sends_there j (p ∷ ps) (m ∷ ms) (q ∷ qs) (suc k) l at = next_sends j k p m q ps ms qs l (sends_there (j + 1) ps ms qs k l at)
 
-  sends_many : (j : ℕ) (programs : List Program) (macs : List Mac) (pools : List ClientPools) → length programs ≡ length macs → length pools ≡ length macs → length (sends_from wild first most frames passed j programs macs pools) ≡ length macs
+  sends_many : (j : ℕ) (programs : List Program) (macs : List Mac) (pools : List ClientPools) → length programs ≡ length macs → length pools ≡ length macs → length (sends_from wild first most marks frames passed j programs macs pools) ≡ length macs
   sends_many j [] [] pools e f = refl
   sends_many j [] (m ∷ ms) pools e f = absurd (omega (arith, e))
   sends_many j (p ∷ ps) [] pools e f = absurd (omega (arith, e))
@@ -91,7 +93,7 @@ module _ (wild : Wild) (first most : ℕ) (frames : List (List ℕ)) (passed : P
   sends_many j (p ∷ ps) (m ∷ ms) (q ∷ qs) e f = let rest = sends_many (j + 1) ps ms qs (omega (arith, e)) (omega (arith, f)) in omega (arith, rest)
 
   -- where no client is hostile each sends by its program
-  all_calm : (j : ℕ) (programs : List Program) (macs : List Mac) (pools : List ClientPools) → length programs ≡ length macs → length pools ≡ length macs → ((k : ℕ) → k < length pools → wild (client_first first (j + k) + 4) ≡ false) → sends_from wild first most frames passed j programs macs pools ≡ sends_at programs macs frames
+  all_calm : (j : ℕ) (programs : List Program) (macs : List Mac) (pools : List ClientPools) → length programs ≡ length macs → length pools ≡ length macs → ((k : ℕ) → k < length pools → wild (client_first first (j + k) + 4) ≡ false) → sends_from wild first most marks frames passed j programs macs pools ≡ sends_at marks j programs macs frames
   all_calm j [] macs pools e f none = refl
   all_calm j (p ∷ ps) [] pools e f none = refl
   all_calm j (p ∷ ps) (m ∷ ms) [] e f none = absurd (omega (arith, f))
@@ -99,19 +101,34 @@ module _ (wild : Wild) (first most : ℕ) (frames : List (List ℕ)) (passed : P
       let plus : j + 0 ≡ j = omega arith in
       let here : wild (client_first first j + 4) ≡ false = subst (λ n. wild (client_first first n + 4) ≡ false) plus (none 0 (omega arith)) in
       let rest = all_calm (j + 1) ps ms qs (omega (arith, e)) (omega (arith, f)) (λ k lt. let shift : j + suc k ≡ j + 1 + k = omega arith in subst (λ n. wild (client_first first n + 4) ≡ false) shift (none (suc k) (omega (arith, lt)))) in
-      ap₂ (λ (b : Bool) (ls : List (List (List ℕ))). by_sort b (good_frames first most passed j q.tx) (sends_of p m frames) ∷ ls) here rest
+      ap₂ (λ (b : Bool) (ls : List (List (List ℕ))). by_sort b (good_frames first most passed j q.tx) (sends_upon p m (left_for (marks j) m frames)) ∷ ls) here rest
 
 module _ (net : NetPlace) (frames : List (List ℕ)) (passed : Passed) (h : IsWholeCast net frames passed) where
   -- no frame is longer than a buffer of a client's
   pub client_long : (k : ℕ) (q : ClientPools) → slice_get net.pools k ≡ Some q → {size : ℕ} → size ≡ q.rx.size → (j : ℕ) (f : List ℕ) → slice_get frames j ≡ Some f → length f ≤ size
   client_long k q at is j f f_at = let high = (h.received j f f_at).1 in let fits = (h.fits_client k q at).0 in omega (arith, high, fits, is)
 
+  -- the frames that the device accepted, what copiers dropped, and what a client is sent
+  abbrev kept : List (List ℕ)
+  kept = net_kept net frames passed.calls
+
+  abbrev marks : Marks
+  marks = net_marks net passed.calls
+
+  abbrev sends : ℕ → Program → Mac → List (List ℕ)
+  sends k program mac = sends_upon program mac (left_for (marks k) mac kept)
+
+  kept_received : AreFrames net.most kept
+  kept_received j f at =
+      let there = accepted_there net.device_drops (net_used net passed.calls) frames j f at in
+      h.received there.0 f there.1
+
   -- what the client of a number recorded
-  recorded : (k : ℕ) (program : Program) (mac : Mac) (q : ClientPools) → IsClientOf net k program mac q → (c : NetClient) → IsSendingClient net k program mac q c passed → IsPrefix c.frames.tape.shown (frames_for mac frames)
+  recorded : (k : ℕ) (program : Program) (mac : Mac) (q : ClientPools) → IsClientOf net k program mac q → (c : NetClient) → IsSendingClient net k program mac q c passed → IsPrefix c.frames.tape.shown (left_for (marks k) mac kept)
   recorded k program mac q of c is =
       let own = client_queues net.first k program mac q c is.part in
       let at : IsClientAt net.first k frames c passed = record { active = own.0; free = own.1; long = λ j f f_at. client_long k q of.pools (client_rx net.first k program mac q c is.part) j f f_at; some = is.some; row = is.row } in
-      cast_records net.first frames net.pool net.macs passed h.half k mac of.address c at
+      cast_records net.first net.device_drops frames net.pool net.macs net.drops passed h.half k mac of.address c at
 
   scripts_of : (k : ℕ) (program : Program) (mac : Mac) (q : ClientPools) → IsClientOf net k program mac q → (script : List (List ℕ)) → program ≡ Source script → AreFrames net.most script
   scripts_of k program mac q of script is = h.scripts k script (of.plays ∙ ap (λ (p : Program). Some p) is)
@@ -123,19 +140,19 @@ module _ (net : NetPlace) (frames : List (List ℕ)) (passed : Passed) (h : IsWh
     pub client_puts : AreSends net.most q.tx (passed.taken (client_first net.first k + 5)) → AreSends net.most q.tx (passed.sent (client_first net.first k + 4))
     client_puts back =
         subst (λ n. AreSends net.most q.tx (passed.sent n)) own.2
-        (one.puts net k program mac q frames c passed is (h.addresses k mac of.address) h.received (scripts_of k program mac q of) (recorded k program mac q of c is) (h.fits_client k q of.pools).1 (subst (λ n. AreSends net.most q.tx (passed.taken n)) (sym own.3) back))
+        (one.puts net k program mac q kept c passed is (marks k) (h.addresses k mac of.address) kept_received (scripts_of k program mac q of) (recorded k program mac q of c is) (h.fits_client k q of.pools).1 (subst (λ n. AreSends net.most q.tx (passed.taken n)) (sym own.3) back))
 
     client_hand : (b : ℕ) → at_address (b * q.tx.size) (passed.sent (client_first net.first k + 4)) ≤ at_address (b * q.tx.size) (passed.taken (client_first net.first k + 5)) + 1
     client_hand b =
-        let hand = one.in_hand net k program mac q frames c passed is (h.addresses k mac of.address) h.received (scripts_of k program mac q of) (recorded k program mac q of c is) (h.fits_client k q of.pools).1 b in
+        let hand = one.in_hand net k program mac q kept c passed is (marks k) (h.addresses k mac of.address) kept_received (scripts_of k program mac q of) (recorded k program mac q of c is) (h.fits_client k q of.pools).1 b in
         let put = ap (λ n. at_address (b * q.tx.size) (passed.sent n)) own.2 in
         let back = ap (λ n. at_address (b * q.tx.size) (passed.taken n)) own.3 in
         omega (arith, hand, put, back)
 
-    pub client_begins : AreSends net.most q.tx (passed.taken (client_first net.first k + 5)) → IsPrefix (map frame_of (passed.sent (client_first net.first k + 4))) (sends_of program mac frames)
+    pub client_begins : AreSends net.most q.tx (passed.taken (client_first net.first k + 5)) → IsPrefix (map frame_of (passed.sent (client_first net.first k + 4))) (sends k program mac)
     client_begins back =
-        subst (λ n. IsPrefix (map frame_of (passed.sent n)) (sends_of program mac frames)) own.2
-        (one.begins net k program mac q frames c passed is (h.addresses k mac of.address) h.received (scripts_of k program mac q of) (recorded k program mac q of c is) (h.fits_client k q of.pools).1 (subst (λ n. AreSends net.most q.tx (passed.taken n)) (sym own.3) back))
+        subst (λ n. IsPrefix (map frame_of (passed.sent n)) (sends k program mac)) own.2
+        (one.begins net k program mac q kept c passed is (marks k) (h.addresses k mac of.address) kept_received (scripts_of k program mac q of) (recorded k program mac q of c is) (h.fits_client k q of.pools).1 (subst (λ n. AreSends net.most q.tx (passed.taken n)) (sym own.3) back))
 
   -- the client of a number is there
   client_there : (k : ℕ) (q : ClientPools) → slice_get net.pools k ≡ Some q → (program : Program) × (mac : Mac) × IsClientOf net k program mac q
@@ -186,7 +203,7 @@ module _ (net : NetPlace) (frames : List (List ℕ)) (passed : Passed) (h : IsWh
     -- the virtualiser's way round, whoever is hostile
     half_by : (wild : Wild) → ((k : ℕ) (s : Sender) (q r : QueueId) → slice_get (senders v.work) k ≡ Some s → slice_get (from_queues v.ends) k ≡ Some q → slice_get (to_queues v.ends) k ≡ Some r → wild q.0 ≡ false → SendsFromHand s (passed.sent q.0) (passed.taken r.0)) → IsSendHalf wild h.half.device h.half.driver v passed
     half_by wild clients =
-        let wire = device_sends net.first frames h.half.device h.device_at in
+        let wire = device_sends net.first frames net.device_drops h.half.device h.device_at in
         let driven = driver_sends net.first h.half.driver h.half.driver_at.part in
         record {
           sending = record {
@@ -287,14 +304,14 @@ module _ (net : NetPlace) (frames : List (List ℕ)) (passed : Passed) (h : IsWh
       pub good_taken : CalmGood wild v passed
       good_taken = takes_good wild h.half.device h.half.driver v passed half_with
 
-      begun_is : (k : ℕ) (program : Program) (mac : Mac) (q : ClientPools) → IsClientOf net k program mac q → wild (client_first net.first k + 4) ≡ false → IsPrefix (map frame_of (passed.sent (client_first net.first k + 4))) (sends_of program mac frames)
+      begun_is : (k : ℕ) (program : Program) (mac : Mac) (q : ClientPools) → IsClientOf net k program mac q → wild (client_first net.first k + 4) ≡ false → IsPrefix (map frame_of (passed.sent (client_first net.first k + 4))) (sends k program mac)
       begun_is k program mac q of calm =
           let c = clients k program mac q of calm in
           client_begins k program mac q of c.0 c.1 (back_is k program mac q of (send k q of.pools calm))
 
       -- the frames of the good descriptors that came from a client are a beginning of what it sends
       good_begin : (k : ℕ) (s : Sender) (q r : QueueId) (p : ClientPools) → Ships net.first net.most k s q r p → (program : Program) (mac : Mac) → IsClientOf net k program mac p → (b : Bool) → wild (client_first net.first k + 4) ≡ b
-          → IsPrefix (map frame_of (filter (is_good_of s) (passed.taken q.0))) (by_sort b (good_frames net.first net.most passed k p.tx) (sends_of program mac frames))
+          → IsPrefix (map frame_of (filter (is_good_of s) (passed.taken q.0))) (by_sort b (good_frames net.first net.most passed k p.tx) (sends k program mac))
       good_begin k s q r p ships program mac of true is_wild =
           let same : map frame_of (filter (is_good_of s) (passed.taken q.0)) ≡ good_frames net.first net.most passed k p.tx = good_same s q.0 p.tx ships.0 ships.3 ∙ ap (λ n. map frame_of (filter (is_good (record { 0 = p.tx.number }) p.tx.buffers p.tx.size net.most) (passed.taken n))) ships.1 in
           ([], append-nil (map frame_of (filter (is_good_of s) (passed.taken q.0))) ∙ same)
@@ -307,14 +324,14 @@ module _ (net : NetPlace) (frames : List (List ℕ)) (passed : Passed) (h : IsWh
           let good = goods k p (send k p of.pools calm) s q r ships in
           let begun = begins_map frame_of (filter (is_good_of s) taken) (filter (is_good_of s) sent) (begins_filter (is_good_of s) taken sent (h.half.hands_over q.0)) in
           let all = subst (λ x. IsPrefix (map frame_of (filter (is_good_of s) taken)) (map frame_of x)) (all_same s sent good) begun in
-          let sends = subst (λ n. IsPrefix (map frame_of (passed.sent n)) (sends_of program mac frames)) (sym ships.1) (begun_is k program mac p of calm) in
-          prefix_trans (map frame_of (filter (is_good_of s) taken)) (map frame_of sent) (sends_of program mac frames) all sends
+          let sent_begin = subst (λ n. IsPrefix (map frame_of (passed.sent n)) (sends k program mac)) (sym ships.1) (begun_is k program mac p of calm) in
+          prefix_trans (map frame_of (filter (is_good_of s) taken)) (map frame_of sent) (sends k program mac) all sent_begin
 
       all_begin : AllBegin v passed (sends_beside wild net frames passed)
       all_begin = record {
         as_many =
             let a = shipped.0 in
-            let b = sends_many wild net.first net.most frames passed 0 net.programs net.macs net.pools h.programs_many h.pools_many in
+            let b = sends_many wild net.first net.most marks kept passed 0 net.programs net.macs net.pools h.programs_many h.pools_many in
             let c = h.pools_many in
             omega (arith, a, b, c);
         each = λ k s q l at fat lat.
@@ -322,11 +339,11 @@ module _ (net : NetPlace) (frames : List (List ℕ)) (passed : Passed) (h : IsWh
             let below = there_below (senders v.work) k s at in
             let r = there_is (to_queues v.ends) k (omega (arith, below, to_each)) in
             let x = ships_at k s q r.0 at fat r.1 in
-            let f = sends_there wild net.first net.most frames passed 0 net.programs net.macs net.pools k l lat in
+            let f = sends_there wild net.first net.most marks kept passed 0 net.programs net.macs net.pools k l lat in
             let plus : 0 + k ≡ k = omega arith in
             let same : f.q ≡ x.0 = some_is (sym f.pooled ∙ x.1) in
             let of : IsClientOf net k f.program f.mac x.0 = record { address = f.address; pools = x.1; plays = f.plays } in
-            let is : by_sort (wild (client_first net.first k + 4)) (good_frames net.first net.most passed k x.0.tx) (sends_of f.program f.mac frames) ≡ l = subst (λ (p : ClientPools). by_sort (wild (client_first net.first k + 4)) (good_frames net.first net.most passed k p.tx) (sends_of f.program f.mac frames) ≡ l) same (subst (λ n. by_sort (wild (client_first net.first n + 4)) (good_frames net.first net.most passed n f.q.tx) (sends_of f.program f.mac frames) ≡ l) plus f.is) in
+            let is : by_sort (wild (client_first net.first k + 4)) (good_frames net.first net.most passed k x.0.tx) (sends k f.program f.mac) ≡ l = subst (λ (p : ClientPools). by_sort (wild (client_first net.first k + 4)) (good_frames net.first net.most passed k p.tx) (sends k f.program f.mac) ≡ l) same (subst (λ n. by_sort (wild (client_first net.first n + 4)) (good_frames net.first net.most passed n f.q.tx) (sends n f.program f.mac) ≡ l) plus f.is) in
             subst (IsPrefix (map frame_of (filter (is_good_of s) (passed.taken q.0)))) is (good_begin k s q r.0 x.0 x.2 f.program f.mac of (wild (client_first net.first k + 4)) refl);
       }
 
@@ -341,12 +358,12 @@ module _ (net : NetPlace) (frames : List (List ℕ)) (passed : Passed) (h : IsWh
           ap sender_pool (sym same) ∙ x.6.0)
 
       pub wire_by : h.half.device.wire.tape.shown ≡ wire_beside wild net frames passed
-      wire_by = wire_told h.half.device h.half.driver v passed half_with.sending (sends_beside wild net frames passed) all_begin ∙ ap₂ (λ ps n. told_frames ps (sends_beside wild net frames passed) (items_of (passed.taken n))) pools_are (device_sends net.first frames h.half.device h.device_at).0
+      wire_by = wire_told h.half.device h.half.driver v passed half_with.sending (sends_beside wild net frames passed) all_begin ∙ ap₂ (λ ps n. told_frames ps (sends_beside wild net frames passed) (items_of (passed.taken n))) pools_are (device_sends net.first frames net.device_drops h.half.device h.device_at).0
 
 -- where no client is hostile
 module _ (wild : Wild) (net : NetPlace) (frames : List (List ℕ)) (passed : Passed) (h : IsWholeCast net frames passed) (none : NoneHostile wild net) where
-  pub sends_calm : sends_beside wild net frames passed ≡ sends_at net.programs net.macs frames
-  sends_calm = all_calm wild net.first net.most frames passed 0 net.programs net.macs net.pools h.programs_many h.pools_many (λ k lt. let plus : k ≡ 0 + k = omega arith in subst (λ n. wild (client_first net.first n + 4) ≡ false) plus (none k lt))
+  pub sends_calm : sends_beside wild net frames passed ≡ sends_at (net_marks net passed.calls) 0 net.programs net.macs (net_kept net frames passed.calls)
+  sends_calm = all_calm wild net.first net.most (net_marks net passed.calls) (net_kept net frames passed.calls) passed 0 net.programs net.macs net.pools h.programs_many h.pools_many (λ k lt. let plus : k ≡ 0 + k = omega arith in subst (λ n. wild (client_first net.first n + 4) ≡ false) plus (none k lt))
 
-  pub wire_calm : wire_beside wild net frames passed ≡ wire_at net frames (items_of (passed.taken (net.first + 2)))
+  pub wire_calm : wire_beside wild net frames passed ≡ wire_at net (net_marks net passed.calls) (net_kept net frames passed.calls) (items_of (passed.taken (net.first + 2)))
   wire_calm = ap (λ l. told_frames (map (λ (q : ClientPools). q.tx) net.pools) l (items_of (passed.taken (net.first + 2)))) sends_calm

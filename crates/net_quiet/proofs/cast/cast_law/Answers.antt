@@ -1,4 +1,4 @@
-use Rattle.net_quiet.proofs.CastLemmas.Casting.{cast_in_turn, cast_takes, cast_leases, cast_records}
+use Rattle.net_quiet.proofs.CastLemmas.Casting.{cast_in_turn, cast_takes, cast_leases, cast_records, cast_whole}
 use Rattle.net_quiet.proofs.cast.cast_law.Goals as goal
 
 pub returns-clause-turn : goal.returns-clause-turn
@@ -12,3 +12,6 @@ returns-clause-leases c = cast_leases
 
 pub returns-clause-records : goal.returns-clause-records
 returns-clause-records c = cast_records
+
+pub returns-clause-whole : goal.returns-clause-whole
+returns-clause-whole c = cast_whole
