@@ -4,6 +4,7 @@ pub mod Leases
 pub mod Sending
 pub mod Receiving
 pub mod Wholes
+pub mod Waiting
 pub mod CastLemmas
 pub mod TxTurns
 pub mod TxCast

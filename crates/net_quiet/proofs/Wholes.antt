@@ -9,11 +9,13 @@ use Rattle.frame_core.specs.Frames.{turned_round}
 use Rattle.wire_core.specs.declared.names.QueueRow.{QueueRow}
 use Rattle.wire_core.specs.declared.names.Entry.{Entry}
 use Rattle.wire_core.specs.Deeds.{Cargo}
-use Rattle.wire_core.specs.Ends.{Consumer, Producer}
+use Rattle.wire_core.specs.Ends.{Role, Consumer, Producer}
+use Rattle.wire_core.specs.Fates.{marked}
 use Rattle.wire_core.specs.Journal.{History, Hostiles}
 use Rattle.wire_core.specs.Lists.{Passed}
+use Rattle.wire_core.specs.Queues.{items_of}
 use Rattle.wire_core.proofs.Fating.{without_length}
-use Rattle.play_core.specs.Moved.{Moved, Seat, moved, taken}
+use Rattle.play_core.specs.Moved.{Moved, Seat, gone_at, moved, taken, went}
 use Rattle.play_core.specs.Names.{Wild}
 use Rattle.play_core.specs.Sheets.{Scene}
 use Rattle.play_core.specs.Still.{IsStill}
@@ -28,7 +30,7 @@ use Rattle.buffer_kit.specs.Entries.{frame_of, len_of}
 use Rattle.client_programs.specs.declared.net.NetClient.{NetClient}
 use Rattle.net_copier.specs.declared.NetCopier.{NetCopier}
 use Rattle.net_law.specs.Dropped.{Marks, TellsCopier, lease_marks, left_for, sends_upon}
-use Rattle.net_law.specs.Owners.Ends.{AreItemsOf, copier_ends}
+use Rattle.net_law.specs.Owners.Ends.{AreItemsOf, copier_ends, passed_at}
 use Rattle.net_law.specs.Owners.Names.{ClientPools}
 use Rattle.net_law.specs.Parts.Numbers.{client_first, policy_at}
 use Rattle.net_law.specs.Parts.Playing.{AreLeases}
@@ -50,7 +52,7 @@ use Rattle.net_quiet.proofs.Receiving.{arrives_all, sends_all, sends_many, sends
 are_items : (passed : Passed) (m : Moved) → HaveItems passed m → (seats : List Seat) → AreItemsOf seats passed m
 are_items passed m items seats i s at = by s.role
   where
-    by : (r : Rattle.wire_core.specs.Ends.Role) → Rattle.play_core.specs.Moved.went m r s.queue ≡ Rattle.wire_core.specs.Queues.items_of (Rattle.net_law.specs.Owners.Ends.passed_at passed r s.queue)
+    by : (r : Role) → went m r s.queue ≡ items_of (passed_at passed r s.queue)
     by Consumer = sym (items.taken s.queue)
     by Producer = sym (items.sent s.queue)
 
@@ -119,7 +121,7 @@ module _ (hostile : Hostiles) (h : History) (rows : List QueueRow) (actors : Nee
     leases : AreLeases (passed.taken copier.0.lease_input.queue.0)
     leases = subst (λ n. AreLeases (passed.taken n)) (sym own.0) (cast_leases net.first net.device_drops frames net.pool net.macs net.drops passed whole.half k (there_below net.macs k mac at))
 
-    copies : CopiesOut (lease_marks copier.0 passed.calls) _ _ _ _ _
+    copies : CopiesOut (lease_marks copier.0 passed.calls) (gone_at copier.0.drops m Consumer copier.0.buffer_input.queue.0) (m.taken copier.0.lease_input.queue.0) (m.taken copier.0.buffer_input.queue.0) (m.sent copier.0.buffer_output.queue.0) (m.sent copier.0.lease_output.queue.0)
     copies = told_copier copier.0 passed m tells leases copier.1.row
 
     marked_are : lease_marks copier.0 passed.calls ≡ marks k
@@ -138,8 +140,8 @@ module _ (hostile : Hostiles) (h : History) (rows : List QueueRow) (actors : Nee
         let settled = copies.settled in
         let left = without_length (marks k) due (omega (arith, leased, long, came, same, settled)) in
         let many = copies.as_many in
-        let marked_same = ap Rattle.wire_core.specs.Fates.marked marked_are in
-        let lost : Rattle.play_core.specs.Moved.gone_at copier.0.drops m Consumer copier.0.buffer_input.queue.0 ≡ copier_gone net m k = ap (λ n. Rattle.play_core.specs.Moved.gone_at copier.0.drops m Consumer n) own.1 ∙ ap (λ b. Rattle.play_core.specs.Moved.gone_at b m Consumer (client_first net.first k + 3)) own.2 in
+        let marked_same = ap marked marked_are in
+        let lost : gone_at copier.0.drops m Consumer copier.0.buffer_input.queue.0 ≡ copier_gone net m k = ap (λ n. gone_at copier.0.drops m Consumer n) own.1 ∙ ap (λ b. gone_at b m Consumer (client_first net.first k + 3)) own.2 in
         omega (arith, got, left, many, marked_same, lost)
 
     pub record_whole : (shown : List (List ℕ)) (n : ℕ) → n ≡ client_first net.first k + 2 → shown ≡ map frame_of (passed.taken n) → IsPrefix shown (left_for (marks k) mac scene.frames) → shown ≡ left_for (marks k) mac scene.frames

@@ -29,6 +29,7 @@ ghost use Rattle.net_quiet.specs.TxCast.Casting.{net_marks, net_used, sends_at};
 ghost use Rattle.net_quiet.specs.Still.{IsNetwork, ArrivesAll, SendsAll};
 
 pub mod cast;
+pub mod drops;
 pub mod pools;
 pub mod tx_cast;
 pub mod tx_owners;
