@@ -1,6 +1,6 @@
 -- What each actor of a plan is made of, by its job, and actors that are so made.
 use Rattle.std.specs.Prelude.{◌≡◌, ◌+◌, ◌*◌, ℕ, Option, Some, List, [], length, slice_get}
-use Rattle.std.specs.Prelude.{unwrap_or, if◌then◌else◌}
+use Rattle.std.specs.Prelude.{false, unwrap_or, if◌then◌else◌}
 use Rattle.std.specs.Option.{option_map_or}
 use Rattle.sdf_plan.specs.declared.plan.Plan.{Plan}
 use Rattle.trace_text.specs.declared.trace.Trace.{Trace}
@@ -24,7 +24,7 @@ use Rattle.play_core.specs.Sheets.{Scene}
 use Rattle.expect_core.specs.Expected.{client_asks, client_entry}
 use Rattle.cast_core.specs.Sources.{every_second, first_serial, serial_drops, pool_at, pools_at}
 use Rattle.cast_core.specs.Sources.{client_mac, client_program, first_blk, first_blk_pool}
-use Rattle.cast_core.specs.Sources.{device_drops, net_drops}
+use Rattle.cast_core.specs.Sources.{net_drops}
 use Rattle.cast_core.specs.Hostile.{acts_at, net_rogue_at, serial_rogue_at, blk_rogue_at}
 use Rattle.layout_laws.specs.Jobs.Jobs.{Job, EthDevice, EthDriver, NetReceiver, NetSender}
 use Rattle.layout_laws.specs.Jobs.Jobs.{NetCopier, NetClient, UartDevice, UartDriver}
@@ -40,7 +40,7 @@ client_pools plan = pools_at (pools_of plan)
 abbrev pub net_place : Plan → Trace → NetPlace
 net_place plan trace = record {
   first = 0;
-  device_drops = device_drops plan;
+  device_drops = false;
   pool = pool_at (pools_of plan) 0;
   macs = per_client (length (net_clients plan)) (client_mac plan);
   pools = per_client (length (net_clients plan)) (client_pools plan);
@@ -67,7 +67,7 @@ blk_place plan trace = record {
 -- the part of an actor of a job, where its client isn't hostile
 abbrev pub calm_part : Plan → Trace → Job → Option Part
 calm_part plan trace EthDevice =
-    Some (NetworkPart (device_at 0 trace.frames (device_drops plan)))
+    Some (NetworkPart (device_at 0 trace.frames false))
 calm_part plan trace EthDriver = Some (NetworkPart (driver_at 0))
 calm_part plan trace NetReceiver = Some (NetworkPart
     (receiver_at 0 (net_place plan trace).pool (net_place plan trace).macs))

@@ -45,10 +45,6 @@ abbrev pub is_dropping : Policy → Bool
 is_dropping To.Hold = false
 is_dropping To.Drop = true
 
--- whether the network's device may drop frames
-abbrev pub device_drops : Plan → Bool
-device_drops plan = option_map_or (λ (net : Net). is_dropping net.device) plan.net false
-
 -- for each client of the network class whether frames for it may be dropped
 abbrev pub net_drops : Plan → List Bool
 net_drops plan = map (λ (client : NetClient). is_dropping client.policy) (net_clients plan)

@@ -1,6 +1,6 @@
 //! The actors of the network class.
 ghost use Rattle.std.specs.Prelude.{◌≡◌, ◌<◌, ◌≤◌, ◌+◌, ◌*◌, ◌^◌, ℕ, List, Some, length, slice_get};
-ghost use Rattle.std.specs.Prelude.{IfOk};
+ghost use Rattle.std.specs.Prelude.{IfOk, false};
 ghost use Rattle.region_layout.specs.Rows.{pools_of};
 ghost use Rattle.trace_text.specs.Events.{net_clients, is_source};
 ghost use Rattle.trace_text.specs.Limits.{frame_most};
@@ -19,7 +19,7 @@ ghost use Rattle.actor_set.specs.Actors.{part_of};
 ghost use Rattle.actor_set.specs.StartStates.{IsNew, IsNewReceiving, IsNewLender, IsNewSender};
 ghost use Rattle.actor_set.specs.StartStates.{IsNewClientOf};
 ghost use Rattle.cast_core.specs.Sources.{client_kind, client_mac, client_program, is_echo};
-ghost use Rattle.cast_core.specs.Sources.{pool_at, pools_at, device_drops, net_drops};
+ghost use Rattle.cast_core.specs.Sources.{pool_at, pools_at, net_drops};
 ghost use Rattle.trace_text.specs.declared.class.Class.TheVariants as Of;
 ghost use Rattle.layout_laws.specs.Jobs.Jobs as jobs;
 ghost use Rattle.cast_core.specs.Casts.{job_part};
@@ -120,22 +120,12 @@ fn lease_ends(alloc: Global, plan: &Plan, clients: u16) -> Result<Vec<LeaseEnds>
     Ok(ends)
 }
 
-// Whether the device may drop frames.
-fn device_drops(plan: &Plan) -> bool
-    ensures { result ≡ device_drops plan.now }
-{
-    match &plan.net {
-        Some(net) => is_dropping(net.device),
-        None => false,
-    }
-}
-
-// The device.
-fn device(alloc: Global, plan: &Plan, trace: &Trace) -> Result<EthDevice, Memory>
+// The device, which waits for buffers.
+fn device(alloc: Global, trace: &Trace) -> Result<EthDevice, Memory>
     requires { AreShort trace.now.frames }
     ensures new { IfOk result IsNewReceiving }
     ensures part { IfOk result (λ d. device_part d
-        ≡ device_at 0 trace.now.frames (device_drops plan.now)) }
+        ≡ device_at 0 trace.now.frames false) }
 {
     let frames = copied_frames(alloc, trace.frames())?;
     Ok(EthDevice::new(
@@ -145,7 +135,7 @@ fn device(alloc: Global, plan: &Plan, trace: &Trace) -> Result<EthDevice, Memory
         QueueId(2),
         QueueId(3),
         frames,
-        device_drops(plan),
+        false,
     ))
 }
 
@@ -313,7 +303,7 @@ pub fn net_actor(
         ≡ Some (part_of a)) }
 {
     match job {
-        NetJob::Device => Ok(Actor::EthDevice(device(alloc, plan, trace)?)),
+        NetJob::Device => Ok(Actor::EthDevice(device(alloc, trace)?)),
         NetJob::Driver => Ok(Actor::EthDriver(driver())),
         NetJob::Receiver => Ok(Actor::NetVirtRx(receiver(alloc, plan, pools, clients)?)),
         NetJob::Sender => Ok(Actor::NetVirtTx(sender(alloc, plan, pools, clients)?)),

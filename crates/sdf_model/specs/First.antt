@@ -84,7 +84,6 @@ first_net_of t = record {
   rx_capacity = number_at (codes "rx_capacity") t;
   tx_capacity = number_at (codes "tx_capacity") t;
   client = map first_net_client_of (tables_at (codes "client") t);
-  device = policy_at (codes "device") t;
   max_frame = 1514;
   rx_buffer_size = 2048;
 }

@@ -95,7 +95,7 @@ net_keys =
     (codes "driver" ∷ codes "rx_virt" ∷ codes "tx_virt" ∷ codes "rx_region" ∷ codes "rx_queues"
     ∷ codes "tx_queues" ∷ [])
     (all_of A.Number (codes "rx_buffers" ∷ codes "rx_capacity" ∷ codes "tx_capacity" ∷ [])
-    (all_of A.List (codes "client" ∷ []) (row (codes "device") A.Policy If.Hold ∷ [])))
+    (all_of A.List (codes "client" ∷ []) []))
 
 -- the keys of a network client
 abbrev pub net_client_keys : List Row

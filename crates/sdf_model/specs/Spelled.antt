@@ -143,7 +143,6 @@ net_of t = record {
   rx_capacity = number_at (codes "rx_capacity") t;
   tx_capacity = number_at (codes "tx_capacity") t;
   client = map net_client_of (tables_at (codes "client") t);
-  device = policy_at (codes "device") t;
   max_frame = number_or 1514 (codes "max_frame") t;
   rx_buffer_size = number_or 2048 (codes "rx_buffer_size") t;
 }

@@ -113,7 +113,7 @@ pub(crate) const END: [Key; 2] = keys! {
     id: Number, Absent::Refused;
 };
 
-pub(crate) const NET: [Key; 11] = keys! {
+pub(crate) const NET: [Key; 10] = keys! {
     driver: Name, Absent::Refused;
     rx_virt: Name, Absent::Refused;
     tx_virt: Name, Absent::Refused;
@@ -124,7 +124,6 @@ pub(crate) const NET: [Key; 11] = keys! {
     rx_capacity: Number, Absent::Refused;
     tx_capacity: Number, Absent::Refused;
     client: List, Absent::Refused;
-    device: Policy, Absent::Hold;
 };
 
 /// The keys that the network class has more in version 2.

@@ -101,7 +101,7 @@ impl Part for Net {
         reading!(Net by key::NET, alloc, table;
             four(driver, rx_virt, tx_virt, rx_region)
             four(rx_queues, tx_queues, rx_buffers, rx_capacity)
-            three(tx_capacity, client, device);
+            two(tx_capacity, client);
             key::NET_MORE; two(max_frame, rx_buffer_size))
     }
 }

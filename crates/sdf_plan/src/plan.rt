@@ -76,9 +76,8 @@ pub enum Policy {
     Drop,
 }
 
-/// The network class. `device` is what the Ethernet device does with a frame. A text of version 1
-/// has no key for `max_frame` and for the sizes of buffers, in bytes, here and at a client: they are
-/// 1,514 and 2,048 there.
+/// The network class. A text of version 1 has no key for `max_frame` and for the sizes of buffers,
+/// in bytes, here and at a client: they are 1,514 and 2,048 there.
 #[derive(Debug, Drop)]
 pub struct Net {
     pub driver: Text,
@@ -91,7 +90,6 @@ pub struct Net {
     pub rx_capacity: u64,
     pub tx_capacity: u64,
     pub client: Series<NetClient>,
-    pub device: Policy,
     pub max_frame: u64,
     pub rx_buffer_size: u64,
 }
