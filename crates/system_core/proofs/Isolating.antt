@@ -1,5 +1,5 @@
 -- A client of a class is there where the class is, and what it recorded is of what it must get.
-use Rattle.std.proofs.Common.{◌≡◌, ◌<◌, ◌++◌, ℕ, Bool, true, false, cond, Option, Some, None, List, [], ◌∷◌, length, slice_get, refl, sym, ap, ◌∙◌, subst, arith, eqb-true}
+use Rattle.std.proofs.Common.{◌≡◌, ◌<◌, ◌+◌, ◌++◌, ℕ, Bool, true, false, cond, Option, Some, None, List, [], ◌∷◌, length, slice_get, refl, sym, ap, ◌∙◌, subst, arith, eqb-true}
 use Rattle.std.specs.Prelude.{◌==◌}
 use Rattle.std.specs.Option.{option_map_or}
 use Rattle.cargo_core.specs.Lists.{IsPrefix}
@@ -7,6 +7,8 @@ use Rattle.cargo_core.specs.declared.item.Reply.{Reply}
 use Rattle.wire_core.specs.declared.names.Event.{Event}
 use Rattle.wire_core.specs.Fates.{without}
 use Rattle.serial_virt.specs.Shares.{byte_fate}
+use Rattle.net_law.specs.Dropped.{told_leases}
+use Rattle.net_law.specs.Parts.Numbers.{client_first}
 use Rattle.serial_law.specs.Dropped.{taker}
 use Rattle.serial_law.specs.Serial.{SerialClass}
 use Rattle.sdf_plan.specs.declared.plan.Plan.{Plan}
@@ -24,10 +26,10 @@ use Rattle.cast_core.proofs.Listing.{value_at}
 use Rattle.system_core.specs.Shows.{Shown}
 use Rattle.system_core.specs.Plays.{runnable_now}
 use Rattle.system_core.specs.Reports.{report_of}
-use Rattle.system_core.specs.PlanPlays.{IsSystemOf}
+use Rattle.system_core.specs.PlanPlays.{IsSystemOf, net_dropped}
 use Rattle.system_core.specs.Builds.{class_of}
 use Rattle.system_core.specs.Dropped.{calls_by, dropped_by}
-use Rattle.system_core.specs.Isolation.{AreOfOneList, BlkRests, IsLeftOf, IsRecordBut, IsRecordIn, NetRests, SerialRests, may_drop}
+use Rattle.system_core.specs.Isolation.{AreOfOneList, BlkRests, IsLeftOf, IsRecordBut, IsRecordIn, NetRests, SerialRests, may_drop, net_may_drop}
 use Rattle.system_core.proofs.Scripts.{serials}
 
 -- where a list has no elements there are none
@@ -64,15 +66,6 @@ module _ {T : Type 0} (whole over : List T) (Rests Ends : Type 0) (got seen : Li
     };
   }
 
-pub frames_of : (plan : Plan) (trace : Trace) (s : Shown) (c : ℕ) (got : List (List ℕ)) → IsSystemOf plan trace s → c < length (net_clients plan) → slice_get s.state.net c ≡ Some got → IsRecordIn (frames_for (client_mac plan c) trace.frames) (NetRests plan s) got
-frames_of plan trace s c got h lt at =
-    let has = there_in (λ (net : Net). net.client) plan.net c lt in
-    let mac = value_at (length (net_clients plan)) (client_mac plan) c lt in
-    record {
-      begins = (h.shows_net has.0 has.1).records c (client_mac plan c) got mac at;
-      all = λ rests. (h.whole_net (still s rests.0) rests.1 has.0 has.1).records c (client_mac plan c) got mac at;
-    }
-
 -- a beginning of what is left of a list is left of it
 nothing_left : {T : Type 0} (xs : List T) → (marks : List Bool) × ([] ≡ without marks xs)
 nothing_left [] = ([], refl)
@@ -91,6 +84,22 @@ left_begins (g ∷ got) (false ∷ marks) (x ∷ whole) begins =
     let heads = same_heads g x (got ++ begins.0) (without marks whole) begins.1 in
     let r = left_begins got marks whole (begins.0, heads.1) in
     (false ∷ r.0, λ i. heads.0 i ∷ r.1 i)
+
+pub frames_of : (plan : Plan) (trace : Trace) (s : Shown) (c : ℕ) (got : List (List ℕ)) → IsSystemOf plan trace s → c < length (net_clients plan) → slice_get s.state.net c ≡ Some got → IsRecordBut (frames_for (client_mac plan c) trace.frames) (net_may_drop plan c) (NetRests plan s) got
+frames_of plan trace s c got h lt at =
+    let has = there_in (λ (net : Net). net.client) plan.net c lt in
+    let mac = value_at (length (net_clients plan)) (client_mac plan) c lt in
+    let due : List (List ℕ) = frames_for (client_mac plan c) trace.frames in
+    let calls : List Event = calls_by h.stands.calls.past s.journal in
+    let none : net_may_drop plan c ≡ false → net_dropped plan trace calls c ≡ [] = (λ kept. ap (λ (b : Bool). told_leases b (client_first 0 c) (client_first 0 c + 3) calls) kept) in
+    let kept_all : net_may_drop plan c ≡ false → without (net_dropped plan trace calls c) due ≡ due = (λ kept. ap (λ (bs : List Bool). without bs due) (none kept)) in
+    record {
+      left = left_begins got (net_dropped plan trace calls c) due ((h.shows_net has.0 has.1).records c (client_mac plan c) got mac at);
+      kept = λ kept. record {
+        begins = subst (IsPrefix got) (kept_all kept) ((h.shows_net has.0 has.1).records c (client_mac plan c) got mac at);
+        all = λ rests. (h.whole_net (still s rests.0) rests.1 has.0 has.1).records c (client_mac plan c) got mac at ∙ kept_all kept;
+      };
+    }
 
 pub input_for : (plan : Plan) (trace : Trace) (s : Shown) (c : ℕ) (got : List ℕ) → IsSystemOf plan trace s → c < length (serial_clients plan) → slice_get s.state.serial c ≡ Some got → IsRecordBut (input_of (length (serial_clients plan)) c trace.input) (may_drop plan c) (SerialRests plan s) got
 input_for plan trace s c got h lt at =

@@ -10,9 +10,10 @@ use Rattle.trace_text.specs.Events.{net_clients, serial_clients, blk_clients}
 use Rattle.class_expect.specs.NetExpect.Expecting.{frames_for}
 use Rattle.class_expect.specs.SerialSwitch.Switching.{input_of}
 use Rattle.serial_virt.specs.Shares.{policy_at}
+use Rattle.net_law.specs.Parts.Numbers.{policy_at as net_policy_at}
 use Rattle.expect_core.specs.Expected.{client_asks, client_entry, replies_in}
 use Rattle.expect_core.specs.Isolation.{AgreeOnFrames, AgreeOnInput, AgreeOnPartition}
-use Rattle.cast_core.specs.Sources.{client_mac, serial_drops}
+use Rattle.cast_core.specs.Sources.{client_mac, net_drops, serial_drops}
 use Rattle.system_core.specs.GivesBack.{BlkGivesBack, NetGivesBack, SerialGivesBack}
 use Rattle.system_core.specs.Shows.{Shown}
 use Rattle.system_core.specs.Reports.{report_of}
@@ -77,6 +78,10 @@ pub record AreOfOneList {T : Type 0} (whole : List T) (Rests : Type 0) (got : Li
     (Ends : Type 0) (seen : List T) : Type 0 where
   pub one : IsRecordIn whole Rests got
   pub other : IsRecordIn whole Ends seen
+
+-- whether frames for network client c may be dropped
+abbrev pub net_may_drop : Plan → (c : ℕ) → Bool
+net_may_drop plan c = net_policy_at (net_drops plan) c
 
 -- whether bytes for serial client c may be dropped
 abbrev pub may_drop : Plan → (c : ℕ) → Bool
