@@ -1,5 +1,5 @@
 -- The network's frames that copiers dropped, as the calls of a system tell it.
-use Rattle.std.proofs.Common.{◌≡◌, ◌<◌, ◌≤◌, ◌+◌, ◌++◌, ℕ, Bool, true, false, cond, Some, List, [], ◌∷◌, length, slice_get, refl, sym, ap, ◌∙◌, subst, arith}
+use Rattle.std.proofs.Common.{◌≡◌, ◌<◌, ◌≤◌, ◌+◌, ◌++◌, ℕ, Bool, true, false, Some, List, [], ◌∷◌, length, slice_get, refl, ap, ◌∙◌, subst, arith}
 use Rattle.std.proofs.lemmas.List.{append-nil}
 use Rattle.frame_core.specs.declared.mac.Mac.{Mac}
 use Rattle.wire_core.specs.declared.names.Entry.{Entry}
@@ -13,7 +13,7 @@ use Rattle.sdf_plan.specs.declared.plan.Net.{Net}
 use Rattle.trace_text.specs.declared.trace.Trace.{Trace}
 use Rattle.trace_text.specs.Events.{net_clients}
 use Rattle.play_core.specs.Looks.{events_of}
-use Rattle.play_core.specs.Moved.{Moved, taken}
+use Rattle.play_core.specs.Moved.{taken}
 use Rattle.play_core.proofs.Lists.{there_below}
 use Rattle.play_core.proofs.Moments.{each_moment, last_moment}
 use Rattle.net_copier.specs.Copying.{copier_word}
@@ -21,7 +21,7 @@ use Rattle.net_law.specs.Dropped.{Marks, told_leases}
 use Rattle.net_law.specs.Parts.Numbers.{client_first, policy_at}
 use Rattle.net_law.specs.TxParts.Numbers.{NetPlace}
 use Rattle.cast_core.specs.Casts.{net_place}
-use Rattle.cast_core.specs.Sources.{client_mac, net_drops}
+use Rattle.cast_core.specs.Sources.{client_mac}
 use Rattle.cast_core.proofs.Listing.{value_count}
 use Rattle.system_core.specs.Shows.{Shown, moved_in}
 use Rattle.system_core.specs.Lawful.{StandsLawful}

@@ -112,7 +112,7 @@ hears_at passed m items rx clients drops (Kinds.Rogue x) st is c on = cc
 
 -- a copier settles its leases so as its calls tell
 settles_told : (c : NetCopier) (passed : Passed) (m : Moved) → HaveItems passed m → CopierStandsFor c passed → SettlesLeases c.lease_input.queue.0 c.buffer_input.queue.0 c.drops passed.calls m
-settles_told c passed m items st = record { as_many = many c.drops refl; few = fits c.drops refl; all = λ on. all on }
+settles_told c passed m items st = record { as_many = many c.drops refl; few = fits c.drops refl; all = counted }
   where
     abbrev la : ℕ
     la = c.lease_input.queue.0
@@ -131,8 +131,8 @@ settles_told c passed m items st = record { as_many = many c.drops refl; few = f
     fits true on = let came = (st.tells on).came in let same = long in omega (arith, came, same)
     fits false waits = omega arith
 
-    all : c.drops ≡ true → length (told_leases c.drops la rf passed.calls) + bit (fate_of (copier_word c.drops la rf) passed.calls).waits ≡ length (m.taken la)
-    all on =
+    counted : c.drops ≡ true → length (told_leases c.drops la rf passed.calls) + bit (fate_of (copier_word c.drops la rf) passed.calls).waits ≡ length (m.taken la)
+    counted on =
         let t = st.tells on in
         let came = t.came in
         let same = long in

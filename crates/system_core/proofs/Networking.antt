@@ -31,7 +31,7 @@ use Rattle.play_core.proofs.Lists.{map_get, there_below, there_is}
 use Rattle.cast_law.proofs.Senders.{client_wild}
 use Rattle.play_core.proofs.Merges.{prefix_merge_whole}
 use Rattle.play_core.proofs.OneQueue.{whole_prefix}
-use Rattle.net_quiet.specs.Still.{ArrivesAll, SendsAll, copier_gone, lens_from}
+use Rattle.net_quiet.specs.Still.{ArrivesAll, SendsAll, lens_from}
 use Rattle.net_quiet.proofs.Leases.{leases_all}
 use Rattle.actor_set.specs.Parts.{NetworkPart, HostilePart}
 use Rattle.wired_law.specs.Wiring.{HasWholeIn}
