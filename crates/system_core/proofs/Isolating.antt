@@ -125,7 +125,7 @@ echoes_of plan trace s c sent h lt is at =
     let plus : 0 + c ≡ c = omega arith in
     let calm : wild_by s.setting (client_first 0 (0 + c) + 4) ≡ false = ap (λ k. wild_by s.setting (client_first 0 k + 4)) plus ∙ (h.wild_net has.0 has.1 c below ∙ is.calm) in
     let there = sent_there (wild_by s.setting) 0 (net_place plan trace).most (net_marks (net_place plan trace) calls) trace.frames h.stands.told.passed 0 (net_place plan trace).programs (net_place plan trace).macs (net_place plan trace).pools c (client_program plan trace c) mac (client_pools plan c)
-        (value_at n (client_program plan trace) c lt) (value_at n (client_mac plan) c lt) (value_at n (client_pools plan) c lt) calm in
+    (value_at n (client_program plan trace) c lt) (value_at n (client_mac plan) c lt) (value_at n (client_pools plan) c lt) calm in
     let own : sent ≡ without marks (answers_for mac trace.frames) = some_is (sym at ∙ there)
     ∙ (ap (λ k. sends_upon (client_program plan trace c) mac (left_for (net_dropped plan trace calls k) mac trace.frames)) plus
     ∙ (ap (λ (p : Program). sends_upon p mac (left_for marks mac trace.frames)) is.echo ∙ echo_left mac marks trace.frames)) in

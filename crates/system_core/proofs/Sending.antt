@@ -35,8 +35,8 @@ total_upon marks frames first m k (program ∷ programs) (mac ∷ macs) each =
     let came : length (left_for (marks k) mac frames) ≡ length (m.taken (client_first first k + 2)) = subst (λ n. length (left_for (marks n) mac frames) ≡ length (m.taken (client_first first n + 2))) plus (each 0 mac refl) in
     let long = upon_long program mac (left_for (marks k) mac frames) (m.taken (client_first first k + 2)) came in
     let rest = total_upon marks frames first m (k + 1) programs macs (λ j other at.
-        let shift : k + suc j ≡ k + 1 + j = omega arith in
-        subst (λ n. length (left_for (marks n) other frames) ≡ length (m.taken (client_first first n + 2))) shift (each (suc j) other at)) in
+    let shift : k + suc j ≡ k + 1 + j = omega arith in
+    subst (λ n. length (left_for (marks n) other frames) ≡ length (m.taken (client_first first n + 2))) shift (each (suc j) other at)) in
     omega (arith, long, rest)
 
 -- what one sends at whose queue no hostile actor has an end
