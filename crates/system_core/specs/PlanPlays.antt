@@ -80,8 +80,8 @@ pub record ShowsWhole (count : ℕ) (trace : Trace) (marks : Marks) (s : State) 
 -- each network client recorded a beginning of the frames for its address without what is marked
 -- of them as dropped, and a hostile one nothing; and what was sent on the wire is what the entries
 -- tell that the device took, a merge of beginnings of what the clients send: each by its program,
--- an echo the answers to the frames that weren't dropped, but one at whose queue a hostile actor has
--- an end the frames of the good descriptors that were taken of it
+-- an echo the answers to the frames that weren't dropped, but one at whose queue a hostile actor
+-- has an end the frames of the good descriptors that were taken of it
 pub record ShowsFrames (rogue : ℕ → Bool) (wild : Wild) (net : NetPlace) (frames : List (List ℕ))
     (marks : NetMarks) (passed : Passed) (s : State) : Type 0 where
   pub count_is : length s.net ≡ length net.macs
