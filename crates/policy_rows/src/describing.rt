@@ -1,35 +1,38 @@
-//! A description of the serial class, by a text with marks in place of words. A line behind `N| ` is
-//! there where there is a client N.
+//! A description of the serial class, by a text in which `$N$` stands for the word N of the driver or
+//! of a client. A line behind `N| ` is there where there is a client N, for which its words are.
 
 use cargo_core::Memory;
 use std::alloc::Global;
 
-/// The marks of the words for the driver or a client, in their order.
-const MARKS: [&str; 4] = ["RX", "TX", "PROGRAM", "POLICY"];
-
-// Adds a line with words in place of the marks. A line with the mark of a word `-` is left out.
-fn add_line(alloc: Global, to: &mut String, line: &str, words: &str) -> Result<(), Memory> {
-    let mut text = String::from_str(alloc, line)?;
-    for (mark, word) in MARKS.iter().zip(words.split(" ")) {
-        if word == "-" && text.contains(*mark) {
-            return Ok(());
+// The piece of a text at the place that a number spells, if there is one.
+fn piece<'a>(text: &'a str, between: &str, place: &str) -> Option<&'a str> {
+    let place = place.parse::<usize>().ok()?;
+    for (k, piece) in text.split(between).enumerate() {
+        if k == place {
+            return Some(piece);
         }
-        text = text.replace(alloc, *mark, word)?;
     }
-    to.push_str(text.as_str())?;
+    None
+}
+
+// Adds a line with its words.
+fn add_line(to: &mut String, line: &str, words: &str) -> Result<(), Memory> {
+    for part in line.split("$") {
+        to.push_str(piece(words, " ", part).unwrap_or(part))?;
+    }
     to.push_str("\n")?;
     Ok(())
 }
 
-// The words of the client of a number, if there is one.
-fn client_words<'a>(clients: &'a str, number: &str) -> Option<&'a str> {
-    let number = number.parse::<usize>().ok()?;
-    for (k, words) in clients.split(", ").enumerate() {
-        if k == number {
-            return Some(words);
-        }
+// Adds a line where it is there.
+fn add(to: &mut String, line: &str, class: &str, clients: &str) -> Result<(), Memory> {
+    match line.split_once("| ") {
+        Some((client, line)) => match piece(clients, ", ", client) {
+            Some(words) => add_line(to, line, words),
+            None => Ok(()),
+        },
+        None => add_line(to, line, class),
     }
-    None
 }
 
 /// The description with these words for the driver and for the clients.
@@ -41,13 +44,7 @@ pub fn description(
 ) -> Result<String, Memory> {
     let mut text = String::new(alloc);
     for line in form.lines() {
-        let (words, line) = match line.split_once("| ") {
-            Some((number, line)) => (client_words(clients, number), line),
-            None => (Some(class), line),
-        };
-        if let Some(words) = words {
-            add_line(alloc, &mut text, line, words)?;
-        }
+        add(&mut text, line, class, clients)?;
     }
     Ok(text)
 }

@@ -9,8 +9,8 @@ use wire_core::{next_seed, place_of};
 /// The words for the places of a queue.
 const PLACES: [&str; 5] = ["1", "2", "4", "8", "16"];
 
-/// The words for policies, of which half is `drop`.
-const POLICIES: [&str; 4] = ["-", "hold", "drop", "drop"];
+/// The words for policies, of which half is `drop`; behind `#` stands none.
+const POLICIES: [&str; 4] = ["#", "policy=\"hold\"", "policy=\"drop\"", "policy=\"drop\""];
 
 /// Numbers that are drawn one after another.
 #[derive(Clone, Copy)]

@@ -3,9 +3,9 @@
 //! A row `FIRST COUNT | CLASS | CLIENT, CLIENT | LINE | LINE` of standard input stands for so many
 //! plays, by seeds from the first on, with a trace of these lines. The description is
 //! `data/serial.txt` with the words of the row: CLASS is `RX TX`, the places of the driver's queues,
-//! and CLIENT is `RX TX PROGRAM POLICY`, where the policy `-` is none that is given. Its answer is how
-//! many plays were right, how many got quiet, whether a byte was dropped in any, and of each client
-//! how many bytes it recorded, at least and at most, of those that the trace gives it.
+//! and CLIENT is `RX TX PROGRAM POLICY`, with the policy as a line of a description. Its answer is
+//! how many plays were right, how many got quiet, whether a byte was dropped in any, and of each
+//! client how many bytes it recorded, at least and at most, of those that the trace gives it.
 //!
 //! A play is right where each record is a part, in order, of what the trace gives its client, and a
 //! beginning of what is left of that without the bytes that were dropped: a byte was, if its client
