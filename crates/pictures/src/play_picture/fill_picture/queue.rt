@@ -6,7 +6,9 @@ ghost use Rattle.pictures.specs.PlayPicture.Chart.{draw_each};
 ghost use Rattle.pictures.specs.PlayPicture.FillPicture.Fills.{bar, bar_if, bar_at, change_shapes, fill_label};
 ghost use Rattle.pictures.specs.PlayPicture.FillPicture.Fills.{fill_head, fill_shapes, IsSmallFills};
 
-use crate::play_picture::fill_picture::fills::{Fills, bar_height, bar_note, changes, fill_y, level, span};
+use crate::play_picture::fill_picture::fills::{
+    Fills, bar_height, bar_note, changes, fill_y, level, span,
+};
 use cargo_core::{Memory, Series};
 use picture_kit::{Area, Form, Ink, Shape, kind_ink};
 use std::alloc::Global;

@@ -5,9 +5,9 @@ ghost use Rattle.view_plays.specs.PlayView.PageText.Page.{between, heading_text,
 ghost use Rattle.view_plays.specs.PlayView.PageText.Page.{style_text, page_text};
 
 use cargo_core::{Bytes, Memory, Text};
+use picture_kit::xml_text::push_escaped;
 use picture_kit::{Picture, write_svg};
 use std::alloc::Global;
-use picture_kit::xml_text::push_escaped;
 
 /// A picture under a heading.
 #[derive(Debug, Drop)]
