@@ -57,7 +57,7 @@ module _ (passed passed' : Passed) where
   stands_device d same ins outs f =
       let gone : frames_dropped d passed'.calls ≡ frames_dropped d passed.calls = dropped_own d same.own same.others passed'.calls ∙ (ap (frames_dropped d) same.same ∙ sym (dropped_own d same.own same.others passed.calls)) in
       let noes : noes_at Consumer (rx_free d) passed'.calls ≡ noes_at Consumer (rx_free d) passed.calls =
-          looks_own (DeviceEnd d) same.own same.others Consumer (rx_free d) (inl refl) passed'.calls ∙ (ap (noes_at Consumer (rx_free d)) same.same ∙ sym (looks_own (DeviceEnd d) same.own same.others Consumer (rx_free d) (inl refl) passed.calls)) in
+      looks_own (DeviceEnd d) same.own same.others Consumer (rx_free d) (inl refl) passed'.calls ∙ (ap (noes_at Consumer (rx_free d)) same.same ∙ sym (looks_own (DeviceEnd d) same.own same.others Consumer (rx_free d) (inl refl) passed.calls)) in
       let free : passed'.taken (rx_free d) ≡ passed.taken (rx_free d) = ins (rx_free d) (inl refl) in
       record {
         filled = subst (λ (bs : List Bool). passed'.sent (rx_active d) ++ option_to_list d.load ≡ all_filled (without bs d.frames) (passed'.taken (rx_free d))) (sym gone) (rw (free, outs (rx_active d) (inl refl)) f.filled);
@@ -74,7 +74,7 @@ module _ (passed passed' : Passed) where
   stands_copier c same ins outs f =
       let fate : lease_fate c passed'.calls ≡ lease_fate c passed.calls = fate_is c same.own same.others passed'.calls ∙ (ap (lease_fate c) same.same ∙ sym (fate_is c same.own same.others passed.calls)) in
       let noes : noes_at Consumer c.buffer_input.queue.0 passed'.calls ≡ noes_at Consumer c.buffer_input.queue.0 passed.calls =
-          looks_own (CopierEnd c) same.own same.others Consumer c.buffer_input.queue.0 (inr refl) passed'.calls ∙ (ap (noes_at Consumer c.buffer_input.queue.0) same.same ∙ sym (looks_own (CopierEnd c) same.own same.others Consumer c.buffer_input.queue.0 (inr refl) passed.calls)) in
+      looks_own (CopierEnd c) same.own same.others Consumer c.buffer_input.queue.0 (inr refl) passed'.calls ∙ (ap (noes_at Consumer c.buffer_input.queue.0) same.same ∙ sym (looks_own (CopierEnd c) same.own same.others Consumer c.buffer_input.queue.0 (inr refl) passed.calls)) in
       let li : passed'.taken c.lease_input.queue.0 ≡ passed.taken c.lease_input.queue.0 = ins c.lease_input.queue.0 (inl refl) in
       let bi : passed'.taken c.buffer_input.queue.0 ≡ passed.taken c.buffer_input.queue.0 = ins c.buffer_input.queue.0 (inr refl) in
       let bo : passed'.sent c.buffer_output.queue.0 ≡ passed.sent c.buffer_output.queue.0 = outs c.buffer_output.queue.0 (inl refl) in

@@ -112,24 +112,21 @@ device_conserves d passed h f =
     let came' = counted-at f passed.taken (Dev.tx_active d) [] in
     let went = counted-at f passed.sent (Dev.rx_active d) (Dev.tx_free d ∷ []) in
     let went' = counted-at f passed.sent (Dev.tx_free d) [] in
-    let filled = ap (weighed f) h.filled ∙ all_filled_same f (without used d.frames) (passed.taken (Dev.rx_free d)) (few d.drops refl) in
+    let filled = ap (weighed f) h.filled ∙ all_filled_same f (without (Dev.frames_dropped d passed.calls) d.frames) (passed.taken (Dev.rx_free d)) (few d.drops refl) in
     let parts = weighed-append f (passed.sent (Dev.rx_active d)) (option_to_list d.load) in
     let moved = ap (weighed f) h.sends.moved ∙ weighed-append f (passed.sent (Dev.tx_free d)) (option_to_list d.wire.pipe.load) in
     let hand = weighed-append f (option_to_list d.load) (option_to_list d.wire.pipe.load) in
     omega (arith, came, came', went, went', filled, parts, moved, hand)
   where
-    abbrev used : List Bool
-    used = Dev.frames_dropped d passed.calls
-
-    few : (b : Bool) → d.drops ≡ b → length (passed.taken (Dev.rx_free d)) ≤ length (without used d.frames)
+    few : (b : Bool) → d.drops ≡ b → length (passed.taken (Dev.rx_free d)) ≤ length (without (Dev.frames_dropped d passed.calls) d.frames)
     few true on =
         let takes = h.takes in
         let next = h.next in
         let all = (h.tells on).used in
-        let left = without_length used d.frames (omega (arith, all, next)) in
+        let left = without_length (Dev.frames_dropped d passed.calls) d.frames (omega (arith, all, next)) in
         omega (arith, takes, all, left)
     few false off =
         let takes = h.takes in
         let next = h.next in
-        let same = ap length (without_none used d.frames (none_frame_dropped d off passed.calls)) in
+        let same = ap length (without_none (Dev.frames_dropped d passed.calls) d.frames (none_frame_dropped d off passed.calls)) in
         omega (arith, takes, next, same)
