@@ -1,10 +1,10 @@
 //! The program on a machine: its words are the arguments behind its name, its texts are files, what
 //! it shows goes to standard output, and lines of refusal and of progress to standard error.
-use crate::view_core::ErrSink;
 use crate::viewing::view_any;
 use decision_core::shelf_core::{FileShelf, OutSink};
 use std::rt::{Env, Files};
 use std::{env, io};
+use crate::view_core::ErrSink;
 
 /// The status where the system doesn't give the words as texts: memory was refused, or one isn't in
 /// UTF-8. No word can be judged then.

@@ -14,16 +14,16 @@ ghost use Rattle.view_plays.specs.Deciding.{OpensFor, LeavesAny};
 ghost use Rattle.command_words.specs.PlayWords.Words.{Spells};
 ghost use Rattle.view_plays.specs.ToldPlays.Progress.{IsProgress};
 
-use crate::play_view::draw_play;
 use crate::told_plays::played_told;
 use cargo_core::{Bytes, Memory};
-use command_words::play_words::{Drawing, Name, Setting, main_words, number_of, read_drawing};
-use decision_core::shelf_core::{ReadStop, Shelf, Sink};
 use decision_core::{Decided, Status, decide_words};
 use expect_core::{Report, budget};
+use crate::play_view::draw_play;
+use command_words::play_words::{Drawing, Name, Setting, main_words, number_of, read_drawing};
 use region_layout::lay_out;
 use report_text::write_usage;
 use sdf_plan::Plan;
+use decision_core::shelf_core::{ReadStop, Shelf, Sink};
 use std::alloc::Global;
 use trace_text::Trace;
 

@@ -10,11 +10,11 @@ ghost use Rattle.view_plays.specs.Deciding.{decided_of};
 ghost use Rattle.view_plays.specs.Viewed.{IsTold, IsWritten, EndsFor, IsDrawn, BeginsPlay};
 
 use crate::playing::{Reply, decide_play};
-use crate::view_core::view;
 use command_words::{is_word, word_at};
 use decision_core::Status;
 use decision_core::shelf_core::{ReadStop, Shelf, Sink, write_text};
 use std::alloc::Global;
+use crate::view_core::view;
 
 // Writes a text to its end, and answers this status, or that it couldn't be written.
 fn write_to<K: Sink>(sink: &mut K, text: &[u8], status: Status) -> Status

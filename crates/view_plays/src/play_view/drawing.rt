@@ -8,19 +8,19 @@ ghost use Rattle.view_plays.specs.PlayView.Drawn.{parts_of, drawn_text, is_count
 
 use crate::play_view::page_text::{Part, write_page};
 use cargo_core::{Bytes, Memory, Text};
-use command_words::play_words::{Drawing, Name, Setting, number_of};
 use expect_core::Report;
 use layout_laws::seats::seat_law;
+use pictures::layout_view::picture;
+use pictures::layout_view::picture_style::{PAGE_END, PAGE_FRONT, PICTURE_STYLE};
+use picture_kit::{Picture, write_svg};
+use pictures::play_picture::fill_picture::fill_picture;
+use pictures::play_picture::pool_picture::pool_picture;
+use pictures::play_picture::{Cast, play_picture};
+use command_words::play_words::{Drawing, Name, Setting, number_of};
 use region_layout::Layout;
 use report_text::write_report;
 use sdf_plan::Plan;
 use std::alloc::Global;
-use view_text::layout_view::picture;
-use view_text::layout_view::picture_style::{PAGE_END, PAGE_FRONT, PICTURE_STYLE};
-use view_text::picture_kit::{Picture, write_svg};
-use view_text::play_picture::fill_picture::fill_picture;
-use view_text::play_picture::pool_picture::pool_picture;
-use view_text::play_picture::{Cast, play_picture};
 use wire_core::Entry;
 
 /// How many steps are drawn where no end is named.

@@ -11,9 +11,9 @@ ghost use Rattle.system_core.specs.Reports.{report_of};
 ghost use Rattle.view_plays.specs.ToldPlays.Progress.{progress_line, IsProgress, HasTold};
 
 use cargo_core::Memory;
-use decision_core::shelf_core::{Sink, write_text};
 use region_layout::Layout;
 use sdf_plan::Plan;
+use decision_core::shelf_core::{Sink, write_text};
 use std::alloc::Global;
 use system_core::{Ending, System};
 use trace_text::Trace;

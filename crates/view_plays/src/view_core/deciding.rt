@@ -15,9 +15,9 @@ use crate::view_core::ended::Ended;
 use crate::view_core::line::{write_refused, write_too_long, write_usage};
 use cargo_core::Memory;
 use decision_core::judge;
-use decision_core::shelf_core::{ReadStop, Shelf, read_text};
 use sdf_model::TEXT_MOST;
 use sdf_plan::SdfFault;
+use decision_core::shelf_core::{ReadStop, Shelf, read_text};
 use std::alloc::Global;
 
 // A description isn't accepted.
