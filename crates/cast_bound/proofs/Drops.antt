@@ -102,11 +102,11 @@ serial_gone_is c m =
 -- looks in vain at the copiers' ends where frames are dropped are frames that they dropped
 copiers_gone : (net : NetPlace) (m : Moved) (count : ℕ) → noes_together (copier_seats net count) m ≡ sum_below (λ k. gone_at (for_client net.drops k) m Consumer (client_first net.first k + 3)) count
 copiers_gone net m zero = refl
-copiers_gone net m (suc j) = by (for_client net.drops j)
+copiers_gone net m (suc j) = by (for_client net.drops j) (copiers_gone net m j)
   where
-    by : (t : Bool) → noes_together (cond t (intake (client_first net.first j + 3) ∷ copier_seats net j) (copier_seats net j)) m ≡ sum_below (λ k. gone_at (for_client net.drops k) m Consumer (client_first net.first k + 3)) j + gone_at t m Consumer (client_first net.first j + 3)
-    by true = let rest = copiers_gone net m j in omega (arith, rest)
-    by false = let rest = copiers_gone net m j in omega (arith, rest)
+    by : (t : Bool) → noes_together (copier_seats net j) m ≡ sum_below (λ k. gone_at (for_client net.drops k) m Consumer (client_first net.first k + 3)) j → noes_together (cond t (intake (client_first net.first j + 3) ∷ copier_seats net j) (copier_seats net j)) m ≡ sum_below (λ k. gone_at (for_client net.drops k) m Consumer (client_first net.first k + 3)) j + gone_at t m Consumer (client_first net.first j + 3)
+    by true rest = omega (arith, rest)
+    by false rest = omega (arith, rest)
 
 -- and so of the whole network
 pub net_gone_is : (net : NetPlace) (m : Moved) → noes_together (net_seats net) m ≡ net_gone net m
@@ -144,7 +144,7 @@ in_second (s ∷ a) b r n h = or_right (is_role s.role r && (s.queue == n)) (has
 is_front : (s : Seat) (seats : List Seat) (r : Role) (n : ℕ) (t : Bool) → has_seat (cond t (s ∷ []) []) r n ≡ true → has_seat (cond t (s ∷ seats) seats) r n ≡ true
 is_front s seats r n true h = elim (or_split (is_role s.role r && (s.queue == n)) false h) [
   | inl here ↦ or_left (is_role s.role r && (s.queue == n)) (has_seat seats r n) here
-  | inr no ↦ absurd cc
+  | inr none ↦ absurd cc
 ]
 is_front s seats r n false h = absurd cc
 

@@ -16,7 +16,8 @@ ghost use Rattle.sddf_top.specs.Isolation.{AnswersOn};
 /// one list that it must get by the first, whoever else is hostile. Both are beginnings of it, and
 /// each is all of it where its report says `quiet` and no client of its class is hostile there; but
 /// of a network client whose frames may be dropped, or a serial one whose bytes may be, a record is
-/// what is left of that list in its order. What determines a client is what `system_core::isolation_law` says.
+/// what is left of that list in its order. What determines a client is what
+/// `system_core::isolation_law` says.
 pub fn isolation_law()
     ensures net { (plan other : Plan) (trace told : Trace) (s t : System) (c d : ℕ)
         (got seen : List (List ℕ)) → AnswersOn plan trace s → AnswersOn other told t

@@ -1,5 +1,5 @@
 -- A play of a plan and a trace is shorter than their budget.
-use Rattle.std.proofs.Common.{◌≡◌, ◌<◌, ◌+◌, ◌*◌, ℕ, None, Some, Option, List, length, slice_get, [], refl, sym, ap, ◌∙◌, subst}
+use Rattle.std.proofs.Common.{◌≡◌, ◌<◌, ◌+◌, ◌*◌, ℕ, None, Some, Option, List, length, slice_get, [], refl, sym, ap, ◌∙◌, subst, Bool}
 use Rattle.std.specs.Option.{option_map_or}
 use Rattle.wire_core.specs.declared.names.Entry.{Entry}
 use Rattle.wire_core.specs.Journal.{LegalJournal, BellsHold, QueuesFlow}

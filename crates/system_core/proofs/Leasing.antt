@@ -90,26 +90,20 @@ module _ (plan : Plan) (trace : Trace) (s : Shown) (cast : IsCastOf plan trace s
   pub net_anew : BeginsAnew s.setting → (j : List Entry) (c : ℕ) → c < length net.client → marks j c ≡ net_dropped plan trace (events_of j) c
   net_anew begins j c below = by (drops_at c) refl
     where
-      abbrev la : ℕ
-      la = client_first 0 c
-
-      abbrev rf : ℕ
-      rf = client_first 0 c + 3
-
       here : c < length place.macs
       here = let many = ap length (nets plan net has) in let all = macs_many in omega (arith, below, many, all)
 
-      first : SettlesLeases la rf (drops_at c) (calls_by stands.calls.past []) (moved_in s.setting [])
+      first : SettlesLeases (client_first 0 c) (client_first 0 c + 3) (drops_at c) (calls_by stands.calls.past []) (moved_in s.setting [])
       first = settles [] stands.calls.leases.0 c here
 
-      nothing : length (taken s.setting.history la []) ≡ 0
-      nothing = ap (λ (h : History). length (taken h la [])) begins ∙ ap (λ (t : Track). length t.taken) (start_is s.setting.rows la)
+      nothing : length (taken s.setting.history (client_first 0 c) []) ≡ 0
+      nothing = ap (λ (h : History). length (taken h (client_first 0 c) [])) begins ∙ ap (λ (t : Track). length t.taken) (start_is s.setting.rows (client_first 0 c))
 
-      by : (b : Bool) → drops_at c ≡ b → told_leases b la rf (calls_by stands.calls.past j) ≡ told_leases b la rf (events_of j)
+      by : (b : Bool) → drops_at c ≡ b → told_leases b (client_first 0 c) (client_first 0 c + 3) (calls_by stands.calls.past j) ≡ told_leases b (client_first 0 c) (client_first 0 c + 3) (events_of j)
       by false waits = refl
       by true on =
-          let all : length (told_leases true la rf (calls_by stands.calls.past [])) + bit (fate_of (copier_word true la rf) (calls_by stands.calls.past [])).waits ≡ length (taken s.setting.history la []) =
-              subst (λ b. length (told_leases b la rf (calls_by stands.calls.past [])) + bit (fate_of (copier_word b la rf) (calls_by stands.calls.past [])).waits ≡ length (taken s.setting.history la [])) on (first.all on) in
-          let past : length (fate_of (copier_word true la rf) stands.calls.past).dropped + bit (fate_of (copier_word true la rf) stands.calls.past).waits ≡ length (taken s.setting.history la []) =
-              subst (λ es. length (fate_of (copier_word true la rf) es).dropped + bit (fate_of (copier_word true la rf) es).waits ≡ length (taken s.setting.history la [])) (append-nil stands.calls.past) all in
-          leases_anew la rf stands.calls.past (events_of j) (past ∙ nothing)
+          let all : length (told_leases true (client_first 0 c) (client_first 0 c + 3) (calls_by stands.calls.past [])) + bit (fate_of (copier_word true (client_first 0 c) (client_first 0 c + 3)) (calls_by stands.calls.past [])).waits ≡ length (taken s.setting.history (client_first 0 c) []) =
+          subst (λ b. length (told_leases b (client_first 0 c) (client_first 0 c + 3) (calls_by stands.calls.past [])) + bit (fate_of (copier_word b (client_first 0 c) (client_first 0 c + 3)) (calls_by stands.calls.past [])).waits ≡ length (taken s.setting.history (client_first 0 c) [])) on (first.all on) in
+          let past : length (fate_of (copier_word true (client_first 0 c) (client_first 0 c + 3)) stands.calls.past).dropped + bit (fate_of (copier_word true (client_first 0 c) (client_first 0 c + 3)) stands.calls.past).waits ≡ length (taken s.setting.history (client_first 0 c) []) =
+          subst (λ es. length (fate_of (copier_word true (client_first 0 c) (client_first 0 c + 3)) es).dropped + bit (fate_of (copier_word true (client_first 0 c) (client_first 0 c + 3)) es).waits ≡ length (taken s.setting.history (client_first 0 c) [])) (append-nil stands.calls.past) all in
+          leases_anew (client_first 0 c) (client_first 0 c + 3) stands.calls.past (events_of j) (past ∙ nothing)

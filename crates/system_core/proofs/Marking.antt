@@ -114,30 +114,24 @@ hears_at passed m items rx clients drops (Kinds.Rogue x) st is c on = cc
 settles_told : (c : NetCopier) (passed : Passed) (m : Moved) → HaveItems passed m → CopierStandsFor c passed → SettlesLeases c.lease_input.queue.0 c.buffer_input.queue.0 c.drops passed.calls m
 settles_told c passed m items st = record { as_many = many c.drops refl; few = fits c.drops refl; all = counted }
   where
-    abbrev la : ℕ
-    la = c.lease_input.queue.0
+    long : length (passed.taken c.lease_input.queue.0) ≡ length (m.taken c.lease_input.queue.0)
+    long = sym (length-map (passed.taken c.lease_input.queue.0) (λ (e : Cargo). e.0)) ∙ ap length (items.taken c.lease_input.queue.0)
 
-    abbrev rf : ℕ
-    rf = c.buffer_input.queue.0
-
-    long : length (passed.taken la) ≡ length (m.taken la)
-    long = sym (length-map (passed.taken la) (λ (e : Cargo). e.0)) ∙ ap length (items.taken la)
-
-    many : (b : Bool) → c.drops ≡ b → marked (cond b (leases_dropped c passed.calls) []) ≡ cond b (m.noes Consumer rf) 0
-    many true on = sym (st.tells on).each ∙ items.noes Consumer rf
+    many : (b : Bool) → c.drops ≡ b → marked (cond b (leases_dropped c passed.calls) []) ≡ cond b (m.noes Consumer c.buffer_input.queue.0) 0
+    many true on = sym (st.tells on).each ∙ items.noes Consumer c.buffer_input.queue.0
     many false waits = refl
 
-    fits : (b : Bool) → c.drops ≡ b → length (cond b (leases_dropped c passed.calls) []) ≤ length (m.taken la)
+    fits : (b : Bool) → c.drops ≡ b → length (cond b (leases_dropped c passed.calls) []) ≤ length (m.taken c.lease_input.queue.0)
     fits true on = let came = (st.tells on).came in let same = long in omega (arith, came, same)
     fits false waits = omega arith
 
-    counted : c.drops ≡ true → length (told_leases c.drops la rf passed.calls) + bit (fate_of (copier_word c.drops la rf) passed.calls).waits ≡ length (m.taken la)
+    counted : c.drops ≡ true → length (told_leases c.drops c.lease_input.queue.0 c.buffer_input.queue.0 passed.calls) + bit (fate_of (copier_word c.drops c.lease_input.queue.0 c.buffer_input.queue.0) passed.calls).waits ≡ length (m.taken c.lease_input.queue.0)
     counted on =
         let t = st.tells on in
         let came = t.came in
         let same = long in
-        let waits : bit (fate_of (copier_word c.drops la rf) passed.calls).waits ≡ bit (is_waiting c) = ap bit t.waits in
-        let told : length (told_leases c.drops la rf passed.calls) ≡ length (leases_dropped c passed.calls) = ap (λ b. length (cond b (leases_dropped c passed.calls) [])) on in
+        let waits : bit (fate_of (copier_word c.drops c.lease_input.queue.0 c.buffer_input.queue.0) passed.calls).waits ≡ bit (is_waiting c) = ap bit t.waits in
+        let told : length (told_leases c.drops c.lease_input.queue.0 c.buffer_input.queue.0 passed.calls) ≡ length (leases_dropped c passed.calls) = ap (λ b. length (cond b (leases_dropped c passed.calls) [])) on in
         omega (arith, came, same, waits, told)
 
 -- the queues of leases and of buffers, and the policy, of a part that is a copier

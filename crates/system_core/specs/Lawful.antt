@@ -99,9 +99,9 @@ abbrev pub record_at : Shown → ℕ → List ℕ
 record_at s k = option_map_or (record_by (moved_in s.setting s.journal))
     (slice_get s.setting.cast k) []
 
--- what the clients at a place of the network send: each by its program, where it gets the frames for
--- its address without those that were dropped as the calls tell, but a hostile one the frames of the
--- good descriptors that were taken of it
+-- what the clients at a place of the network send: each by its program, where it gets the frames
+-- for its address without those that were dropped as the calls tell, but a hostile one the frames
+-- of the good descriptors that were taken of it
 abbrev pub sends_in : Shown → NetPlace → Passed → List (List (List ℕ))
 sends_in s net passed = sends_beside (wild_by s.setting) net s.setting.scene.frames passed
 
@@ -218,6 +218,6 @@ pub record StandsLawful (s : Shown) : Type 0 where
   pub fitted : IsFitted s.setting
   pub lawful : IsLawful s.setting s.journal
   pub told : IsTold s
-  -- and of the bytes for serial clients, and the frames for network clients, those were dropped that
-  -- its calls tell
+  -- and of the bytes for serial clients, and the frames for network clients, those were dropped
+  -- that its calls tell
   pub calls : HaveTold s.setting.history s.setting.cast s.journal told.passed.calls

@@ -77,11 +77,11 @@ pub record ShowsWhole (count : ℕ) (trace : Trace) (marks : Marks) (s : State) 
       → length got + marked (marks c) ≡ length (input_of count c trace.input)
   pub line : (said : List ℕ) × (s.line ≡ Some said) × Merge trace.says said
 
--- each network client recorded a beginning of the frames for its address without what is marked of
--- them as dropped, and a hostile one nothing; and what was sent on the wire is what the entries tell
--- that the device took, a merge of beginnings of what the clients send: each by its program, an echo
--- the answers to the frames that weren't dropped, but one at whose queue a hostile actor has an end
--- the frames of the good descriptors that were taken of it
+-- each network client recorded a beginning of the frames for its address without what is marked
+-- of them as dropped, and a hostile one nothing; and what was sent on the wire is what the entries
+-- tell that the device took, a merge of beginnings of what the clients send: each by its program,
+-- an echo the answers to the frames that weren't dropped, but one at whose queue a hostile actor
+-- has an end the frames of the good descriptors that were taken of it
 pub record ShowsFrames (rogue : ℕ → Bool) (wild : Wild) (net : NetPlace) (frames : List (List ℕ))
     (marks : NetMarks) (passed : Passed) (s : State) : Type 0 where
   pub count_is : length s.net ≡ length net.macs
@@ -94,8 +94,8 @@ pub record ShowsFrames (rogue : ℕ → Bool) (wild : Wild) (net : NetPlace) (fr
       (wire_beside wild net frames passed)
 
 -- each network client recorded all frames for its address without what is marked of them as
--- dropped, and what was sent on the wire is a merge of all that the clients send, an echo the answers
--- to those
+-- dropped, and what was sent on the wire is a merge of all that the clients send, an echo the
+-- answers to those
 pub record ShowsAllFrames (net : NetPlace) (frames : List (List ℕ)) (marks : NetMarks)
     (s : State) : Type 0 where
   pub records : (c : ℕ) (mac : Mac) (got : List (List ℕ)) → slice_get net.macs c ≡ Some mac
@@ -190,8 +190,8 @@ pub record IsSystemOf (plan : Plan) (trace : Trace) (s : Shown) : Type 0 where
   pub whole : runnable_now s ≡ [] → SerialGivesBack plan → (serial : Serial)
       → plan.serial ≡ Some serial → ShowsWhole (length serial.client) trace
       (dropped_by (class_of plan trace serial) (calls_by stands.calls.past s.journal)) s.state
-  -- and all frames of the network but those that were dropped, where none of its clients is hostile,
-  -- whoever else is
+  -- and all frames of the network but those that were dropped, where none of its clients is
+  -- hostile, whoever else is
   pub whole_net : runnable_now s ≡ [] → NetGivesBack plan → (net : Net) → plan.net ≡ Some net
       → ShowsAllFrames (net_place plan trace) trace.frames
       (net_dropped plan trace (calls_by stands.calls.past s.journal)) s.state
