@@ -1,5 +1,5 @@
 -- A play of a plan and a trace is shorter than their budget.
-use Rattle.std.proofs.Common.{◌≡◌, ◌<◌, ◌+◌, ◌*◌, ℕ, None, Some, Option, List, length, [], refl, sym, ap, ◌∙◌, subst, Bool}
+use Rattle.std.proofs.Common.{◌≡◌, ◌<◌, ◌+◌, ◌*◌, ℕ, None, Some, Option, List, length, slice_get, [], refl, sym, ap, ◌∙◌, subst, Bool}
 use Rattle.std.specs.Option.{option_map_or}
 use Rattle.wire_core.specs.declared.names.Entry.{Entry}
 use Rattle.wire_core.specs.Journal.{LegalJournal, BellsHold, QueuesFlow}
@@ -21,6 +21,7 @@ use Rattle.play_core.proofs.Moments.{last_moment}
 use Rattle.serial_law.specs.Parts.{SerialPart}
 use Rattle.serial_law.specs.Serial.{SerialClass, IsSerial}
 use Rattle.serial_law.proofs.Arrivals.{as_there, RowAt}
+use Rattle.actor_set.specs.Parts.{Part}
 use Rattle.actor_set.specs.Laws.Kinds.{AllCalm, dropping_ends, serial_part, sheet}
 use Rattle.actor_set.proofs.LawsLemmas.Calm.{calm_actor, sheet_is}
 use Rattle.wired_law.specs.Wiring.{HasWholeIn, HasBlkIn}

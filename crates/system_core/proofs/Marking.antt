@@ -6,7 +6,7 @@ use Rattle.wire_core.specs.declared.names.Entry.{Entry}
 use Rattle.wire_core.specs.declared.names.Event.{Event}
 use Rattle.wire_core.specs.Bells.{bit}
 use Rattle.wire_core.specs.Ends.{Role, Consumer, Producer}
-use Rattle.wire_core.specs.Fates.{fate_of, marked, noes_at}
+use Rattle.wire_core.specs.Fates.{Fate, fate_of, marked, noes_at}
 use Rattle.wire_core.specs.Journal.{EachMoment, History, history_at}
 use Rattle.wire_core.specs.Deeds.{Cargo}
 use Rattle.wire_core.specs.Lists.{Passed}
