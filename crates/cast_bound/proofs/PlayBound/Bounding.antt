@@ -1,4 +1,4 @@
-use Rattle.std.proofs.Common.{◌<◌, ◌≤◌, ◌+◌, ◌*◌, List, [], length, sym, subst}
+use Rattle.std.proofs.Common.{◌≡◌, ◌<◌, ◌≤◌, ◌+◌, ◌*◌, List, [], length, sym, subst}
 use Rattle.wire_core.specs.declared.names.Entry.{Entry}
 use Rattle.wire_core.specs.Journal.{History, Hostiles, LegalJournal, BellsHold, QueuesFlow}
 use Rattle.wire_core.specs.Marks.{Drops, Brisk, AreOwned, all_sent, dropped}
