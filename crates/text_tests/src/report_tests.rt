@@ -7,11 +7,6 @@ use sdf_plan::Place;
 use std::alloc::Global;
 use std::test::Fail;
 
-// The text of a place.
-fn place_text(alloc: Global, place: Place) -> Result<String, Fail> {
-    Ok(write_place(alloc, place)?)
-}
-
 // The text of a report.
 fn report_text(alloc: Global, report: &Report) -> Result<String, Fail> {
     Ok(write_report(alloc, report)?)
@@ -41,7 +36,7 @@ fn places_print_as_the_keys_that_lead_to_them(rt: HostRuntime) -> Result<(), Fai
         (Place::BlkClient(4294967295), "blk.client[4294967295]"),
     ];
     for (place, text) in rows {
-        let printed = place_text(alloc, place)?;
+        let printed = write_place(alloc, place)?;
         assert!(rt; printed.as_str() == text, "{text}");
     }
     Ok(())
