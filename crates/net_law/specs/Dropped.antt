@@ -20,7 +20,8 @@ use Rattle.net_law.specs.Parts.Numbers.{client_first, policy_at}
 abbrev pub frame_marks : EthDevice → List Event → List Bool
 frame_marks d calls = cond d.drops (frames_dropped d calls) []
 
--- of the leases that a copier took, where it may drop, whether each was dropped, as these calls tell
+-- of the leases that a copier took, where it may drop, whether each was dropped, as these calls
+-- tell
 abbrev pub lease_marks : NetCopier → List Event → List Bool
 lease_marks c calls = cond c.drops (leases_dropped c calls) []
 
@@ -53,8 +54,8 @@ sends_upon Sink mac got = []
 sends_upon (Source script) mac got = script
 sends_upon Echo mac got = map (λ frame. turned_round frame mac) got
 
--- at a device's ends entries, whatever their bodies are, have these items; by the calls it looked in
--- vain for a buffer as often; and it used up no more frames than there are
+-- at a device's ends entries, whatever their bodies are, have these items; by the calls it looked
+-- in vain for a buffer as often; and it used up no more frames than there are
 pub record TellsDevice (d : EthDevice) (passed : Passed) (m : Moved) : Type 0 where
   pub items : AreItemsOf (device_ends d) passed m
   pub noes : noes_at Consumer (rx_free d) passed.calls ≡ m.noes Consumer (rx_free d)

@@ -5,8 +5,8 @@ use Rattle.play_core.specs.Sheets.{Scene}
 use Rattle.net_law.specs.Parts.Parts.{NetPart, NetDevice, NetDriver, NetReceiver, NetCopier}
 use Rattle.net_law.specs.Parts.Parts.{NetClient}
 
--- what is said of an actor reads no frame but those that are accepted: of the receiving virtualiser,
--- since no more came to it
+-- what is said of an actor reads no frame but those that are accepted: of the receiving
+-- virtualiser, since no more came to it
 abbrev pub ReadsWithin : Scene → NetPart → Moved → Type 0
 ReadsWithin scene (NetReceiver active free pool clients) m =
     length (m.taken active) ≤ length scene.frames

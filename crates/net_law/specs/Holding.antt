@@ -1,5 +1,5 @@
--- The network where its device and its copiers wait for buffers: what is then said of them, and of a
--- client by the frames that are for it.
+-- The network where its device and its copiers wait for buffers: what is then said of them, and of
+-- a client by the frames that are for it.
 use Rattle.std.specs.Prelude.{◌≡◌, ◌+◌, ◌&&◌, ◌<◌, ◌≤◌, ℕ, true, not, nat_lt, List, [], ◌∷◌}
 use Rattle.std.specs.Prelude.{◌++◌, length, map, take}
 use Rattle.cargo_core.specs.Lists.{IsPrefix}

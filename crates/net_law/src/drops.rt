@@ -2,12 +2,12 @@
 //! those that are left, what is said where both wait, and that the same is said as more frames are
 //! accepted.
 
-ghost use Rattle.std.specs.Prelude.{◌≡◌, ◌++◌, ◌≤◌, false, true, ℕ, Bool, List, [], length, map};
+ghost use Rattle.std.specs.Prelude.{◌≡◌, ◌+◌, ◌++◌, ◌≤◌, false, true, ℕ, Bool, List, [], length, map};
 ghost use Rattle.cargo_core.specs.Lists.{IsPrefix};
 ghost use Rattle.frame_core.specs.declared.mac.Mac.{Mac};
 ghost use Rattle.wire_core.specs.declared.names.Event.{Event};
 ghost use Rattle.wire_core.specs.Ends.{Consumer};
-ghost use Rattle.wire_core.specs.Fates.{without};
+ghost use Rattle.wire_core.specs.Fates.{without, marked};
 ghost use Rattle.wire_core.specs.Lists.{Passed};
 ghost use Rattle.play_core.specs.Moved.{Moved, gone_at};
 ghost use Rattle.play_core.specs.Sheets.{Scene};
@@ -25,7 +25,7 @@ ghost use Rattle.net_copier.specs.Copying.{CopierRow, leases_dropped};
 ghost use Rattle.net_copier.specs.declared.NetCopier.{NetCopier};
 ghost use Rattle.net_law.specs.Parts.Parts.{NetPart, NetDevice, NetCopier as CopierPart};
 ghost use Rattle.net_law.specs.Parts.Parts.{NetClient as ClientPart};
-ghost use Rattle.net_law.specs.Delivering.{HasRoomToSend};
+ghost use Rattle.net_law.specs.Delivering.{HasRoomToSend, IsSubsequence};
 ghost use Rattle.net_law.specs.Parts.Numbers.{device_at, copier_at, policy_at};
 ghost use Rattle.net_law.specs.Parts.Playing.{AreLeases, device_part, copier_part};
 ghost use Rattle.net_law.specs.Parts.Rows.{FillsOut, CopiesOut, accepted_by, is_answering};
@@ -71,8 +71,8 @@ pub fn number_law()
 {}
 
 /// The frames that a client puts to be sent are a beginning of those that it sends by its program
-/// where it gets what its copier left of the frames for it; where nothing is marked, these are those
-/// that it sends where it gets all frames for it.
+/// where it gets what its copier left of the frames for it; where nothing is marked, these are
+/// those that it sends where it gets all frames for it.
 pub fn sends_law()
     ensures begins { (c : NetClient) (mac : Mac) (frames : List (List ℕ)) (marks : List Bool)
         (passed : Passed) → c.program.mac ≡ mac → (row : ClientRow c passed)
@@ -83,9 +83,25 @@ pub fn sends_law()
         → sends_upon program mac (left_for [] mac frames) ≡ sends_of program mac frames }
 {}
 
+/// What a client gets is some of the frames for it, and what it sends is some of what it sends where
+/// it gets all of them, whatever was dropped; what it gets lacks as many as are marked, where these
+/// are no more than there are.
+pub fn left_law()
+    ensures part { (drops : Bool) (used marks : List Bool) (mac : Mac) (frames : List (List ℕ))
+        → IsSubsequence (left_for marks mac (accepted_by drops used frames))
+        (frames_for mac frames) }
+    ensures sends { (program : Program) (drops : Bool) (used marks : List Bool) (mac : Mac)
+        (frames : List (List ℕ)) → IsSubsequence
+        (sends_upon program mac (left_for marks mac (accepted_by drops used frames)))
+        (sends_of program mac frames) }
+    ensures long { (marks : List Bool) (mac : Mac) (frames : List (List ℕ))
+        → length marks ≤ length (frames_for mac frames)
+        → length (left_for marks mac frames) + marked marks ≡ length (frames_for mac frames) }
+{}
+
 /// Where the device waits, and a copier, all that is said of them is what is said where nothing is
-/// dropped: rows both ways, wants and numbers that are due. So it is of a client, by the frames that
-/// are for it, where those that came to an echo are as long as the first of these.
+/// dropped: rows both ways, wants and numbers that are due. So it is of a client, by the frames
+/// that are for it, where those that came to an echo are as long as the first of these.
 pub fn hold_law()
     ensures device { (scene : Scene) (rf ra ta tf : ℕ) (frames : List (List ℕ)) (m : Moved)
         → (net_sheet scene (NetDevice rf ra ta tf frames false)).row m

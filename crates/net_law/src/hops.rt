@@ -11,9 +11,9 @@ ghost use Rattle.net_law.specs.TxParts.Numbers.{NetPlace};
 ghost use Rattle.net_law.specs.Hops.Hops.{net_put, net_gone, net_moves, IsNetwork};
 
 /// Where the queues hand over in order and the rows of the class's actors hold, no more was put to
-/// its queues, and dropped by its device and its copiers, than the moves that are counted for it: of
-/// each frame that the device receives, four and ten for each client; of each frame of a script, six;
-/// two for each buffer in which the device receives, and one for each in which a client does.
+/// its queues, and dropped by its device and its copiers, than the moves that are counted for it:
+/// of each frame that the device receives, four and ten for each client; of each frame of a script,
+/// six; two for each buffer in which the device receives, and one for each in which a client does.
 pub fn hop_law()
     ensures { (scene : Scene) (frames : List (List ℕ)) (hostile : Hostiles) (history : History)
         (rows : List QueueRow) (journal : List Entry) (net : NetPlace)

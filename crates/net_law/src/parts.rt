@@ -47,11 +47,11 @@ pub fn table_law()
     ensures follow { (scene : Scene) (p : NetPart) → NeedsFollow (net_sheet scene p) }
 {}
 
-/// The rows of the actors, of entries with their bodies, say of the items what the table says: of the
-/// device and of a copier with those frames dropped that its calls tell. A copier's does where it
-/// took leases alone, each as long as its item says; the virtualiser's where the frames that it took
-/// are those of their places and none came out of turn; an echo's where each entry that came to it
-/// has a whole frame.
+/// The rows of the actors, of entries with their bodies, say of the items what the table says: of
+/// the device and of a copier with those frames dropped that its calls tell. A copier's does where
+/// it took leases alone, each as long as its item says; the virtualiser's where the frames that it
+/// took are those of their places and none came out of turn; an echo's where each entry that came
+/// to it has a whole frame.
 pub fn row_law()
     ensures device { (scene : Scene) (d : EthDevice) (passed : Passed) (m : Moved)
         → TellsDevice d passed m → DeviceRow d passed

@@ -1,8 +1,8 @@
 //! The whole network at the layout's queues. At any moment nothing comes out of turn there, each
 //! client's record is a beginning of the frames for it without those that the device or its copier
 //! dropped, the wire is a merge of beginnings of what the clients send, and its actors have of each
-//! pool what the table of owners says. Where nobody is runnable, every frame came to each client that
-//! it is for or was dropped, and all that the clients send is on the wire.
+//! pool what the table of owners says. Where nobody is runnable, every frame came to each client
+//! that it is for or was dropped, and all that the clients send is on the wire.
 #![tactic(auto)]
 
 ghost use Rattle.std.specs.Prelude.{◌≡◌, ℕ, Bool, List};
@@ -35,9 +35,9 @@ pub mod tx_cast;
 pub mod tx_owners;
 pub mod tx_turns;
 
-/// Where nobody is runnable, all frames are used up, and those that the device accepted went through
-/// to the clients that they are for, but for those that a client's copier dropped; and all that the
-/// clients send by their programs, where these came to them, went through to the device.
+/// Where nobody is runnable, all frames are used up, and those that the device accepted went
+/// through to the clients that they are for, but for those that a client's copier dropped; and all
+/// that the clients send by their programs, where these came to them, went through to the device.
 pub fn still_law()
     ensures arrives { (hostile : Hostiles) (history : History) (rows : List QueueRow)
         (actors : Needful) (journal : List Entry) (scene : Scene) (frames : List (List ℕ))
@@ -51,11 +51,11 @@ pub fn still_law()
         → SendsAll net (moved history journal) }
 {}
 
-/// So the actors, of whose entries these are the items, recorded all, with those frames dropped that
-/// their calls tell: each client the frames that the device accepted and that are for its address,
-/// without those that its copier dropped, and the device a merge of all that the clients send by
-/// their programs where they get these, where no client is hostile and each put good descriptors
-/// alone.
+/// So the actors, of whose entries these are the items, recorded all, with those frames dropped
+/// that their calls tell: each client the frames that the device accepted and that are for its
+/// address, without those that its copier dropped, and the device a merge of all that the clients
+/// send by their programs where they get these, where no client is hostile and each put good
+/// descriptors alone.
 pub fn whole_law()
     ensures records { (hostile : Hostiles) (history : History) (rows : List QueueRow)
         (actors : Needful) (journal : List Entry) (scene : Scene) (frames : List (List ℕ))

@@ -18,8 +18,8 @@ pub record Lessee : Type 0 where
   pub mac : Mac
 
 -- an actor of the network's receive half and its queues: a device with the frames that it receives,
--- which it may drop or not, a virtualiser with the pool that it lends and its clients, a copier that
--- may drop or not, and a client with its program, its address and its two pools
+-- which it may drop or not, a virtualiser with the pool that it lends and its clients, a copier
+-- that may drop or not, and a client with its program, its address and its two pools
 pub data NetPart : Type 0 where
   NetDevice : (rx_free rx_active tx_active tx_free : ℕ) (frames : List (List ℕ)) (drops : Bool)
       → NetPart

@@ -30,10 +30,10 @@ sized_items (n ∷ ns) (item ∷ items) = with_len n item ∷ sized_items ns ite
 abbrev pub accepted_by : (drops : Bool) → (marks : List Bool) → List (List ℕ) → List (List ℕ)
 accepted_by drops marks frames = cond drops (without marks (take (length marks) frames)) frames
 
--- what a device may have put that looked in vain for a buffer so often: the buffers that it took, in
--- their order and each with the length of the accepted frame of its place, of which it took no more
--- than frames are accepted; it used up no more frames than there are; as many are marked as looks
--- were in vain; and what was sent, as it came
+-- what a device may have put that looked in vain for a buffer so often: the buffers that it took,
+-- in their order and each with the length of the accepted frame of its place, of which it took no
+-- more than frames are accepted; it used up no more frames than there are; as many are marked as
+-- looks were in vain; and what was sent, as it came
 pub record FillsOut (marks : List Bool) (drops : Bool) (gone : ℕ) (frames : List (List ℕ))
     (buffers gave came back : List Item) : Type 0 where
   pub filled : IsPrefix gave
@@ -56,9 +56,9 @@ AllCopy ways m = (k : ℕ) (w : Way) → slice_get ways k ≡ Some w
     → IsPrefix (m.sent w.output) (m.taken w.input)
 
 -- what a copier may have put that dropped so many leases, those that are marked: the buffers that
--- it took, in their order and each with the length of the lease of its place among those that weren't
--- dropped, of which it took no more, with the dropped leases, than leases; and the leases as they
--- came, no more of them than buffers and dropped leases
+-- it took, in their order and each with the length of the lease of its place among those that
+-- weren't dropped, of which it took no more, with the dropped leases, than leases; and the leases
+-- as they came, no more of them than buffers and dropped leases
 pub record CopiesOut (marks : List Bool) (gone : ℕ) (leases buffers gave back : List Item) :
     Type 0 where
   pub copies : IsPrefix gave (sized_items (map len_of (without marks leases)) buffers)
@@ -85,7 +85,8 @@ given_items w = map (given_item w) (numbers_from 0 w.buffers)
 abbrev pub answer_len : Mac → ℕ → ℕ
 answer_len mac n = if nat_le 14 n then 6 + length mac.0 + (n - 12) else n
 
--- how long the frames are that the client of an address sends by its program, where these came to it
+-- how long the frames are that the client of an address sends by its program, where these came to
+-- it
 abbrev pub sent_lens : Program → Mac → (came : List Item) → List ℕ
 sent_lens Sink mac came = []
 sent_lens (Source script) mac came = map (λ frame. length frame) script

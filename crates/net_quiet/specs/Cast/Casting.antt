@@ -32,7 +32,8 @@ abbrev pub kept_frames : (first : ℕ) → (device_drops : Bool) → List (List 
 kept_frames first device_drops frames calls =
     accepted_by device_drops (told_used device_drops first calls) frames
 
--- a device receives these frames at the first two queues, which it may drop or not, and its row holds
+-- a device receives these frames at the first two queues, which it may drop or not, and its row
+-- holds
 pub record IsDeviceAt (first : ℕ) (device_drops : Bool) (frames : List (List ℕ)) (d : EthDevice)
     (passed : Passed) : Type 0 where
   pub free : rx_free d ≡ first
@@ -46,8 +47,8 @@ pub record IsDriverAt (first : ℕ) (p : Pipes (Pipes (Pipes Pipe))) (passed : P
   pub part : driver_part (four_pipes p) ≡ driver_at first
   pub row : PipesRow (four_pipes p) passed
 
--- a receiving virtualiser lends this pool's buffers to clients with these addresses, to each of whom
--- it has a queue each way; and its row holds
+-- a receiving virtualiser lends this pool's buffers to clients with these addresses, to each of
+-- whom it has a queue each way; and its row holds
 pub record IsReceiverAt (first : ℕ) (pool : PoolAt) (macs : List Mac) (v : NetVirtRx)
     (passed : Passed) : Type 0 where
   pub part : receiver_part v ≡ receiver_at first pool macs
