@@ -148,7 +148,7 @@ pub fn hold_law()
 
 /// Where as many frames are accepted as came to the receiving virtualiser, the same is said as more
 /// are accepted: rows both ways, wants and numbers that are due. More are as more frames are used
-/// up.
+/// up, and as more calls are made; and of more frames a client gets more, after those that it got.
 pub fn grow_law()
     ensures row { (scene grown : Scene) → IsPrefix scene.frames grown.frames
         → (p : NetPart) (m : Moved) → ReadsWithin scene p m
@@ -164,4 +164,10 @@ pub fn grow_law()
         → (net_sheet scene p).dues m ≡ (net_sheet grown p).dues m }
     ensures accepted { (drops : Bool) (marks more : List Bool) (frames : List (List ℕ))
         → IsPrefix (accepted_by drops marks frames) (accepted_by drops (marks ++ more) frames) }
+    ensures calls { (drops : Bool) (free : ℕ) (calls more : List Event) (frames : List (List ℕ))
+        → IsPrefix (accepted_by drops (told_used drops free calls) frames)
+        (accepted_by drops (told_used drops free (calls ++ more)) frames) }
+    ensures left { (marks : List Bool) (mac : Mac) (frames grown : List (List ℕ))
+        → IsPrefix frames grown → length marks ≤ length (frames_for mac frames)
+        → IsPrefix (left_for marks mac frames) (left_for marks mac grown) }
 {}

@@ -2,7 +2,7 @@
 //! actors, that their needs follow from it, and that their own rows say it of items, since nothing
 //! comes out of turn.
 
-ghost use Rattle.std.specs.Prelude.{◌≡◌, ℕ, Bool, Some, List, [], length, slice_get};
+ghost use Rattle.std.specs.Prelude.{◌≡◌, ◌≤◌, ℕ, Bool, Some, List, [], length, slice_get};
 ghost use Rattle.cargo_core.specs.Lists.{IsPrefix};
 ghost use Rattle.frame_core.specs.declared.mac.Mac.{Mac};
 ghost use Rattle.wire_core.specs.Deeds.{Cargo};
@@ -80,7 +80,8 @@ pub fn own_law()
 {}
 
 /// On its way round nothing comes out of turn, whatever the clients do: not at the virtualiser,
-/// which takes the frames of their places among those that the device accepted; and a copier takes
+/// which takes the frames of their places among those that the device accepted, and no more; and a
+/// copier takes
 /// leases alone, each as long as its item says and of one of the device's frames. Each client's
 /// record is a beginning of the accepted frames that are for it without those that its copier
 /// dropped, and each entry that came to it has a whole frame.
@@ -92,6 +93,9 @@ pub fn turn_law()
         (copiers : List NetCopier) (passed : Passed) → IsReceiveHalf d p v copiers passed
         → (k : ℕ) (c : Cargo) → slice_get (passed.taken v.ends.input.queue.0) k ≡ Some c
         → frame_of c ≡ frame_at (accepted d passed.calls) k }
+    ensures within { (d : EthDevice) (p : Pipes (Pipes (Pipes Pipe))) (v : NetVirtRx)
+        (copiers : List NetCopier) (passed : Passed) → IsReceiveHalf d p v copiers passed
+        → length (passed.taken v.ends.input.queue.0) ≤ length (accepted d passed.calls) }
     ensures leases { (d : EthDevice) (p : Pipes (Pipes (Pipes Pipe))) (v : NetVirtRx)
         (copiers : List NetCopier) (passed : Passed) → IsReceiveHalf d p v copiers passed
         → (k : ℕ) (c : NetCopier) → slice_get copiers k ≡ Some c

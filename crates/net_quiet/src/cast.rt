@@ -3,7 +3,7 @@
 //! for it. What is asked of a buffer's room follows from the buffers that the actors had at the
 //! start.
 
-ghost use Rattle.std.specs.Prelude.{◌≡◌, ◌<◌, ℕ, Bool, Some, List, [], length, slice_get};
+ghost use Rattle.std.specs.Prelude.{◌≡◌, ◌+◌, ◌<◌, ◌≤◌, ℕ, Bool, Some, List, [], length, slice_get};
 ghost use Rattle.cargo_core.specs.Lists.{IsPrefix};
 ghost use Rattle.frame_core.specs.declared.mac.Mac.{Mac};
 ghost use Rattle.wire_core.specs.Lists.{Passed};
@@ -19,8 +19,8 @@ ghost use Rattle.net_law.specs.Dropped.{left_for, told_marks};
 ghost use Rattle.net_quiet.specs.Cast.Casting.{IsCast, IsClientAt, kept_frames};
 
 /// Nothing comes out of turn at the receiving virtualiser, which takes the frames of their places
-/// among those that the device accepted, nor at a copier, which takes leases alone, each as long as
-/// its item says. Each client's record is a beginning of the accepted frames that are for its
+/// among those that the device accepted, and no more, nor at a copier, which takes leases alone,
+/// each as long as its item says. Each client's record is a beginning of the accepted frames that are for its
 /// address without those that its copier dropped, and each entry that came to it has a whole frame.
 pub fn cast_law()
     ensures turn { (first : ℕ) (device_drops : Bool) (frames : List (List ℕ)) (pool : PoolAt)
@@ -32,6 +32,11 @@ pub fn cast_law()
         → (h : IsCast first device_drops frames pool macs drops passed)
         → TakesFrames (frame_at (kept_frames first device_drops frames passed.calls)) h.receiver
         passed }
+    ensures within { (first : ℕ) (device_drops : Bool) (frames : List (List ℕ)) (pool : PoolAt)
+        (macs : List Mac) (drops : List Bool) (passed : Passed)
+        → IsCast first device_drops frames pool macs drops passed
+        → length (passed.taken (first + 4))
+        ≤ length (kept_frames first device_drops frames passed.calls) }
     ensures leases { (first : ℕ) (device_drops : Bool) (frames : List (List ℕ)) (pool : PoolAt)
         (macs : List Mac) (drops : List Bool) (passed : Passed)
         → IsCast first device_drops frames pool macs drops passed → (k : ℕ) → k < length macs

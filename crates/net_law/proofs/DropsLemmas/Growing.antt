@@ -1,9 +1,10 @@
-use Rattle.std.proofs.Common.{◌≡◌, ◌+◌, ◌*◌, ◌++◌, ◌<◌, ◌≤◌, ◌-◌, ◌||◌, ℕ, zero, suc, Bool, true, false, cond, not, nat_lt, if◌then◌else◌, Option, Some, List, [], ◌∷◌, length, map, flat_map, take, slice_get, slice_index_or, sum_by, refl, sym, ap, ap₂, ◌∙◌, subst, arith}
+use Rattle.std.proofs.Common.{◌≡◌, ◌+◌, ◌*◌, ◌++◌, ◌<◌, ◌≤◌, ◌-◌, ◌||◌, ℕ, zero, suc, Bool, true, false, cond, not, nat_lt, if◌then◌else◌, Option, Some, List, [], ◌∷◌, length, map, flat_map, take, slice_get, slice_index_or, sum_by, refl, sym, ap, ap₂, ◌∙◌, append_assoc, inl, subst, arith}
 use Rattle.std.proofs.lemmas.List.{length-map, append-nil}
 use Rattle.std.proofs.lemmas.List.Sums.{sum_by-cons}
 use Rattle.cargo_core.specs.Lists.{IsPrefix}
 use Rattle.cargo_core.specs.declared.item.Item.{Item}
 use Rattle.frame_core.specs.declared.mac.Mac.{Mac}
+use Rattle.wire_core.specs.declared.names.Event.{Event}
 use Rattle.wire_core.specs.Bells.{bit}
 use Rattle.wire_core.specs.Fates.{without}
 use Rattle.play_core.specs.Moved.{Moved}
@@ -12,12 +13,16 @@ use Rattle.play_core.specs.Wants.{Want, intake_want, outlet_want}
 use Rattle.owner_law.specs.Things.{Buffer, names_in, times}
 use Rattle.owner_law.proofs.Counting.{below_same}
 use Rattle.owner_law.specs.Pools.Places.{PoolAt, by_address, by_offset}
-use Rattle.class_expect.specs.NetExpect.Expecting.{is_for_client}
+use Rattle.class_expect.specs.NetExpect.Expecting.{frames_for, is_for_client}
+use Rattle.device_model.specs.Ethernet.Devices.{frame_mark}
+use Rattle.net_law.specs.Dropped.{left_for, told_used}
 use Rattle.net_law.specs.Growing.{ReadsWithin}
 use Rattle.net_law.specs.Owners.Lending.{Borrower, Lender, leases_back, leases_due, names_where}
 use Rattle.net_law.specs.Parts.Parts.{NetPart, NetDevice, NetDriver, NetReceiver, NetCopier, NetClient, Lessee}
 use Rattle.net_law.specs.Parts.Rows.{SharesFrames, accepted_by, borrower_of, but_last, frame_at, is_lent, lease_item, leases_from, lender_of}
 use Rattle.net_law.specs.Parts.Table.{frees_due, is_busy, is_short, leases_of, lessee_wants, net_sheet, some_owed}
+use Rattle.net_law.proofs.Beginnings.{begins_filter}
+use Rattle.net_law.proofs.DeliveringLemmas.Leaving.{begins_without}
 use Rattle.net_law.proofs.PartsLemmas.Counting.{numbered}
 use Rattle.net_law.proofs.PartsLemmas.Pairs.{flat_alike}
 
@@ -200,3 +205,16 @@ left_grows (false ∷ bs) more (x ∷ xs) = let rest = left_grows bs more xs in 
 pub accepted_grows : (drops : Bool) (marks more : List Bool) (frames : List (List ℕ)) → IsPrefix (accepted_by drops marks frames) (accepted_by drops (marks ++ more) frames)
 accepted_grows true marks more frames = left_grows marks more frames
 accepted_grows false marks more frames = ([], append-nil frames)
+
+flat_parts : {S T : Type 0} (f : S → List T) (xs ys : List S) → flat_map f (xs ++ ys) ≡ flat_map f xs ++ flat_map f ys
+flat_parts f [] ys = refl
+flat_parts f (x ∷ xs) ys = ap (λ l. f x ++ l) (flat_parts f xs ys) ∙ sym (append_assoc (f x) (flat_map f xs) (flat_map f ys))
+
+-- more calls use up more frames
+pub calls_grow : (drops : Bool) (free : ℕ) (calls more : List Event) (frames : List (List ℕ)) → IsPrefix (accepted_by drops (told_used drops free calls) frames) (accepted_by drops (told_used drops free (calls ++ more)) frames)
+calls_grow true free calls more frames =
+    subst (λ bs. IsPrefix (accepted_by true (told_used true free calls) frames) (accepted_by true bs frames)) (sym (flat_parts (frame_mark true free) calls more)) (left_grows (told_used true free calls) (told_used true free more) frames)
+calls_grow false free calls more frames = ([], append-nil frames)
+
+pub left_begins : (marks : List Bool) (mac : Mac) (frames grown : List (List ℕ)) → IsPrefix frames grown → length marks ≤ length (frames_for mac frames) → IsPrefix (left_for marks mac frames) (left_for marks mac grown)
+left_begins marks mac frames grown begins few = begins_without marks (frames_for mac frames) (frames_for mac grown) (inl few) (begins_filter (is_for_client mac) frames grown begins)

@@ -1,7 +1,7 @@
 use Rattle.std.proofs.Common.{◌≡◌, ◌==◌, ◌+◌, ◌*◌, ◌++◌, ◌<◌, ◌≤◌, ℕ, zero, suc, Bool, true, false, nat_le, cond, Some, List, [], ◌∷◌, length, map, drop, slice_get, slice_index_or, refl, sym, ap, ◌∙◌, subst, arith, eq-eqb, inl, inr}
 use Rattle.std.specs.List.{filter}
 use Rattle.std.proofs.lemmas.Bool.{lt-leb, leb-true}
-use Rattle.std.proofs.lemmas.List.{length-append, length-drop}
+use Rattle.std.proofs.lemmas.List.{length-append, length-drop, length-map}
 use Rattle.cargo_core.specs.Lists.{IsPrefix, replaced}
 use Rattle.cargo_core.specs.declared.item.Item.{Item}
 use Rattle.cargo_core.specs.declared.item.Item.TheVariants as ItemOf
@@ -11,6 +11,7 @@ use Rattle.wire_core.specs.Bells.{bit}
 use Rattle.wire_core.specs.Deeds.{Cargo}
 use Rattle.wire_core.specs.Lists.{Passed, if_there}
 use Rattle.play_core.proofs.Lists.{some_is, map_get}
+use Rattle.play_core.proofs.Walks.{begins_few}
 use Rattle.turn_kit.specs.declared.pipe.Pipe.{Pipe}
 use Rattle.pipe_driver.specs.declared.pipes.Pipes.{Pipes}
 use Rattle.wire_core.specs.Fates.{without}
@@ -219,6 +220,9 @@ module _ (d : EthDevice) (p : Pipes (Pipes (Pipes Pipe))) (v : NetVirtRx) (copie
   came_frames =
       let filled = all_filled kept free in
       begins_on (map frame_of came) (map frame_of filled) kept (begins_map frame_of came filled came_filled) (frames_are kept free h.room_at_device)
+
+  pub came_few : length came ≤ length kept
+  came_few = let few = begins_few (map frame_of came) kept came_frames in let many = length-map came frame_of in omega (arith, few, many)
 
   kept_there : (k : ℕ) (c : Cargo) → slice_get came k ≡ Some c → slice_get kept k ≡ Some (frame_of c)
   kept_there k c at = prefix_get (map frame_of came) kept came_frames k (frame_of c) (map_get frame_of came k c at)

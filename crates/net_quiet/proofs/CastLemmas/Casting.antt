@@ -32,7 +32,7 @@ use Rattle.net_law.specs.Parts.Playing.{AreLeases, AreWhole}
 use Rattle.net_law.specs.Parts.Turning.{IsReceiveHalf, IsClient}
 use Rattle.net_law.proofs.PartsLemmas.Items.{all_at}
 use Rattle.net_law.proofs.PartsLemmas.Leasing.{prefix_get}
-use Rattle.net_law.proofs.PartsLemmas.Turning.{all_in_turn, frames_of_places, copiers_take, copiers_read, records_begin, all_whole}
+use Rattle.net_law.proofs.PartsLemmas.Turning.{all_in_turn, came_few, frames_of_places, copiers_take, copiers_read, records_begin, all_whole}
 use Rattle.net_law.proofs.DeliveringLemmas.Reaching.{accepted_part}
 use Rattle.net_law.proofs.DropsLemmas.Leaving.{left_there, part_there}
 use Rattle.net_law.proofs.DropsLemmas.Numbering.{marks_are}
@@ -176,6 +176,13 @@ module _ (first : ℕ) (device_drops : Bool) (frames : List (List ℕ)) (pool : 
         net_taken (9 + 6 * k) r.0 (omega (arith, lt)) is;
     frames = λ k c at. subst (λ fs. Rattle.buffer_kit.specs.Entries.frame_of c ≡ frame_at fs k) kept_is (frames_of_places h.device h.driver v copiers passed half k c at);
   }
+
+  pub cast_few : length (passed.taken (first + 4)) ≤ length kept
+  cast_few =
+      let few = came_few h.device h.driver v copiers passed half in
+      let there = ap (λ n. length (passed.taken n)) virtualised.0 in
+      let all = ap length kept_is in
+      omega (arith, few, there, all)
 
   pub cast_leases : (k : ℕ) → k < length macs → AreLeases (passed.taken (client_first first k))
   cast_leases k lt =

@@ -1,4 +1,4 @@
-use Rattle.net_law.proofs.DropsLemmas.Growing.{grow_row, grow_back, grow_wants, grow_dues, accepted_grows}
+use Rattle.net_law.proofs.DropsLemmas.Growing.{grow_row, grow_back, grow_wants, grow_dues, accepted_grows, calls_grow, left_begins}
 use Rattle.net_law.proofs.drops.grow_law.Goals as goal
 
 pub returns-clause-row : goal.returns-clause-row
@@ -15,3 +15,9 @@ returns-clause-dues c = grow_dues
 
 pub returns-clause-accepted : goal.returns-clause-accepted
 returns-clause-accepted c = accepted_grows
+
+pub returns-clause-calls : goal.returns-clause-calls
+returns-clause-calls c = calls_grow
+
+pub returns-clause-left : goal.returns-clause-left
+returns-clause-left c = left_begins
