@@ -4,3 +4,4 @@ pub mod Numbering
 pub mod Sending
 pub mod Holding
 pub mod Growing
+pub mod Beside

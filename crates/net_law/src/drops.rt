@@ -3,12 +3,14 @@
 //! accepted.
 
 ghost use Rattle.std.specs.Prelude.{◌≡◌, ◌+◌, ◌++◌, ◌≤◌, false, true, ℕ, Bool, List, [], length, map};
+ghost use Rattle.std.specs.List.{filter};
 ghost use Rattle.cargo_core.specs.Lists.{IsPrefix};
 ghost use Rattle.frame_core.specs.declared.mac.Mac.{Mac};
 ghost use Rattle.wire_core.specs.declared.names.Event.{Event};
-ghost use Rattle.wire_core.specs.Ends.{Consumer};
+ghost use Rattle.wire_core.specs.Ends.{Consumer, Producer, role_of};
 ghost use Rattle.wire_core.specs.Fates.{without, marked};
 ghost use Rattle.wire_core.specs.Lists.{Passed};
+ghost use Rattle.wire_core.specs.Queues.{is_store};
 ghost use Rattle.play_core.specs.Moved.{Moved, gone_at};
 ghost use Rattle.play_core.specs.Sheets.{Scene};
 ghost use Rattle.owner_law.specs.Pools.Places.{PoolAt};
@@ -18,10 +20,11 @@ ghost use Rattle.client_programs.specs.Net.Programs.{program_of};
 ghost use Rattle.client_programs.specs.Net.Clients.{ClientRow, tx_active as sent_out};
 ghost use Rattle.client_programs.specs.declared.net.NetClient.{NetClient};
 ghost use Rattle.device_model.specs.Ethernet.Devices.{DeviceRow, DeviceStandsFor, accepted};
-ghost use Rattle.device_model.specs.Ethernet.Devices.{frames_dropped, rx_free, rx_active};
+ghost use Rattle.device_model.specs.Ethernet.Devices.{DeviceEnd, frames_dropped, rx_free};
+ghost use Rattle.device_model.specs.Ethernet.Devices.{rx_active};
 ghost use Rattle.device_model.specs.Ethernet.Devices.{tx_active, tx_free};
 ghost use Rattle.device_model.specs.declared.ethernet.EthDevice.{EthDevice};
-ghost use Rattle.net_copier.specs.Copying.{CopierRow, leases_dropped};
+ghost use Rattle.net_copier.specs.Copying.{CopierEnd, CopierRow, CopierStandsFor, leases_dropped};
 ghost use Rattle.net_copier.specs.declared.NetCopier.{NetCopier};
 ghost use Rattle.net_law.specs.Parts.Parts.{NetPart, NetDevice, NetCopier as CopierPart};
 ghost use Rattle.net_law.specs.Parts.Parts.{NetClient as ClientPart};
@@ -70,6 +73,23 @@ pub fn number_law()
         → lease_marks c calls ≡ told_marks first drops calls k }
 {}
 
+/// A device and a copier stand for the same where the lists at their ends are the same and they did
+/// the same by their calls: those of others may be left out.
+pub fn alike_law()
+    ensures device { (d : EthDevice) (old new : Passed) (own : Event → Bool)
+        → ((e : Event) → own e ≡ false → DeviceEnd d (role_of e.op) e.queue.0
+        → is_store e.op ≡ true) → filter own new.calls ≡ filter own old.calls
+        → ((n : ℕ) → DeviceEnd d Consumer n → new.taken n ≡ old.taken n)
+        → ((n : ℕ) → DeviceEnd d Producer n → new.sent n ≡ old.sent n)
+        → DeviceStandsFor d old → DeviceStandsFor d new }
+    ensures copier { (c : NetCopier) (old new : Passed) (own : Event → Bool)
+        → ((e : Event) → own e ≡ false → CopierEnd c (role_of e.op) e.queue.0
+        → is_store e.op ≡ true) → filter own new.calls ≡ filter own old.calls
+        → ((n : ℕ) → CopierEnd c Consumer n → new.taken n ≡ old.taken n)
+        → ((n : ℕ) → CopierEnd c Producer n → new.sent n ≡ old.sent n)
+        → CopierStandsFor c old → CopierStandsFor c new }
+{}
+
 /// The frames that a client puts to be sent are a beginning of those that it sends by its program
 /// where it gets what its copier left of the frames for it; where nothing is marked, these are
 /// those that it sends where it gets all frames for it.
@@ -83,9 +103,9 @@ pub fn sends_law()
         → sends_upon program mac (left_for [] mac frames) ≡ sends_of program mac frames }
 {}
 
-/// What a client gets is some of the frames for it, and what it sends is some of what it sends where
-/// it gets all of them, whatever was dropped; what it gets lacks as many as are marked, where these
-/// are no more than there are.
+/// What a client gets is some of the frames for it, and what it sends is some of what it sends
+/// where it gets all of them, whatever was dropped; what it gets lacks as many as are marked, where
+/// these are no more than there are.
 pub fn left_law()
     ensures part { (drops : Bool) (used marks : List Bool) (mac : Mac) (frames : List (List ℕ))
         → IsSubsequence (left_for marks mac (accepted_by drops used frames))

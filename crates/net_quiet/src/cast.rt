@@ -20,8 +20,9 @@ ghost use Rattle.net_quiet.specs.Cast.Casting.{IsCast, IsClientAt, kept_frames};
 
 /// Nothing comes out of turn at the receiving virtualiser, which takes the frames of their places
 /// among those that the device accepted, and no more, nor at a copier, which takes leases alone,
-/// each as long as its item says. Each client's record is a beginning of the accepted frames that are for its
-/// address without those that its copier dropped, and each entry that came to it has a whole frame.
+/// each as long as its item says. Each client's record is a beginning of the accepted frames that
+/// are for its address without those that its copier dropped, and each entry that came to it has a
+/// whole frame.
 pub fn cast_law()
     ensures turn { (first : ℕ) (device_drops : Bool) (frames : List (List ℕ)) (pool : PoolAt)
         (macs : List Mac) (drops : List Bool) (passed : Passed)
