@@ -13,11 +13,11 @@ use Rattle.serial_virt.specs.declared.rx.SerialVirtRx.{SerialVirtRx}
 use Rattle.serial_virt.specs.Sending.{TxStandsFor, TxRow, TxBalances}
 use Rattle.serial_virt.specs.declared.tx.SerialVirtTx.{SerialVirtTx}
 use Rattle.eth_driver.specs.Four.{four_pipes}
-use Rattle.device_model.specs.Ethernet.Devices.{HoldingDeviceStands, HoldingDeviceRow, DeviceBalances}
+use Rattle.device_model.specs.Ethernet.Devices.{DeviceStandsFor, DeviceRow, DeviceBalances}
 use Rattle.device_model.specs.declared.ethernet.EthDevice.{EthDevice}
 use Rattle.net_virt_rx.specs.Receiving.{RxStandsFor as NetRxStandsFor, RxRow as NetRxRow, RxBalances as NetRxBalances}
 use Rattle.net_virt_rx.specs.declared.NetVirtRx.{NetVirtRx}
-use Rattle.net_copier.specs.Copying.{HoldingCopierStands, HoldingCopierRow, CopierBalances}
+use Rattle.net_copier.specs.Copying.{CopierStandsFor, CopierRow, CopierBalances}
 use Rattle.net_copier.specs.declared.NetCopier.{NetCopier}
 use Rattle.client_programs.specs.Net.Clients.{ClientStandsFor, ClientRow, ClientBalances}
 use Rattle.client_programs.specs.declared.net.NetClient.{NetClient}
@@ -46,7 +46,7 @@ as_actor S did w v old new a a' e was is st = record { body = st.body; happened 
 
 -- the row of each kind is that of an actor
 pub rows : ((x : Terminal) (p : Passed) → TerminalStandsFor x p → TerminalRow x p) → ((ps : List Pipe) (p : Passed) → PipesStandFor ps p → PipesRow ps p) → ((x : SerialVirtRx) (p : Passed) → RxStandsFor x p → RxRow x p) → ((x : SerialVirtTx) (p : Passed) → TxStandsFor x p → TxRow x p)
-    → ((x : EthDevice) (p : Passed) → HoldingDeviceStands x p → HoldingDeviceRow x p) → ((x : NetVirtRx) (p : Passed) → NetRxStandsFor x p → NetRxRow x p) → ((x : NetCopier) (p : Passed) → HoldingCopierStands x p → HoldingCopierRow x p) → ((x : NetClient) (p : Passed) → ClientStandsFor x p → ClientRow x p) → ((x : NetVirtTx) (p : Passed) → NetTxStandsFor x p → NetTxRow x p)
+    → ((x : EthDevice) (p : Passed) → DeviceStandsFor x p → DeviceRow x p) → ((x : NetVirtRx) (p : Passed) → NetRxStandsFor x p → NetRxRow x p) → ((x : NetCopier) (p : Passed) → CopierStandsFor x p → CopierRow x p) → ((x : NetClient) (p : Passed) → ClientStandsFor x p → ClientRow x p) → ((x : NetVirtTx) (p : Passed) → NetTxStandsFor x p → NetTxRow x p)
     → ((start : List ℕ) (x : DiskDevice) (p : Passed) → DiskStandsFor start x p → DiskRow start x p) → ((x : BlkVirt) (p : Passed) → BlkVirtStandsFor x p → BlkVirtRow x p) → ((x : BlkClient) (p : Passed) → BlkClientStandsFor x p → BlkClientRow x p)
     → (a : Actor) (p : Passed) → ActorStandsFor a p → ActorRow a p
 rows terminal driver rx tx device lender copier client sender disk server asker (Kinds.UartDevice x) p h = terminal x.terminal p h
@@ -68,7 +68,7 @@ rows terminal driver rx tx device lender copier client sender disk server asker 
 
 -- and so is its balance
 pub balances : ((x : Terminal) (p : Passed) → TerminalStandsFor x p → TerminalBalances x p) → ((ps : List Pipe) (p : Passed) → PipesStandFor ps p → PipesBalance ps p) → ((x : SerialVirtRx) (p : Passed) → RxStandsFor x p → RxBalances x p) → ((x : SerialVirtTx) (p : Passed) → TxStandsFor x p → TxBalances x p)
-    → ((x : EthDevice) (p : Passed) → HoldingDeviceStands x p → DeviceBalances x p) → ((x : NetVirtRx) (p : Passed) → NetRxStandsFor x p → NetRxBalances x p) → ((x : NetCopier) (p : Passed) → HoldingCopierStands x p → CopierBalances x p) → ((x : NetClient) (p : Passed) → ClientStandsFor x p → ClientBalances x p) → ((x : NetVirtTx) (p : Passed) → NetTxStandsFor x p → NetTxBalances x p)
+    → ((x : EthDevice) (p : Passed) → DeviceStandsFor x p → DeviceBalances x p) → ((x : NetVirtRx) (p : Passed) → NetRxStandsFor x p → NetRxBalances x p) → ((x : NetCopier) (p : Passed) → CopierStandsFor x p → CopierBalances x p) → ((x : NetClient) (p : Passed) → ClientStandsFor x p → ClientBalances x p) → ((x : NetVirtTx) (p : Passed) → NetTxStandsFor x p → NetTxBalances x p)
     → ((start : List ℕ) (x : DiskDevice) (p : Passed) → DiskStandsFor start x p → DiskBalances x p) → ((x : BlkVirt) (p : Passed) → BlkVirtStandsFor x p → BlkVirtBalances x p) → ((x : BlkClient) (p : Passed) → BlkClientStandsFor x p → BlkClientBalances x p) → ((x : Rogue) (p : Passed) → RogueStandsFor x p → RogueBalances x p)
     → (a : Actor) (p : Passed) → ActorStandsFor a p → ActorBalances a p
 balances terminal driver rx tx device lender copier client sender disk server asker rogue (Kinds.UartDevice x) p h = terminal x.terminal p h

@@ -12,6 +12,8 @@ pub mod Rounds
 pub mod Rows
 pub mod Rests
 pub mod Alike
+pub mod OthersCalls
+pub mod NetCalls
 pub mod RxBeside
 pub mod Beside
 pub mod Dropping

@@ -23,10 +23,9 @@ use Rattle.pipe_driver.specs.Drivers.{FitsPipes, PipesStandFor, PipesRow, PipesB
 use Rattle.pipe_driver.specs.Drivers.{pipes_round, pipes_hand, pipe_forgotten}
 use Rattle.pipe_driver.specs.Lengths.{two_pipes}
 use Rattle.eth_driver.specs.Four.{four_pipes}
-use Rattle.device_model.specs.Ethernet.Devices.{FitsDevice, HoldingDeviceStands}
-use Rattle.device_model.specs.Ethernet.Devices.{HoldingDeviceRow, DeviceBalances, DeviceEnd}
-use Rattle.device_model.specs.Ethernet.Devices.{holding_device_round}
-use Rattle.device_model.specs.Ethernet.Devices.{device_hand, device_forgotten}
+use Rattle.device_model.specs.Ethernet.Devices.{FitsDevice, DeviceStandsFor}
+use Rattle.device_model.specs.Ethernet.Devices.{DeviceRow, DeviceBalances, DeviceEnd}
+use Rattle.device_model.specs.Ethernet.Devices.{device_round, device_hand, device_forgotten}
 use Rattle.net_virt_rx.specs.Receiving.{FitsRx as FitsNetRx, RxStandsFor as NetRxStandsFor}
 use Rattle.net_virt_rx.specs.Receiving.{RxRow as NetRxRow, RxBalances as NetRxBalances}
 use Rattle.net_virt_rx.specs.Receiving.{RxEnd as NetRxEnd, RxForgot as NetRxForgot}
@@ -40,8 +39,8 @@ use Rattle.net_virt_tx.specs.Sending.{tx_round as net_tx_round}
 use Rattle.net_virt_tx.specs.Traffics.{IsTraffic, bad_count, traffic_hand}
 use Rattle.net_virt_tx.specs.declared.NetVirtTx.{NetVirtTx}
 use Rattle.buffer_kit.specs.Virtualising.{from_queues, to_queues}
-use Rattle.net_copier.specs.Copying.{FitsCopier, HoldingCopierStands, HoldingCopierRow}
-use Rattle.net_copier.specs.Copying.{CopierBalances, CopierEnd, holding_copier_round, copier_hand}
+use Rattle.net_copier.specs.Copying.{FitsCopier, CopierStandsFor, CopierRow}
+use Rattle.net_copier.specs.Copying.{CopierBalances, CopierEnd, copier_round, copier_hand}
 use Rattle.net_copier.specs.Copying.{copier_forgotten}
 use Rattle.client_programs.specs.Net.Clients.{FitsClient, ClientStandsFor, ClientRow}
 use Rattle.client_programs.specs.Net.Clients.{ClientBalances, ClientEnd, client_round}
@@ -82,9 +81,9 @@ HasFewClients v = length v.work.desk.clients.items < 2 ^ 31 - 2
 abbrev pub HasFirst : BlkVirt → Type 0
 HasFirst v = v.work.opening.own.no ≡ 0
 
--- the actor's ends are its own, and as it keeps them; no Ethernet device and no copier drops; a
--- network client's own buffers begin at offset 0, and a block virtualiser has few clients and the
--- first buffer of its pool
+-- the actor's ends are its own, and as it keeps them; no Ethernet device drops; a network client's
+-- own buffers begin at offset 0, and a block virtualiser has few clients and the first buffer of its
+-- pool
 abbrev pub FitsActor : (Role → ℕ → End) → Actor → Type 0
 FitsActor ends (Kinds.UartDevice x) = FitsTerminal ends x.terminal
 FitsActor ends (Kinds.UartDriver x) = FitsPipes ends (two_pipes x.driver.pipes)
@@ -94,7 +93,7 @@ FitsActor ends (Kinds.SerialClient x) = FitsTerminal ends x.terminal
 FitsActor ends (Kinds.EthDevice x) = FitsDevice ends x × (x.drops ≡ false)
 FitsActor ends (Kinds.EthDriver x) = FitsPipes ends (four_pipes x.driver.pipes)
 FitsActor ends (Kinds.NetVirtRx x) = FitsNetRx ends x
-FitsActor ends (Kinds.NetCopier x) = FitsCopier ends x × (x.drops ≡ false)
+FitsActor ends (Kinds.NetCopier x) = FitsCopier ends x
 FitsActor ends (Kinds.NetClient x) = FitsClient ends x × HasBuffers x
 FitsActor ends (Kinds.NetVirtTx x) = FitsNetTx ends x
 FitsActor ends (Kinds.DiskDevice x) = FitsDisk ends x.device
@@ -110,10 +109,10 @@ ActorStandsFor (Kinds.UartDriver x) passed = PipesStandFor (two_pipes x.driver.p
 ActorStandsFor (Kinds.SerialVirtRx x) passed = RxStandsFor x passed
 ActorStandsFor (Kinds.SerialVirtTx x) passed = TxStandsFor x passed
 ActorStandsFor (Kinds.SerialClient x) passed = TerminalStandsFor x.terminal passed
-ActorStandsFor (Kinds.EthDevice x) passed = HoldingDeviceStands x passed
+ActorStandsFor (Kinds.EthDevice x) passed = DeviceStandsFor x passed
 ActorStandsFor (Kinds.EthDriver x) passed = PipesStandFor (four_pipes x.driver.pipes) passed
 ActorStandsFor (Kinds.NetVirtRx x) passed = NetRxStandsFor x passed
-ActorStandsFor (Kinds.NetCopier x) passed = HoldingCopierStands x passed
+ActorStandsFor (Kinds.NetCopier x) passed = CopierStandsFor x passed
 ActorStandsFor (Kinds.NetClient x) passed = ClientStandsFor x passed
 ActorStandsFor (Kinds.NetVirtTx x) passed = NetTxStandsFor x passed
 ActorStandsFor (Kinds.DiskDevice x) passed = DiskStandsFor x.start.value x.device passed
@@ -129,10 +128,10 @@ ActorRow (Kinds.UartDriver x) passed = PipesRow (two_pipes x.driver.pipes) passe
 ActorRow (Kinds.SerialVirtRx x) passed = RxRow x passed
 ActorRow (Kinds.SerialVirtTx x) passed = TxRow x passed
 ActorRow (Kinds.SerialClient x) passed = TerminalRow x.terminal passed
-ActorRow (Kinds.EthDevice x) passed = HoldingDeviceRow x passed
+ActorRow (Kinds.EthDevice x) passed = DeviceRow x passed
 ActorRow (Kinds.EthDriver x) passed = PipesRow (four_pipes x.driver.pipes) passed
 ActorRow (Kinds.NetVirtRx x) passed = NetRxRow x passed
-ActorRow (Kinds.NetCopier x) passed = HoldingCopierRow x passed
+ActorRow (Kinds.NetCopier x) passed = CopierRow x passed
 ActorRow (Kinds.NetClient x) passed = ClientRow x passed
 ActorRow (Kinds.NetVirtTx x) passed = NetTxRow x passed
 ActorRow (Kinds.DiskDevice x) passed = DiskRow x.start.value x.device passed
@@ -215,7 +214,7 @@ IsWhole (Kinds.UartDriver x) = Unit {0}
 IsWhole (Kinds.SerialVirtRx x) = Unit {0}
 IsWhole (Kinds.SerialVirtTx x) = Unit {0}
 IsWhole (Kinds.SerialClient x) = Unit {0}
-IsWhole (Kinds.EthDevice x) = Unit {0}
+IsWhole (Kinds.EthDevice x) = x.drops ≡ false
 IsWhole (Kinds.EthDriver x) = Unit {0}
 IsWhole (Kinds.NetVirtRx x) = IsWholeReceiver x
 IsWhole (Kinds.NetCopier x) = Unit {0}
@@ -236,10 +235,10 @@ actor_round (Kinds.UartDriver x) = pipes_round (two_pipes x.driver.pipes) x.driv
 actor_round (Kinds.SerialVirtRx x) = rx_round x
 actor_round (Kinds.SerialVirtTx x) = tx_round x
 actor_round (Kinds.SerialClient x) = terminal_round x.terminal
-actor_round (Kinds.EthDevice x) = holding_device_round x
+actor_round (Kinds.EthDevice x) = device_round x
 actor_round (Kinds.EthDriver x) = pipes_round (four_pipes x.driver.pipes) x.driver.turn.last
 actor_round (Kinds.NetVirtRx x) = net_rx_round x
-actor_round (Kinds.NetCopier x) = holding_copier_round x
+actor_round (Kinds.NetCopier x) = copier_round x
 actor_round (Kinds.NetClient x) = client_round x
 actor_round (Kinds.NetVirtTx x) = net_tx_round x
 actor_round (Kinds.DiskDevice x) = disk_round x.device
@@ -257,11 +256,11 @@ actor_rests (Kinds.UartDriver x) = is_at_rest (pipes_round
 actor_rests (Kinds.SerialVirtRx x) = is_at_rest (rx_round x)
 actor_rests (Kinds.SerialVirtTx x) = is_at_rest (tx_round x)
 actor_rests (Kinds.SerialClient x) = is_at_rest (terminal_round x.terminal)
-actor_rests (Kinds.EthDevice x) = is_at_rest (holding_device_round x)
+actor_rests (Kinds.EthDevice x) = is_at_rest (device_round x)
 actor_rests (Kinds.EthDriver x) = is_at_rest (pipes_round
     (four_pipes x.driver.pipes) x.driver.turn.last)
 actor_rests (Kinds.NetVirtRx x) = is_at_rest (net_rx_round x)
-actor_rests (Kinds.NetCopier x) = is_at_rest (holding_copier_round x)
+actor_rests (Kinds.NetCopier x) = is_at_rest (copier_round x)
 actor_rests (Kinds.NetClient x) = is_at_rest (client_round x)
 actor_rests (Kinds.NetVirtTx x) = is_at_rest (net_tx_round x)
 actor_rests (Kinds.DiskDevice x) = is_at_rest (disk_round x.device)
@@ -284,11 +283,11 @@ ActorTurned (Kinds.UartDriver x) e y =
 ActorTurned (Kinds.SerialVirtRx x) e y = Turned (rx_round x) e (actor_round y)
 ActorTurned (Kinds.SerialVirtTx x) e y = Turned (tx_round x) e (actor_round y)
 ActorTurned (Kinds.SerialClient x) e y = Turned (terminal_round x.terminal) e (actor_round y)
-ActorTurned (Kinds.EthDevice x) e y = Turned (holding_device_round x) e (actor_round y)
+ActorTurned (Kinds.EthDevice x) e y = Turned (device_round x) e (actor_round y)
 ActorTurned (Kinds.EthDriver x) e y =
     Turned (pipes_round (four_pipes x.driver.pipes) x.driver.turn.last) e (actor_round y)
 ActorTurned (Kinds.NetVirtRx x) e y = Turned (net_rx_round x) e (actor_round y)
-ActorTurned (Kinds.NetCopier x) e y = Turned (holding_copier_round x) e (actor_round y)
+ActorTurned (Kinds.NetCopier x) e y = Turned (copier_round x) e (actor_round y)
 ActorTurned (Kinds.NetClient x) e y = Turned (client_round x) e (actor_round y)
 ActorTurned (Kinds.NetVirtTx x) e y = Turned (net_tx_round x) e (actor_round y)
 ActorTurned (Kinds.DiskDevice x) e y = Turned (disk_round x.device) e (actor_round y)

@@ -119,7 +119,7 @@ IsNew (Kinds.EthDriver x) =
     EachPipe (λ p. IsNewPipe p.input.queue p.output.queue p) (four_pipes x.driver.pipes)
 IsNew (Kinds.NetVirtRx x) = IsNewLender x
 IsNew (Kinds.NetCopier x) = IsNewCopier x.lease_input.queue x.lease_output.queue
-    x.buffer_output.queue x.buffer_input.queue false x
+    x.buffer_output.queue x.buffer_input.queue x.drops x
 IsNew (Kinds.NetClient x) = IsNewClientOf x
 IsNew (Kinds.NetVirtTx x) = IsNewSender x
 IsNew (Kinds.DiskDevice x) =

@@ -270,9 +270,9 @@ pub fn row_law()
     pipe_driver::row_law();
     serial_virt::rx_row_law();
     serial_virt::tx_row_law();
-    device_model::ethernet::drop_law();
+    device_model::ethernet::row_law();
     net_virt_rx::row_law();
-    net_copier::drop_law();
+    net_copier::row_law();
     client_programs::net::row_law();
     net_virt_tx::row_law();
     device_model::disk::row_law();
@@ -289,9 +289,9 @@ pub fn hand_law()
     pipe_driver::hand_law();
     serial_virt::rx_hand_law();
     serial_virt::tx_hand_law();
-    device_model::ethernet::drop_law();
+    device_model::ethernet::hand_law();
     net_virt_rx::hand_law();
-    net_copier::drop_law();
+    net_copier::hand_law();
     client_programs::net::hand_law();
     net_virt_tx::hand_law();
     device_model::disk::hand_law();

@@ -1,6 +1,6 @@
 -- What each actor of a plan is made of, by its job, and actors that are so made.
 use Rattle.std.specs.Prelude.{◌≡◌, ◌+◌, ◌*◌, ℕ, Option, Some, List, [], length, slice_get}
-use Rattle.std.specs.Prelude.{unwrap_or, if◌then◌else◌}
+use Rattle.std.specs.Prelude.{false, unwrap_or, if◌then◌else◌}
 use Rattle.std.specs.Option.{option_map_or}
 use Rattle.sdf_plan.specs.declared.plan.Plan.{Plan}
 use Rattle.trace_text.specs.declared.trace.Trace.{Trace}
@@ -12,6 +12,7 @@ use Rattle.region_layout.specs.Rows.{actors_of, pools_of}
 use Rattle.net_law.specs.Owners.Names.{ClientPools}
 use Rattle.owner_law.specs.Pools.Places.{PoolAt}
 use Rattle.net_law.specs.Parts.Numbers.{device_at, driver_at, receiver_at, copier_at, client_at}
+use Rattle.net_law.specs.Parts.Numbers.{policy_at}
 use Rattle.net_law.specs.TxParts.Numbers.{NetPlace, own_pools, sender_at}
 use Rattle.blk_law.specs.Sheets.Numbers.{BlkPlace, disk_at, blk_driver_at, virt_at, blk_client_at}
 use Rattle.actor_set.specs.Parts.{Part, UartPart, DriverPart, RxPart, TxPart, ClientPart}
@@ -23,6 +24,7 @@ use Rattle.play_core.specs.Sheets.{Scene}
 use Rattle.expect_core.specs.Expected.{client_asks, client_entry}
 use Rattle.cast_core.specs.Sources.{every_second, first_serial, serial_drops, pool_at, pools_at}
 use Rattle.cast_core.specs.Sources.{client_mac, client_program, first_blk, first_blk_pool}
+use Rattle.cast_core.specs.Sources.{net_drops}
 use Rattle.cast_core.specs.Hostile.{acts_at, net_rogue_at, serial_rogue_at, blk_rogue_at}
 use Rattle.layout_laws.specs.Jobs.Jobs.{Job, EthDevice, EthDriver, NetReceiver, NetSender}
 use Rattle.layout_laws.specs.Jobs.Jobs.{NetCopier, NetClient, UartDevice, UartDriver}
@@ -38,10 +40,12 @@ client_pools plan = pools_at (pools_of plan)
 abbrev pub net_place : Plan → Trace → NetPlace
 net_place plan trace = record {
   first = 0;
+  device_drops = false;
   pool = pool_at (pools_of plan) 0;
   macs = per_client (length (net_clients plan)) (client_mac plan);
   pools = per_client (length (net_clients plan)) (client_pools plan);
   programs = per_client (length (net_clients plan)) (client_program plan trace);
+  drops = net_drops plan;
   most = frame_most plan;
 }
 
@@ -62,13 +66,15 @@ blk_place plan trace = record {
 
 -- the part of an actor of a job, where its client isn't hostile
 abbrev pub calm_part : Plan → Trace → Job → Option Part
-calm_part plan trace EthDevice = Some (NetworkPart (device_at 0 trace.frames))
+calm_part plan trace EthDevice =
+    Some (NetworkPart (device_at 0 trace.frames false))
 calm_part plan trace EthDriver = Some (NetworkPart (driver_at 0))
 calm_part plan trace NetReceiver = Some (NetworkPart
     (receiver_at 0 (net_place plan trace).pool (net_place plan trace).macs))
 calm_part plan trace NetSender =
     Some (SendingPart (sender_at 0 (frame_most plan) (net_place plan trace).pools))
-calm_part plan trace (NetCopier c) = Some (NetworkPart (copier_at 0 c))
+calm_part plan trace (NetCopier c) =
+    Some (NetworkPart (copier_at 0 c (policy_at (net_drops plan) c)))
 calm_part plan trace (NetClient c) = Some (NetworkPart
     (client_at 0 c (client_program plan trace c)
     (client_mac plan c) (own_pools (client_pools plan c))))

@@ -45,6 +45,10 @@ abbrev pub is_dropping : Policy → Bool
 is_dropping To.Hold = false
 is_dropping To.Drop = true
 
+-- for each client of the network class whether frames for it may be dropped
+abbrev pub net_drops : Plan → List Bool
+net_drops plan = map (λ (client : NetClient). is_dropping client.policy) (net_clients plan)
+
 -- whether these clients' bytes may be dropped
 abbrev pub drops_of : List SerialClient → List Bool
 drops_of clients = map (λ (client : SerialClient). is_dropping client.policy) clients

@@ -10,7 +10,7 @@ ghost use Rattle.pipe_driver.specs.Drivers.{EachPipe};
 ghost use Rattle.eth_driver.specs.Four.{four_pipes};
 ghost use Rattle.net_copier.specs.Copying.{IsNewCopier};
 ghost use Rattle.net_law.specs.Parts.Numbers.{client_first, device_at, driver_at, receiver_at};
-ghost use Rattle.net_law.specs.Parts.Numbers.{copier_at, client_at};
+ghost use Rattle.net_law.specs.Parts.Numbers.{copier_at, client_at, policy_at};
 ghost use Rattle.net_law.specs.Parts.Playing.{device_part, driver_part, receiver_part};
 ghost use Rattle.net_law.specs.Parts.Playing.{copier_part, client_part};
 ghost use Rattle.net_law.specs.TxParts.Numbers.{own_pools, sender_at};
@@ -19,7 +19,7 @@ ghost use Rattle.actor_set.specs.Actors.{part_of};
 ghost use Rattle.actor_set.specs.StartStates.{IsNew, IsNewReceiving, IsNewLender, IsNewSender};
 ghost use Rattle.actor_set.specs.StartStates.{IsNewClientOf};
 ghost use Rattle.cast_core.specs.Sources.{client_kind, client_mac, client_program, is_echo};
-ghost use Rattle.cast_core.specs.Sources.{pool_at, pools_at};
+ghost use Rattle.cast_core.specs.Sources.{pool_at, pools_at, net_drops};
 ghost use Rattle.trace_text.specs.declared.class.Class.TheVariants as Of;
 ghost use Rattle.layout_laws.specs.Jobs.Jobs as jobs;
 ghost use Rattle.cast_core.specs.Casts.{job_part};
@@ -31,6 +31,7 @@ ghost use Rattle.cast_core.specs.Making.{HasFrames};
 use crate::hostile::net_rogue;
 use crate::jobs::NetJob;
 use crate::pools::{pages, pool_row, ranges, tx_ends};
+use crate::shared::is_dropping;
 use actor_set::Actor;
 use cargo_core::{FrameLog, Memory};
 use client_programs::NetClient;
@@ -119,11 +120,12 @@ fn lease_ends(alloc: Global, plan: &Plan, clients: u16) -> Result<Vec<LeaseEnds>
     Ok(ends)
 }
 
-// The device.
+// The device, which waits for buffers.
 fn device(alloc: Global, trace: &Trace) -> Result<EthDevice, Memory>
     requires { AreShort trace.now.frames }
     ensures new { IfOk result IsNewReceiving }
-    ensures part { IfOk result (λ d. device_part d ≡ device_at 0 trace.now.frames) }
+    ensures part { IfOk result (λ d. device_part d
+        ≡ device_at 0 trace.now.frames false) }
 {
     let frames = copied_frames(alloc, trace.frames())?;
     Ok(EthDevice::new(
@@ -183,12 +185,26 @@ fn sender(alloc: Global, plan: &Plan, pools: &[PoolRow], clients: u16) -> Result
     Ok(NetVirtTx::new(alloc, QueueId(6), QueueId(7), ends, ranges, most)?)
 }
 
+// Whether frames for the client of a number may be dropped.
+fn client_drops(plan: &Plan, client: u16) -> bool
+    ensures { result ≡ policy_at (net_drops plan.now) client }
+{
+    match &plan.net {
+        Some(net) if (client as usize) < net.client.len() => {
+            is_dropping(net.client.get(client as usize).policy)
+        }
+        _ => false,
+    }
+}
+
 // The copier of the client of a number.
-fn copier(client: u16) -> NetCopier
+fn copier(plan: &Plan, client: u16) -> NetCopier
     requires { client < 8 }
     ensures new { IsNewCopier result.lease_input.queue result.lease_output.queue
-        result.buffer_output.queue result.buffer_input.queue false result }
-    ensures part { copier_part result ≡ copier_at 0 client }
+        result.buffer_output.queue result.buffer_input.queue
+        (policy_at (net_drops plan.now) client) result }
+    ensures part { copier_part result
+        ≡ copier_at 0 client (policy_at (net_drops plan.now) client) }
 {
     let first = 8 + 6 * client;
     NetCopier::new(
@@ -196,7 +212,7 @@ fn copier(client: u16) -> NetCopier
         QueueId(first + 1),
         QueueId(first + 2),
         QueueId(first + 3),
-        false,
+        client_drops(plan, client),
     )
 }
 
@@ -291,7 +307,7 @@ pub fn net_actor(
         NetJob::Driver => Ok(Actor::EthDriver(driver())),
         NetJob::Receiver => Ok(Actor::NetVirtRx(receiver(alloc, plan, pools, clients)?)),
         NetJob::Sender => Ok(Actor::NetVirtTx(sender(alloc, plan, pools, clients)?)),
-        NetJob::Copier(c) => Ok(Actor::NetCopier(copier(c))),
+        NetJob::Copier(c) => Ok(Actor::NetCopier(copier(plan, c))),
         NetJob::Client(c) => any_client(alloc, plan, pools, trace, clients, c),
     }
 }

@@ -5,7 +5,7 @@ ghost use Rattle.trace_text.specs.Events.{serial_clients};
 ghost use Rattle.actor_set.specs.Actors.{part_of, numbers};
 ghost use Rattle.actor_set.specs.Parts.{UartPart, DriverPart, RxPart, TxPart, ClientPart};
 ghost use Rattle.actor_set.specs.StartStates.{IsNew};
-ghost use Rattle.cast_core.specs.Sources.{every_second, first_serial, is_dropping, drops_of};
+ghost use Rattle.cast_core.specs.Sources.{every_second, first_serial, drops_of};
 ghost use Rattle.cast_core.specs.Sources.{serial_drops};
 ghost use Rattle.trace_text.specs.declared.class.Class.TheVariants as Of;
 ghost use Rattle.layout_laws.specs.Jobs.Jobs as jobs;
@@ -15,12 +15,12 @@ ghost use Rattle.cast_core.specs.Known.{serial_job, serial_within};
 
 use crate::hostile::serial_rogue;
 use crate::jobs::SerialJob;
-use crate::shared::first_serial;
+use crate::shared::{first_serial, is_dropping};
 use actor_set::Actor;
 use cargo_core::{Bytes, Memory};
 use client_programs::SerialClient;
 use device_model::UartDevice;
-use sdf_plan::{Plan, Policy, SerialClient as Taker};
+use sdf_plan::{Plan, SerialClient as Taker};
 use serial_virt::{SerialVirtRx, SerialVirtTx};
 use std::alloc::Global;
 use trace_text::{Trace, is_serial_rogue};
@@ -63,16 +63,6 @@ fn driver(first: u16) -> UartDriver
         QueueId(first + 2),
         QueueId(first + 3),
     )
-}
-
-// Whether what comes for a client is dropped where there is no room for it.
-fn is_dropping(policy: Policy) -> bool
-    ensures { result ≡ is_dropping policy }
-{
-    match policy {
-        Policy::Hold => false,
-        Policy::Drop => true,
-    }
 }
 
 // Of each client its queue, every second one from a number on, and whether its bytes may be dropped.

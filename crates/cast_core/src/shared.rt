@@ -1,9 +1,9 @@
 //! What the classes share: copies of rows, and where the classes begin.
 ghost use Rattle.std.specs.Prelude.{◌≡◌, ◌≤◌, IfOk};
-ghost use Rattle.cast_core.specs.Sources.{first_serial, first_blk};
+ghost use Rattle.cast_core.specs.Sources.{first_serial, first_blk, is_dropping};
 
 use cargo_core::{Memory, Text};
-use sdf_plan::Plan;
+use sdf_plan::{Plan, Policy};
 use std::alloc::Global;
 use wire_core::QueueRow;
 
@@ -31,6 +31,16 @@ pub fn copies(alloc: Global, rows: &[QueueRow]) -> Result<Vec<QueueRow>, Memory>
         copies.push(copy(alloc, row)?)?;
     }
     Ok(copies)
+}
+
+/// Whether by this policy what comes is dropped where there is no room for it.
+pub fn is_dropping(policy: Policy) -> bool
+    ensures { result ≡ is_dropping policy }
+{
+    match policy {
+        Policy::Hold => false,
+        Policy::Drop => true,
+    }
 }
 
 /// The number of the first queue of the serial class: the queues of the network stand before it.

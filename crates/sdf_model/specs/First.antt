@@ -15,7 +15,7 @@ use Rattle.sdf_model.specs.declared.key.Kind.TheVariants as A
 use Rattle.sdf_model.specs.Keys.{Row, holds, is_kind, keys_at, has_unknown_key, lacks_key}
 use Rattle.sdf_model.specs.Tree.{tables_at, table_at, element_at, IsDocument, IsNoDocument}
 use Rattle.sdf_model.specs.Tree.{version_of}
-use Rattle.sdf_model.specs.Spelled.{number_or, number_at, text_at, region_of, domain_of}
+use Rattle.sdf_model.specs.Spelled.{number_or, number_at, text_at, policy_at, region_of, domain_of}
 use Rattle.sdf_model.specs.Spelled.{channel_of, serial_of, blk_of}
 
 -- the integer is 1
@@ -66,6 +66,7 @@ first_net_client_of t = record {
   rx_capacity = number_at (codes "rx_capacity") t;
   tx_buffers = number_at (codes "tx_buffers") t;
   tx_capacity = number_at (codes "tx_capacity") t;
+  policy = policy_at (codes "policy") t;
   rx_buffer_size = 2048;
   tx_buffer_size = 2048;
 }

@@ -106,7 +106,8 @@ net_client_keys =
     (codes "lease_queues" ∷ codes "rx_region" ∷ codes "rx_queues" ∷ codes "tx_region"
     ∷ codes "tx_queues" ∷ [])
     (all_of A.Number
-    (codes "rx_buffers" ∷ codes "rx_capacity" ∷ codes "tx_buffers" ∷ codes "tx_capacity" ∷ []) [])))
+    (codes "rx_buffers" ∷ codes "rx_capacity" ∷ codes "tx_buffers" ∷ codes "tx_capacity" ∷ [])
+    (row (codes "policy") A.Policy If.Hold ∷ []))))
 
 -- the keys of the serial class
 abbrev pub serial_keys : List Row

@@ -125,6 +125,7 @@ net_client_of t = record {
   rx_capacity = number_at (codes "rx_capacity") t;
   tx_buffers = number_at (codes "tx_buffers") t;
   tx_capacity = number_at (codes "tx_capacity") t;
+  policy = policy_at (codes "policy") t;
   rx_buffer_size = number_or 2048 (codes "rx_buffer_size") t;
   tx_buffer_size = number_or 2048 (codes "tx_buffer_size") t;
 }

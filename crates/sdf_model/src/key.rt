@@ -132,7 +132,7 @@ pub(crate) const NET_MORE: [Key; 2] = keys! {
     rx_buffer_size: Number, Absent::Number(2048);
 };
 
-pub(crate) const NET_CLIENT: [Key; 12] = keys! {
+pub(crate) const NET_CLIENT: [Key; 13] = keys! {
     pd: Name, Absent::Refused;
     copier: Name, Absent::Refused;
     mac: Text, Absent::Refused;
@@ -145,6 +145,7 @@ pub(crate) const NET_CLIENT: [Key; 12] = keys! {
     rx_capacity: Number, Absent::Refused;
     tx_buffers: Number, Absent::Refused;
     tx_capacity: Number, Absent::Refused;
+    policy: Policy, Absent::Hold;
 };
 
 /// The keys that a network client has more in version 2.

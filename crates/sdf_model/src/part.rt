@@ -113,7 +113,8 @@ impl Part for NetClient {
         reading!(NetClient by key::NET_CLIENT, alloc, table;
             four(pd, copier, mac, lease_queues)
             four(rx_region, rx_queues, tx_region, tx_queues)
-            four(rx_buffers, rx_capacity, tx_buffers, tx_capacity);
+            three(rx_buffers, rx_capacity, tx_buffers)
+            two(tx_capacity, policy);
             key::NET_CLIENT_MORE; two(rx_buffer_size, tx_buffer_size))
     }
 }

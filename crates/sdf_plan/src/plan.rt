@@ -68,7 +68,7 @@ pub struct End {
     pub id: u64,
 }
 
-/// What is done with what comes for a client where there is no room for it: it waits, or it is
+/// What is done with what comes where there is no buffer and no room for it: it waits, or it is
 /// dropped.
 #[derive(Clone, Copy, Debug, PartialEq, Eq)]
 pub enum Policy {
@@ -94,7 +94,7 @@ pub struct Net {
     pub rx_buffer_size: u64,
 }
 
-/// A client of the network class.
+/// A client of the network class. `policy` is what its copier does with a frame.
 #[derive(Debug, Drop)]
 pub struct NetClient {
     pub pd: Text,
@@ -109,6 +109,7 @@ pub struct NetClient {
     pub rx_capacity: u64,
     pub tx_buffers: u64,
     pub tx_capacity: u64,
+    pub policy: Policy,
     pub rx_buffer_size: u64,
     pub tx_buffer_size: u64,
 }

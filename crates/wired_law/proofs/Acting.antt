@@ -1,5 +1,5 @@
 -- Which kind of actor plays a part of the network.
-use Rattle.std.proofs.Common.{◌≡◌, ℕ, List, refl}
+use Rattle.std.proofs.Common.{◌≡◌, ℕ, List, refl, Bool}
 use Rattle.frame_core.specs.declared.mac.Mac.{Mac}
 use Rattle.device_model.specs.declared.ethernet.EthDevice.{EthDevice}
 use Rattle.eth_driver.specs.Four.{four_pipes}
@@ -28,23 +28,23 @@ use Rattle.actor_set.specs.Actors.{part_of}
 use Rattle.actor_set.specs.declared.actor.Actor.{Actor}
 use Rattle.actor_set.specs.declared.actor.Actor.TheVariants as Kinds
 
-pub device_actor : (first : ℕ) (frames : List (List ℕ)) (x : Actor) → part_of x ≡ NetworkPart (device_at first frames) → (d : EthDevice) × (x ≡ Kinds.EthDevice d) × (device_part d ≡ device_at first frames)
-device_actor first frames (Kinds.UartDevice x) e = absurd cc
-device_actor first frames (Kinds.UartDriver x) e = absurd cc
-device_actor first frames (Kinds.SerialVirtRx x) e = absurd cc
-device_actor first frames (Kinds.SerialVirtTx x) e = absurd cc
-device_actor first frames (Kinds.SerialClient x) e = absurd cc
-device_actor first frames (Kinds.EthDevice x) e = (x, refl, cc)
-device_actor first frames (Kinds.EthDriver x) e = absurd cc
-device_actor first frames (Kinds.NetVirtRx x) e = absurd cc
-device_actor first frames (Kinds.NetCopier x) e = absurd cc
-device_actor first frames (Kinds.NetClient x) e = absurd cc
-device_actor first frames (Kinds.NetVirtTx x) e = absurd cc
-device_actor first frames (Kinds.DiskDevice x) e = absurd cc
-device_actor first frames (Kinds.BlkDriver x) e = absurd cc
-device_actor first frames (Kinds.BlkVirt x) e = absurd cc
-device_actor first frames (Kinds.BlkClient x) e = absurd cc
-device_actor first frames (Kinds.Rogue x) e = absurd cc
+pub device_actor : (first : ℕ) (frames : List (List ℕ)) (drops : Bool) (x : Actor) → part_of x ≡ NetworkPart (device_at first frames drops) → (d : EthDevice) × (x ≡ Kinds.EthDevice d) × (device_part d ≡ device_at first frames drops)
+device_actor first frames drops (Kinds.UartDevice x) e = absurd cc
+device_actor first frames drops (Kinds.UartDriver x) e = absurd cc
+device_actor first frames drops (Kinds.SerialVirtRx x) e = absurd cc
+device_actor first frames drops (Kinds.SerialVirtTx x) e = absurd cc
+device_actor first frames drops (Kinds.SerialClient x) e = absurd cc
+device_actor first frames drops (Kinds.EthDevice x) e = (x, refl, cc)
+device_actor first frames drops (Kinds.EthDriver x) e = absurd cc
+device_actor first frames drops (Kinds.NetVirtRx x) e = absurd cc
+device_actor first frames drops (Kinds.NetCopier x) e = absurd cc
+device_actor first frames drops (Kinds.NetClient x) e = absurd cc
+device_actor first frames drops (Kinds.NetVirtTx x) e = absurd cc
+device_actor first frames drops (Kinds.DiskDevice x) e = absurd cc
+device_actor first frames drops (Kinds.BlkDriver x) e = absurd cc
+device_actor first frames drops (Kinds.BlkVirt x) e = absurd cc
+device_actor first frames drops (Kinds.BlkClient x) e = absurd cc
+device_actor first frames drops (Kinds.Rogue x) e = absurd cc
 
 pub driver_actor : (first : ℕ) (x : Actor) → part_of x ≡ NetworkPart (driver_at first) → (d : EthDriver) × (x ≡ Kinds.EthDriver d) × (driver_part (four_pipes d.driver.pipes) ≡ driver_at first)
 driver_actor first (Kinds.UartDevice x) e = absurd cc
@@ -82,23 +82,23 @@ receiver_actor first pool macs (Kinds.BlkVirt x) e = absurd cc
 receiver_actor first pool macs (Kinds.BlkClient x) e = absurd cc
 receiver_actor first pool macs (Kinds.Rogue x) e = absurd cc
 
-pub copier_actor : (first k : ℕ) (x : Actor) → part_of x ≡ NetworkPart (copier_at first k) → (c : NetCopier) × (x ≡ Kinds.NetCopier c) × (copier_part c ≡ copier_at first k)
-copier_actor first k (Kinds.UartDevice x) e = absurd cc
-copier_actor first k (Kinds.UartDriver x) e = absurd cc
-copier_actor first k (Kinds.SerialVirtRx x) e = absurd cc
-copier_actor first k (Kinds.SerialVirtTx x) e = absurd cc
-copier_actor first k (Kinds.SerialClient x) e = absurd cc
-copier_actor first k (Kinds.EthDevice x) e = absurd cc
-copier_actor first k (Kinds.EthDriver x) e = absurd cc
-copier_actor first k (Kinds.NetVirtRx x) e = absurd cc
-copier_actor first k (Kinds.NetCopier x) e = (x, refl, cc)
-copier_actor first k (Kinds.NetClient x) e = absurd cc
-copier_actor first k (Kinds.NetVirtTx x) e = absurd cc
-copier_actor first k (Kinds.DiskDevice x) e = absurd cc
-copier_actor first k (Kinds.BlkDriver x) e = absurd cc
-copier_actor first k (Kinds.BlkVirt x) e = absurd cc
-copier_actor first k (Kinds.BlkClient x) e = absurd cc
-copier_actor first k (Kinds.Rogue x) e = absurd cc
+pub copier_actor : (first k : ℕ) (drops : Bool) (x : Actor) → part_of x ≡ NetworkPart (copier_at first k drops) → (c : NetCopier) × (x ≡ Kinds.NetCopier c) × (copier_part c ≡ copier_at first k drops)
+copier_actor first k drops (Kinds.UartDevice x) e = absurd cc
+copier_actor first k drops (Kinds.UartDriver x) e = absurd cc
+copier_actor first k drops (Kinds.SerialVirtRx x) e = absurd cc
+copier_actor first k drops (Kinds.SerialVirtTx x) e = absurd cc
+copier_actor first k drops (Kinds.SerialClient x) e = absurd cc
+copier_actor first k drops (Kinds.EthDevice x) e = absurd cc
+copier_actor first k drops (Kinds.EthDriver x) e = absurd cc
+copier_actor first k drops (Kinds.NetVirtRx x) e = absurd cc
+copier_actor first k drops (Kinds.NetCopier x) e = (x, refl, cc)
+copier_actor first k drops (Kinds.NetClient x) e = absurd cc
+copier_actor first k drops (Kinds.NetVirtTx x) e = absurd cc
+copier_actor first k drops (Kinds.DiskDevice x) e = absurd cc
+copier_actor first k drops (Kinds.BlkDriver x) e = absurd cc
+copier_actor first k drops (Kinds.BlkVirt x) e = absurd cc
+copier_actor first k drops (Kinds.BlkClient x) e = absurd cc
+copier_actor first k drops (Kinds.Rogue x) e = absurd cc
 
 pub client_actor : (first k : ℕ) (program : Program) (mac : Mac) (pools : ClientPools) (x : Actor) → part_of x ≡ NetworkPart (client_at first k program mac pools) → (c : NetClient) × (x ≡ Kinds.NetClient c) × (client_part c ≡ client_at first k program mac pools)
 client_actor first k program mac pools (Kinds.UartDevice x) e = absurd cc

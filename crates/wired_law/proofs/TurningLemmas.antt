@@ -18,7 +18,7 @@ use Rattle.pipe_driver.specs.Drivers.{PipesStandFor, pipes_hand}
 use Rattle.pipe_driver.specs.declared.pipes.Pipes.{Pipes}
 use Rattle.eth_driver.specs.Four.{four_pipes}
 use Rattle.eth_driver.specs.declared.EthDriver.{EthDriver}
-use Rattle.device_model.specs.Ethernet.Devices.{HoldingDeviceStands}
+use Rattle.device_model.specs.Ethernet.Devices.{DeviceStandsFor}
 use Rattle.device_model.specs.declared.ethernet.EthDevice.{EthDevice}
 use Rattle.device_model.specs.Disk.Disks.{DiskRow, DiskStandsFor, req}
 use Rattle.device_model.specs.Disk.Serving.{is_stray}
@@ -104,7 +104,7 @@ module _ (scene : Scene) (ends : Role → ℕ → End) (rows : List QueueRow) (a
   cast = map part_of actors
 
   -- from the sending virtualiser by way of this driver and this device and back
-  module _ (net : NetPlace) (whole : HasWholeIn scene rows net cast) (k j i : ℕ) (v : NetVirtTx) (p : EthDriver) (d : EthDevice) (at : slice_get actors k ≡ Some (Kinds.NetVirtTx v)) (driver : slice_get actors j ≡ Some (Kinds.EthDriver p)) (device : slice_get actors i ≡ Some (Kinds.EthDevice d)) (driver_is : driver_part (four_pipes p.driver.pipes) ≡ driver_at net.first) (device_is : device_part d ≡ device_at net.first scene.frames) where
+  module _ (net : NetPlace) (whole : HasWholeIn scene rows net cast) (k j i : ℕ) (v : NetVirtTx) (p : EthDriver) (d : EthDevice) (at : slice_get actors k ≡ Some (Kinds.NetVirtTx v)) (driver : slice_get actors j ≡ Some (Kinds.EthDriver p)) (device : slice_get actors i ≡ Some (Kinds.EthDevice d)) (driver_is : driver_part (four_pipes p.driver.pipes) ≡ driver_at net.first) (device_is : device_part d ≡ device_at net.first scene.frames net.device_drops) where
     abbrev down : Pipe
     down = p.driver.pipes.rest.rest.first
 
@@ -129,8 +129,8 @@ module _ (scene : Scene) (ends : Role → ℕ → End) (rows : List QueueRow) (a
     way : IsWay down d.wire.pipe up input output passed
     way =
         let moves : PipesStandFor (four_pipes p.driver.pipes) passed = work.stands j (Kinds.EthDriver p) driver in
-        let wires : HoldingDeviceStands d passed = work.stands i (Kinds.EthDevice d) device in
-        let wire = device_sends net.first scene.frames d device_is in
+        let wires : DeviceStandsFor d passed = work.stands i (Kinds.EthDevice d) device in
+        let wire = device_sends net.first scene.frames net.device_drops d device_is in
         let driven = driver_sends net.first p.driver.pipes driver_is in
         let own = sender_queues net.first net.most net.pools v part_is in
         record {
@@ -153,7 +153,7 @@ module _ (scene : Scene) (ends : Role → ℕ → End) (rows : List QueueRow) (a
         let f : Count = the_page pool number in
         let n1 = down.output.queue.0 in
         let n2 = d.wire.pipe.output.queue.0 in
-        let wire = device_sends net.first scene.frames d device_is in
+        let wire = device_sends net.first scene.frames net.device_drops d device_is in
         let driven = driver_sends net.first p.driver.pipes driver_is in
         let own = sender_queues net.first net.most net.pools v part_is in
         let l1 = option_to_list down.load ++ standing passed output in
@@ -197,10 +197,10 @@ module _ (scene : Scene) (ends : Role → ℕ → End) (rows : List QueueRow) (a
         let p = driver_actor net.first x.0 x.2 in
         (whole.driver.0, p.0, x.1 ∙ ap (λ a. Some a) p.1, p.2)
 
-    device_there : (i : ℕ) × (d : EthDevice) × (slice_get actors i ≡ Some (Kinds.EthDevice d)) × (device_part d ≡ device_at net.first scene.frames)
+    device_there : (i : ℕ) × (d : EthDevice) × (slice_get actors i ≡ Some (Kinds.EthDevice d)) × (device_part d ≡ device_at net.first scene.frames net.device_drops)
     device_there =
-        let x = map_from part_of actors whole.device.0 (NetworkPart (device_at net.first scene.frames)) whole.device.1 in
-        let d = device_actor net.first scene.frames x.0 x.2 in
+        let x = map_from part_of actors whole.device.0 (NetworkPart (device_at net.first scene.frames net.device_drops)) whole.device.1 in
+        let d = device_actor net.first scene.frames net.device_drops x.0 x.2 in
         (whole.device.0, d.0, x.1 ∙ ap (λ a. Some a) d.1, d.2)
 
     pub sender_free : HasEachOnce rows actors passed → (v.work.stray ≡ None) × ((row : TxRow v passed) → row.stray ≡ [])

@@ -15,11 +15,12 @@ use Rattle.play_core.proofs.Lists.{map_get, map_from, prefix_trans, some_is, the
 use Rattle.net_law.proofs.Beginnings.{begins_map}
 use Rattle.net_virt_tx.specs.Sending.{TxRow}
 use Rattle.device_model.specs.declared.ethernet.EthDevice.{EthDevice}
-use Rattle.device_model.specs.Ethernet.Devices.{HoldingDeviceRow}
+use Rattle.device_model.specs.Ethernet.Devices.{DeviceRow}
+use Rattle.device_model.proofs.EthernetLemmas.Holding.{row_of as device_row_of}
 use Rattle.eth_driver.specs.Four.{four_pipes}
 use Rattle.pipe_driver.proofs.Holding.{row_of as driver_row}
-use Rattle.class_expect.specs.NetExpect.Expecting.{Program, frames_for}
-use Rattle.net_copier.proofs.Holding.{held_row as copier_row}
+use Rattle.class_expect.specs.NetExpect.Expecting.{Program}
+use Rattle.net_copier.proofs.Holding.{row_of as copier_row}
 use Rattle.net_virt_rx.proofs.Rounds.{row_of as receiver_row}
 use Rattle.net_virt_rx.specs.declared.NetVirtRx.{NetVirtRx}
 use Rattle.net_virt_tx.proofs.Rounds.{row_of as sender_row}
@@ -30,17 +31,20 @@ use Rattle.client_programs.proofs.NetLemmas.Standing.{row_of as client_row}
 use Rattle.net_law.specs.Owners.Names.{ClientPools}
 use Rattle.owner_law.specs.Pools.Places.{PoolAt}
 use Rattle.net_law.specs.Parts.Parts.{NetClient as ClientPart}
-use Rattle.net_law.specs.Parts.Numbers.{device_at, driver_at, client_first, receiver_at, copier_at, client_at}
-use Rattle.net_law.specs.Parts.Playing.{device_part, receiver_part, copier_part, client_part, stock_pool, AreLeases, ReceivesInTurn, HasBuffers, AnswersInTurn}
+use Rattle.net_law.specs.Parts.Numbers.{device_at, driver_at, client_first, receiver_at, copier_at, client_at, policy_at}
+use Rattle.net_law.specs.Parts.Rows.{frame_at}
+use Rattle.net_law.specs.RxOwners.Virtualiser.{TakesFrames}
+use Rattle.net_law.specs.Parts.Playing.{device_part, receiver_part, copier_part, client_part, stock_pool, AreLeases, ReceivesInTurn, HasBuffers, AnswersWhole}
 use Rattle.net_law.specs.TxParts.Numbers.{NetPlace, own_pools, sender_at, shippers_from}
 use Rattle.net_law.specs.TxParts.Parts.{SendPart, Shipper}
 use Rattle.net_law.specs.TxParts.Playing.{send_part}
 use Rattle.net_law.specs.TxScene.Playing.{CalmGood}
-use Rattle.net_quiet.specs.Cast.Casting.{IsCast, IsReceiverAt, IsCopierAt, IsClientAt}
+use Rattle.net_quiet.specs.Cast.Casting.{IsCast, IsReceiverAt, IsCopierAt, IsClientAt, kept_frames}
+use Rattle.net_law.specs.Dropped.{left_for}
 use Rattle.net_quiet.proofs.CastLemmas.Numbers.{copier_queues}
-use Rattle.net_quiet.proofs.CastLemmas.Casting.{cast_in_turn, cast_takes, cast_leases, cast_records}
+use Rattle.net_quiet.proofs.CastLemmas.Casting.{cast_in_turn, cast_takes, cast_leases, cast_records, cast_whole}
 use Rattle.net_quiet.specs.TxTurns.Turning.{StraysWild}
-use Rattle.net_quiet.specs.TxCast.Casting.{AreClients, AreSends, CalmSend, IsClientOf, IsSenderAt, IsSendingClient, IsWholeCast, NoneHostile, sends_at, sends_beside, wire_at, wire_beside}
+use Rattle.net_quiet.specs.TxCast.Casting.{AreClients, AreSends, CalmSend, IsClientOf, IsSenderAt, IsSendingClient, IsWholeCast, NoneHostile, sends_at, sends_beside, wire_at, wire_beside, net_kept, net_marks}
 use Rattle.net_quiet.proofs.TxCast.Numbers.{sender_queues, shippers_are}
 use Rattle.net_quiet.proofs.TxCast.Wholes.{none_out, good_taken, back_is, client_puts, sends_calm, wire_calm, wire_is, wire_by}
 use Rattle.blk_law.specs.Sheets.Numbers.{BlkPlace}
@@ -51,7 +55,6 @@ use Rattle.actor_set.specs.declared.actor.Actor.TheVariants as Kinds
 use Rattle.actor_set.specs.Laws.Records.{frames_got}
 use Rattle.actor_set.specs.Laws.Turning.{InTurn}
 use Rattle.actor_set.specs.Laws.Scenes.{ToldInTurn}
-use Rattle.actor_set.proofs.LawsLemmas.NetRows.{device_row_of}
 use Rattle.play_core.specs.Names.{Names, Wild, name_of, names_at, names_of, wild_in}
 use Rattle.play_core.specs.Sheets.{Scene}
 use Rattle.actor_set.specs.Laws.Kinds.{AllCalm, hostiles, scene_of}
@@ -78,7 +81,7 @@ receiver_is net frames v (inr (inr (inr (inl e)))) = absurd cc
 receiver_is net frames v (inr (inr (inr (inr (inl k))))) = let e = k.2 in absurd cc
 receiver_is net frames v (inr (inr (inr (inr (inr k))))) = let e = k.5 in absurd cc
 
-copier_is : (net : NetPlace) (frames : List (List ℕ)) (c : NetCopier) → IsOfNetwork net frames (NetworkPart (copier_part c)) → (k : ℕ) × (k < length net.macs) × (copier_part c ≡ copier_at net.first k)
+copier_is : (net : NetPlace) (frames : List (List ℕ)) (c : NetCopier) → IsOfNetwork net frames (NetworkPart (copier_part c)) → (k : ℕ) × (k < length net.macs) × (copier_part c ≡ copier_at net.first k (policy_at net.drops k))
 copier_is net frames c (inl e) = absurd cc
 copier_is net frames c (inr (inl e)) = absurd cc
 copier_is net frames c (inr (inr (inl e))) = absurd cc
@@ -129,10 +132,10 @@ module _ (scene : Scene) (ends : Role → ℕ → End) (rows : List QueueRow) (a
     receiver_at_work : (v : NetVirtRx) → receiver_part v ≡ receiver_at net.first net.pool net.macs → FitsActor ends (Kinds.NetVirtRx v) → ActorStandsFor (Kinds.NetVirtRx v) passed → IsReceiverAt net.first net.pool net.macs v passed
     receiver_at_work v part fits stands = record { part = part; to_each = fits.to_each; from_each = fits.from_each; row = receiver_row v passed stands }
 
-    copier_there : (k : ℕ) → k < length net.macs → (c : NetCopier) × IsCopierAt net.first k c passed
+    copier_there : (k : ℕ) → k < length net.macs → (c : NetCopier) × IsCopierAt net.first k net.drops c passed
     copier_there k lt =
-        let x = actor_of (NetworkPart (copier_at net.first k)) (whole.copier k lt) in
-        let c = copier_actor net.first k x.0 x.1 in
+        let x = actor_of (NetworkPart (copier_at net.first k (policy_at net.drops k))) (whole.copier k lt) in
+        let c = copier_actor net.first k (policy_at net.drops k) x.0 x.1 in
         let stands : ActorStandsFor (Kinds.NetCopier c.0) passed = subst (λ a. ActorStandsFor a passed) c.1 x.3 in
         (c.0, record { part = c.2; row = copier_row c.0 passed stands })
 
@@ -140,14 +143,14 @@ module _ (scene : Scene) (ends : Role → ℕ → End) (rows : List QueueRow) (a
     short_frames k frame at = let high = (whole.frames k frame at).1 in let fits = whole.fits in let told = whole.told in (omega (arith, high, fits), omega (arith, high, told))
 
     -- the receive half with this device and this receiving virtualiser
-    half_with : (d : EthDevice) → device_part d ≡ device_at net.first frames → HoldingDeviceRow d passed → (v : NetVirtRx) → IsReceiverAt net.first net.pool net.macs v passed → IsCast net.first frames net.pool net.macs passed
+    half_with : (d : EthDevice) → device_part d ≡ device_at net.first frames net.device_drops → DeviceRow d passed → (v : NetVirtRx) → IsReceiverAt net.first net.pool net.macs v passed → IsCast net.first net.device_drops frames net.pool net.macs net.drops passed
     half_with d part row v at =
         let y = actor_of (NetworkPart (driver_at net.first)) whole.driver in
         let p = driver_actor net.first y.0 y.1 in
         let driver_stands : ActorStandsFor (Kinds.EthDriver p.0) passed = subst (λ a. ActorStandsFor a passed) p.1 y.3 in
         record {
           device = d;
-          device_at = record { free = cc; active = cc; frames_are = cc; row = row };
+          device_at = record { free = cc; active = cc; frames_are = cc; drops_are = cc; row = row };
           driver = p.0.driver.pipes;
           driver_at = record { part = p.2; row = driver_row (four_pipes p.0.driver.pipes) passed driver_stands };
           receiver = v;
@@ -159,10 +162,10 @@ module _ (scene : Scene) (ends : Role → ℕ → End) (rows : List QueueRow) (a
         }
 
     -- the device and the virtualisers of the cast
-    device_there : (d : EthDevice) × (device_part d ≡ device_at net.first frames) × HoldingDeviceRow d passed
+    device_there : (d : EthDevice) × (device_part d ≡ device_at net.first frames net.device_drops) × DeviceRow d passed
     device_there =
-        let x = actor_of (NetworkPart (device_at net.first frames)) whole.device in
-        let d = device_actor net.first frames x.0 x.1 in
+        let x = actor_of (NetworkPart (device_at net.first frames net.device_drops)) whole.device in
+        let d = device_actor net.first frames net.device_drops x.0 x.1 in
         (d.0, d.2, device_row_of d.0 passed (subst (λ a. ActorStandsFor a passed) d.1 x.3))
 
     receiver_there : (v : NetVirtRx) × IsReceiverAt net.first net.pool net.macs v passed
@@ -177,7 +180,7 @@ module _ (scene : Scene) (ends : Role → ℕ → End) (rows : List QueueRow) (a
         let v = sender_actor net.first net.most net.pools x.0 x.1 in
         (v.0, record { part = v.2; row = sender_row v.0 passed (subst (λ a. ActorStandsFor a passed) v.1 x.3) })
 
-    half_there : IsCast net.first frames net.pool net.macs passed
+    half_there : IsCast net.first net.device_drops frames net.pool net.macs net.drops passed
     half_there = half_with device_there.0 device_there.1 device_there.2 receiver_there.0 receiver_there.1
 
     -- a client at work
@@ -194,7 +197,7 @@ module _ (scene : Scene) (ends : Role → ℕ → End) (rows : List QueueRow) (a
         (c.0, client_at_work k program mac q c.0 c.2 (whole.some k q of.pools) (subst (FitsActor ends) c.1 x.2) (subst (λ a. ActorStandsFor a passed) c.1 x.3))
 
     -- the whole network with this device and this sending virtualiser
-    whole_with : (d : EthDevice) → device_part d ≡ device_at net.first frames → HoldingDeviceRow d passed → (v : NetVirtTx) → IsSenderAt net v passed → IsWholeCast net frames passed
+    whole_with : (d : EthDevice) → device_part d ≡ device_at net.first frames net.device_drops → DeviceRow d passed → (v : NetVirtTx) → IsSenderAt net v passed → IsWholeCast net frames passed
     unfolding half_with
     whole_with d part row v at = record {
       pools_many = whole.pools_many;
@@ -210,49 +213,58 @@ module _ (scene : Scene) (ends : Role → ℕ → End) (rows : List QueueRow) (a
       fits_client = whole.fits_client;
     }
 
-    whole_there : IsWholeCast net frames passed
+    pub whole_there : IsWholeCast net frames passed
     whole_there = whole_with device_there.0 device_there.1 device_there.2 sender_there.0 sender_there.1
+
+    -- a device that waits accepts all frames
+    pub kept_all : net_kept net frames passed.calls ≡ frames
+    kept_all = ap (λ b. kept_frames net.first b frames passed.calls) whole.waits
 
     receiver_turns : (v : NetVirtRx) → IsReceiverAt net.first net.pool net.macs v passed → ReceivesInTurn frames v passed
     unfolding half_with
     receiver_turns v is =
         let half = half_with device_there.0 device_there.1 device_there.2 v is in
         record {
-          takes = cast_takes net.first frames net.pool net.macs passed half;
-          in_turn = cast_in_turn net.first frames net.pool net.macs passed half;
+          takes = subst (λ fs. TakesFrames (frame_at fs) v passed) kept_all (cast_takes net.first net.device_drops frames net.pool net.macs net.drops passed half);
+          in_turn = cast_in_turn net.first net.device_drops frames net.pool net.macs net.drops passed half;
         }
 
-    -- a client recorded a beginning of the frames for its address
-    client_records : (k : ℕ) (program : Program) (mac : Mac) (pools : ClientPools) (c : NetClient) → client_part c ≡ client_at net.first k program mac pools → 1 ≤ pools.rx.buffers → net.most ≤ pools.rx.size → slice_get net.macs k ≡ Some mac → FitsActor ends (Kinds.NetClient c) → ActorStandsFor (Kinds.NetClient c) passed → IsPrefix c.frames.tape.shown (frames_for mac frames)
-    client_records k program mac pools c part some enough address fits stands =
+    -- a client at its queues
+    client_stands : (k : ℕ) (program : Program) (mac : Mac) (pools : ClientPools) (c : NetClient) → client_part c ≡ client_at net.first k program mac pools → 1 ≤ pools.rx.buffers → net.most ≤ pools.rx.size → ActorStandsFor (Kinds.NetClient c) passed → IsClientAt net.first k frames c passed
+    client_stands k program mac pools c part some enough stands =
         let own : stock_pool c.stock ≡ pools.rx = cc in
         let many : c.stock.buffers ≡ pools.rx.buffers = ap (λ (p : PoolAt). p.buffers) own in
         let size : c.stock.size ≡ pools.rx.size = ap (λ (p : PoolAt). p.size) own in
-        let client : IsClientAt net.first k frames c passed = record {
+        record {
           active = cc;
           free = cc;
           long = λ j frame f_at. let high = (whole.frames j frame f_at).1 in omega (arith, high, enough, size);
           some = omega (arith, many, some);
           row = client_row c passed stands;
-        } in
-        cast_records net.first frames net.pool net.macs passed half_there k mac address c client
+        }
+
+    -- it recorded a beginning of the accepted frames for its address without those that its copier
+    -- dropped
+    client_records : (k : ℕ) (program : Program) (mac : Mac) (pools : ClientPools) (c : NetClient) → client_part c ≡ client_at net.first k program mac pools → 1 ≤ pools.rx.buffers → net.most ≤ pools.rx.size → slice_get net.macs k ≡ Some mac → FitsActor ends (Kinds.NetClient c) → ActorStandsFor (Kinds.NetClient c) passed → IsPrefix c.frames.tape.shown (left_for (net_marks net passed.calls k) mac (net_kept net frames passed.calls))
+    client_records k program mac pools c part some enough address fits stands =
+        let client = client_stands k program mac pools c part some enough stands in
+        cast_records net.first net.device_drops frames net.pool net.macs net.drops passed half_there k mac address c client
 
     -- the part of a client of the cast
     client_of : (k : ℕ) (c : NetClient) → slice_get actors k ≡ Some (Kinds.NetClient c) → (j : ℕ) × (p : Program) × (m : Mac) × (q : ClientPools) × IsClientOf net j p m q × (client_part c ≡ client_at net.first j p m (own_pools q))
     client_of k c at = client_is net frames _ _ _ _ _ _ _ _ (whole.only k (client_part c) (map_get part_of actors k (Kinds.NetClient c) at))
 
     -- what came to a copier of the cast are leases
-    copier_turns : (c : NetCopier) (k : ℕ) → k < length net.macs → copier_part c ≡ copier_at net.first k → AreLeases (passed.taken c.lease_input.queue.0)
+    copier_turns : (c : NetCopier) (k : ℕ) → k < length net.macs → copier_part c ≡ copier_at net.first k (policy_at net.drops k) → AreLeases (passed.taken c.lease_input.queue.0)
     copier_turns c k lt part =
-        let own = copier_queues net.first k c part in
-        subst (λ n. AreLeases (passed.taken n)) (sym own.0) (cast_leases net.first frames net.pool net.macs passed half_there k lt)
+        let own = copier_queues net.first k (policy_at net.drops k) c part in
+        subst (λ n. AreLeases (passed.taken n)) (sym own.0) (cast_leases net.first net.device_drops frames net.pool net.macs net.drops passed half_there k lt)
 
-    -- and a client's record is a beginning of what it answers
-    client_turns : (c : NetClient) (k : ℕ) (program : Program) (mac : Mac) (q : ClientPools) → IsClientOf net k program mac q → client_part c ≡ client_at net.first k program mac (own_pools q) → FitsActor ends (Kinds.NetClient c) → ActorStandsFor (Kinds.NetClient c) passed → HasBuffers c × AnswersInTurn frames c
+    -- and what came to a client are whole frames
+    client_turns : (c : NetClient) (k : ℕ) (program : Program) (mac : Mac) (q : ClientPools) → IsClientOf net k program mac q → client_part c ≡ client_at net.first k program mac (own_pools q) → FitsActor ends (Kinds.NetClient c) → ActorStandsFor (Kinds.NetClient c) passed → HasBuffers c × AnswersWhole c passed
     client_turns c k program mac q of part fits stands =
-        let own : c.program.mac ≡ mac = cc in
-        let records = client_records k program mac (own_pools q) c part (whole.some k q of.pools) (whole.fits_client k q of.pools).0 of.address fits stands in
-        (fits.1, λ echo. subst (λ m. IsPrefix c.frames.tape.shown (frames_for m frames)) (sym own) records)
+        let client = client_stands k program mac (own_pools q) c part (whole.some k q of.pools) (whole.fits_client k q of.pools).0 stands in
+        (fits.1, λ echo. cast_whole net.first net.device_drops frames net.pool net.macs net.drops passed half_there k mac of.address c client)
 
     -- nothing comes out of turn at the sending virtualiser but from a hostile client
     sender_strays : CalmSend wild net passed → (v : NetVirtTx) → IsSenderAt net v passed → (row : TxRow v passed) → StraysWild wild v row.place row.stray
@@ -294,7 +306,7 @@ module _ (scene : Scene) (ends : Role → ℕ → End) (rows : List QueueRow) (a
 
     -- and nothing at any actor of the network, whoever else is hostile
     pub net_turns : CalmSend wild net passed → NoneHostile wild net → (x : Actor) → FitsActor ends x → ActorStandsFor x passed → IsOfNetwork net frames (part_of x) → InTurn scene x passed
-    net_turns sends none x fits stands (inl e) = let d = device_actor net.first frames x e in subst (λ a. InTurn scene a passed) (sym d.1) tt
+    net_turns sends none x fits stands (inl e) = let d = device_actor net.first frames net.device_drops x e in subst (λ a. InTurn scene a passed) (sym d.1) tt
     net_turns sends none x fits stands (inr (inl e)) = let p = driver_actor net.first x e in subst (λ a. InTurn scene a passed) (sym p.1) tt
     net_turns sends none x fits stands (inr (inr (inl e))) =
         let v = receiver_actor net.first net.pool net.macs x e in
@@ -308,7 +320,7 @@ module _ (scene : Scene) (ends : Role → ℕ → End) (rows : List QueueRow) (a
         } in
         subst (λ a. InTurn scene a passed) (sym v.1) turn
     net_turns sends none x fits stands (inr (inr (inr (inr (inl k))))) =
-        let c = copier_actor net.first k.0 x k.2 in
+        let c = copier_actor net.first k.0 (policy_at net.drops k.0) x k.2 in
         subst (λ a. InTurn scene a passed) (sym c.1) (copier_turns c.0 k.0 k.1 c.2)
     net_turns sends none x fits stands (inr (inr (inr (inr (inr k))))) =
         let c = client_actor net.first k.0 k.1 k.2 (own_pools k.3) x k.5 in
@@ -354,25 +366,25 @@ module _ (scene : Scene) (ends : Role → ℕ → End) (rows : List QueueRow) (a
     whole_turns sends block ask names kept turn k (Kinds.BlkClient x) at fits stands = client_by scene ends rows actors passed work block k x at
     whole_turns sends block ask names kept turn k (Kinds.Rogue x) at fits stands = tt
 
-    pub recorded_here : (k c : ℕ) (x : Actor) (program : Program) (mac : Mac) (pools : ClientPools) → slice_get actors k ≡ Some x → part_of x ≡ NetworkPart (client_at net.first c program mac pools) → 1 ≤ pools.rx.buffers → net.most ≤ pools.rx.size → slice_get net.macs c ≡ Some mac → IsPrefix (frames_got x) (frames_for mac frames)
+    pub recorded_here : (k c : ℕ) (x : Actor) (program : Program) (mac : Mac) (pools : ClientPools) → slice_get actors k ≡ Some x → part_of x ≡ NetworkPart (client_at net.first c program mac pools) → 1 ≤ pools.rx.buffers → net.most ≤ pools.rx.size → slice_get net.macs c ≡ Some mac → IsPrefix (frames_got x) (left_for (net_marks net passed.calls c) mac (net_kept net frames passed.calls))
     recorded_here k c x program mac pools at part some enough address =
         let y = client_actor net.first c program mac pools x part in
         let fits : FitsActor ends (Kinds.NetClient y.0) = subst (FitsActor ends) y.1 (work.fits k x at) in
         let stands : ActorStandsFor (Kinds.NetClient y.0) passed = subst (λ a. ActorStandsFor a passed) y.1 (work.stands k x at) in
-        subst (λ a. IsPrefix (frames_got a) (frames_for mac frames)) (sym y.1) (client_records c program mac pools y.0 y.2 some enough address fits stands)
+        subst (λ a. IsPrefix (frames_got a) (left_for (net_marks net passed.calls c) mac (net_kept net frames passed.calls))) (sym y.1) (client_records c program mac pools y.0 y.2 some enough address fits stands)
 
-    pub sent_here : CalmSend wild net passed → (k : ℕ) (x : Actor) → slice_get actors k ≡ Some x → part_of x ≡ NetworkPart (device_at net.first frames) → PrefixMerge (sends_beside wild net frames passed) (frames_got x)
+    pub sent_here : CalmSend wild net passed → (k : ℕ) (x : Actor) → slice_get actors k ≡ Some x → part_of x ≡ NetworkPart (device_at net.first frames net.device_drops) → PrefixMerge (sends_beside wild net frames passed) (frames_got x)
     unfolding whole_with half_with
     sent_here sends k x at part =
-        let d = device_actor net.first frames x part in
+        let d = device_actor net.first frames net.device_drops x part in
         let row = device_row_of d.0 passed (subst (λ a. ActorStandsFor a passed) d.1 (work.stands k x at)) in
         let all = whole_with d.0 d.2 row sender_there.0 sender_there.1 in
         subst (λ a. PrefixMerge (sends_beside wild net frames passed) (frames_got a)) (sym d.1) (wire_is net frames passed all sender_there.1.row wild client_there sends)
 
-    pub told_here : CalmSend wild net passed → (k : ℕ) (x : Actor) → slice_get actors k ≡ Some x → part_of x ≡ NetworkPart (device_at net.first frames) → frames_got x ≡ wire_beside wild net frames passed
+    pub told_here : CalmSend wild net passed → (k : ℕ) (x : Actor) → slice_get actors k ≡ Some x → part_of x ≡ NetworkPart (device_at net.first frames net.device_drops) → frames_got x ≡ wire_beside wild net frames passed
     unfolding whole_with half_with
     told_here sends k x at part =
-        let d = device_actor net.first frames x part in
+        let d = device_actor net.first frames net.device_drops x part in
         let row = device_row_of d.0 passed (subst (λ a. ActorStandsFor a passed) d.1 (work.stands k x at)) in
         let all = whole_with d.0 d.2 row sender_there.0 sender_there.1 in
         subst (λ a. frames_got a ≡ wire_beside wild net frames passed) (sym d.1) (wire_by net frames passed all sender_there.1.row wild client_there sends)
@@ -389,10 +401,10 @@ module _ (scene : Scene) (ends : Role → ℕ → End) (rows : List QueueRow) (a
         client_puts net frames passed whole_there k program mac q of c.0 c.1
 
     -- where no client is hostile each sends by its program
-    pub sends_calm_here : NoneHostile wild net → sends_beside wild net frames passed ≡ sends_at net.programs net.macs frames
+    pub sends_calm_here : NoneHostile wild net → sends_beside wild net frames passed ≡ sends_at (net_marks net passed.calls) 0 net.programs net.macs (net_kept net frames passed.calls)
     sends_calm_here = sends_calm wild net frames passed whole_there
 
-    pub wire_calm_here : NoneHostile wild net → wire_beside wild net frames passed ≡ wire_at net frames (items_of (passed.taken (net.first + 2)))
+    pub wire_calm_here : NoneHostile wild net → wire_beside wild net frames passed ≡ wire_at net (net_marks net passed.calls) (net_kept net frames passed.calls) (items_of (passed.taken (net.first + 2)))
     wire_calm_here = wire_calm wild net frames passed whole_there
 
   none_turns : HasNoNetwork cast → HasNoBlock cast ⊎ ((place : BlkPlace) × HasBlkIn scene rows place cast) → ClientsAsk cast passed → (names : Names) → TellsKept wild names passed → AreInTurn wild actors passed → (k : ℕ) (x : Actor) → slice_get actors k ≡ Some x → ToldInTurn scene wild names x passed
@@ -462,14 +474,14 @@ in_turn {scene} ends rows actors passed calm wired work sends k x at =
     turns_calm scene (wild_in (hostiles cast) rows) (names_at passed) x passed none (turns_beside scene ends rows actors passed (names_at passed) wired work sends (λ n is_wild. ([], append-nil (names_at passed n))) turn k x at)
 
 pub recorded : {scene : Scene} (ends : Role → ℕ → End) (rows : List QueueRow) (actors : List Actor) (passed : Passed) (net : NetPlace) → HasWholeIn scene rows net (map part_of actors) → AreAtWork ends rows actors passed → (k c : ℕ) (x : Actor) (program : Program) (mac : Mac) (pools : ClientPools) → slice_get actors k ≡ Some x → part_of x ≡ NetworkPart (client_at net.first c program mac pools) → 1 ≤ pools.rx.buffers → net.most ≤ pools.rx.size → slice_get net.macs c ≡ Some mac
-    → IsPrefix (frames_got x) (frames_for mac scene.frames)
+    → IsPrefix (frames_got x) (left_for (net_marks net passed.calls c) mac (net_kept net scene.frames passed.calls))
 recorded {scene} ends rows actors passed net whole work = recorded_here scene ends rows actors passed work net whole
 
-pub sent_beside : {scene : Scene} (ends : Role → ℕ → End) (rows : List QueueRow) (actors : List Actor) (passed : Passed) (net : NetPlace) → HasWholeIn scene rows net (map part_of actors) → AreAtWork ends rows actors passed → ClientsSendIn scene rows (map part_of actors) passed → (k : ℕ) (x : Actor) → slice_get actors k ≡ Some x → part_of x ≡ NetworkPart (device_at net.first scene.frames)
+pub sent_beside : {scene : Scene} (ends : Role → ℕ → End) (rows : List QueueRow) (actors : List Actor) (passed : Passed) (net : NetPlace) → HasWholeIn scene rows net (map part_of actors) → AreAtWork ends rows actors passed → ClientsSendIn scene rows (map part_of actors) passed → (k : ℕ) (x : Actor) → slice_get actors k ≡ Some x → part_of x ≡ NetworkPart (device_at net.first scene.frames net.device_drops)
     → PrefixMerge (sends_beside (wild_in (hostiles (map part_of actors)) rows) net scene.frames passed) (frames_got x)
 sent_beside {scene} ends rows actors passed net whole work sends = sent_here scene ends rows actors passed work net whole (sends.frames net whole)
 
-pub told_beside : {scene : Scene} (ends : Role → ℕ → End) (rows : List QueueRow) (actors : List Actor) (passed : Passed) (net : NetPlace) → HasWholeIn scene rows net (map part_of actors) → AreAtWork ends rows actors passed → ClientsSendIn scene rows (map part_of actors) passed → (k : ℕ) (x : Actor) → slice_get actors k ≡ Some x → part_of x ≡ NetworkPart (device_at net.first scene.frames)
+pub told_beside : {scene : Scene} (ends : Role → ℕ → End) (rows : List QueueRow) (actors : List Actor) (passed : Passed) (net : NetPlace) → HasWholeIn scene rows net (map part_of actors) → AreAtWork ends rows actors passed → ClientsSendIn scene rows (map part_of actors) passed → (k : ℕ) (x : Actor) → slice_get actors k ≡ Some x → part_of x ≡ NetworkPart (device_at net.first scene.frames net.device_drops)
     → frames_got x ≡ wire_beside (wild_in (hostiles (map part_of actors)) rows) net scene.frames passed
 told_beside {scene} ends rows actors passed net whole work sends = told_here scene ends rows actors passed work net whole (sends.frames net whole)
 
@@ -477,12 +489,12 @@ told_beside {scene} ends rows actors passed net whole work sends = told_here sce
 none_hostile : (cast : List Part) → AllCalm cast → (rows : List QueueRow) (net : NetPlace) → NoneHostile (wild_in (hostiles cast) rows) net
 none_hostile cast calm rows net k below = none_wild cast calm rows (client_first net.first k + 4)
 
-pub sent_on : {scene : Scene} (ends : Role → ℕ → End) (rows : List QueueRow) (actors : List Actor) (passed : Passed) (net : NetPlace) → AllCalm (map part_of actors) → HasWholeIn scene rows net (map part_of actors) → AreAtWork ends rows actors passed → ClientsSendIn scene rows (map part_of actors) passed → (k : ℕ) (x : Actor) → slice_get actors k ≡ Some x → part_of x ≡ NetworkPart (device_at net.first scene.frames)
-    → PrefixMerge (sends_at net.programs net.macs scene.frames) (frames_got x)
+pub sent_on : {scene : Scene} (ends : Role → ℕ → End) (rows : List QueueRow) (actors : List Actor) (passed : Passed) (net : NetPlace) → AllCalm (map part_of actors) → HasWholeIn scene rows net (map part_of actors) → AreAtWork ends rows actors passed → ClientsSendIn scene rows (map part_of actors) passed → (k : ℕ) (x : Actor) → slice_get actors k ≡ Some x → part_of x ≡ NetworkPart (device_at net.first scene.frames net.device_drops)
+    → PrefixMerge (sends_at (net_marks net passed.calls) 0 net.programs net.macs (net_kept net scene.frames passed.calls)) (frames_got x)
 sent_on {scene} ends rows actors passed net calm whole work sends k x at part = subst (λ l. PrefixMerge l (frames_got x)) (sends_calm_here scene ends rows actors passed work net whole (none_hostile (map part_of actors) calm rows net)) (sent_beside ends rows actors passed net whole work sends k x at part)
 
-pub sent_told : {scene : Scene} (ends : Role → ℕ → End) (rows : List QueueRow) (actors : List Actor) (passed : Passed) (net : NetPlace) → AllCalm (map part_of actors) → HasWholeIn scene rows net (map part_of actors) → AreAtWork ends rows actors passed → ClientsSendIn scene rows (map part_of actors) passed → (k : ℕ) (x : Actor) → slice_get actors k ≡ Some x → part_of x ≡ NetworkPart (device_at net.first scene.frames)
-    → frames_got x ≡ wire_at net scene.frames (items_of (passed.taken (net.first + 2)))
+pub sent_told : {scene : Scene} (ends : Role → ℕ → End) (rows : List QueueRow) (actors : List Actor) (passed : Passed) (net : NetPlace) → AllCalm (map part_of actors) → HasWholeIn scene rows net (map part_of actors) → AreAtWork ends rows actors passed → ClientsSendIn scene rows (map part_of actors) passed → (k : ℕ) (x : Actor) → slice_get actors k ≡ Some x → part_of x ≡ NetworkPart (device_at net.first scene.frames net.device_drops)
+    → frames_got x ≡ wire_at net (net_marks net passed.calls) (net_kept net scene.frames passed.calls) (items_of (passed.taken (net.first + 2)))
 sent_told {scene} ends rows actors passed net calm whole work sends k x at part = told_beside ends rows actors passed net whole work sends k x at part ∙ wire_calm_here scene ends rows actors passed work net whole (none_hostile (map part_of actors) calm rows net)
 
 -- nothing was put at the start

@@ -20,7 +20,7 @@ use Rattle.net_law.specs.Owners.Names.{ClientPools}
 use Rattle.owner_law.specs.Pools.Places.{PoolAt}
 use Rattle.net_law.specs.Parts.Parts.{NetPart}
 use Rattle.net_law.specs.Parts.Numbers.{client_first, device_at, driver_at, receiver_at}
-use Rattle.net_law.specs.Parts.Numbers.{copier_at, client_at}
+use Rattle.net_law.specs.Parts.Numbers.{copier_at, client_at, policy_at}
 use Rattle.net_law.specs.TxParts.Parts.{SendPart}
 use Rattle.net_law.specs.TxScene.Playing.{ReturnsGood}
 use Rattle.net_virt_tx.specs.Sending.{TxRow}
@@ -54,16 +54,18 @@ HasPart cast p = (k : ℕ) × (slice_get cast k ≡ Some p)
 -- virtualiser or the sending one, or that of a client's copier or of a client
 abbrev pub IsOfNetwork : NetPlace → (frames : List (List ℕ)) → Part → Type 0
 IsOfNetwork net frames p =
-    (p ≡ NetworkPart (device_at net.first frames)) ⊎ (p ≡ NetworkPart (driver_at net.first))
+    (p ≡ NetworkPart (device_at net.first frames net.device_drops))
+    ⊎ (p ≡ NetworkPart (driver_at net.first))
     ⊎ (p ≡ NetworkPart (receiver_at net.first net.pool net.macs))
     ⊎ (p ≡ SendingPart (sender_at net.first net.most net.pools))
-    ⊎ ((k : ℕ) × (k < length net.macs) × (p ≡ NetworkPart (copier_at net.first k)))
+    ⊎ ((k : ℕ) × (k < length net.macs)
+    × (p ≡ NetworkPart (copier_at net.first k (policy_at net.drops k))))
     ⊎ ((k : ℕ) × (program : Program) × (mac : Mac) × (q : ClientPools)
     × IsClientOf net k program mac q
     × (p ≡ NetworkPart (client_at net.first k program mac (own_pools q))))
 
 -- a cast has the whole network, in a scene, and no other actor of it, each client where no hostile
--- actor has an end of its queue; a client's two queues for sending both have a hostile end or
+-- actor has an end of its queue; its device waits for buffers; a client's two queues for sending both have a hostile end or
 -- neither; each client has buffers to receive in, and an address of six bytes; the class's queues
 -- carry entries of the network; each frame, received or of a script, has 14 bytes to the most; and
 -- no frame is longer than a buffer of any pool, or than an entry can say
@@ -71,11 +73,13 @@ pub record HasWholeIn (scene : Scene) (rows : List QueueRow) (net : NetPlace) (c
     Type 0 where
   pub pools_many : length net.pools ≡ length net.macs
   pub programs_many : length net.programs ≡ length net.macs
-  pub device : HasPart cast (NetworkPart (device_at net.first scene.frames))
+  pub device : HasPart cast (NetworkPart (device_at net.first scene.frames net.device_drops))
+  pub waits : net.device_drops ≡ false
   pub driver : HasPart cast (NetworkPart (driver_at net.first))
   pub receiver : HasPart cast (NetworkPart (receiver_at net.first net.pool net.macs))
   pub sender : HasPart cast (SendingPart (sender_at net.first net.most net.pools))
-  pub copier : (k : ℕ) → k < length net.macs → HasPart cast (NetworkPart (copier_at net.first k))
+  pub copier : (k : ℕ) → k < length net.macs
+      → HasPart cast (NetworkPart (copier_at net.first k (policy_at net.drops k)))
   pub client : (k : ℕ) (program : Program) (mac : Mac) (q : ClientPools)
       → IsClientOf net k program mac q
       → wild_in (hostiles cast) rows (client_first net.first k + 4) ≡ false

@@ -2,7 +2,7 @@
 //! hostile actors that have no end of the class's queues: what the network's device and clients
 //! recorded, and the clients of the block class.
 
-ghost use Rattle.std.specs.Prelude.{◌≡◌, ℕ, Some, List, map, slice_get};
+ghost use Rattle.std.specs.Prelude.{◌≡◌, ℕ, Some, List, [], map, slice_get};
 ghost use Rattle.cargo_core.specs.Lists.{Merge};
 ghost use Rattle.cargo_core.specs.declared.item.Ask.{Ask};
 ghost use Rattle.frame_core.specs.declared.mac.Mac.{Mac};
@@ -16,12 +16,13 @@ ghost use Rattle.play_core.specs.Names.{Names};
 ghost use Rattle.play_core.specs.Sheets.{RowsHold, Scene, needful};
 ghost use Rattle.play_core.specs.Still.{IsStill};
 ghost use Rattle.play_core.specs.Rests.Showing.{HaveItems};
-ghost use Rattle.class_expect.specs.NetExpect.Expecting.{Program, frames_for};
+ghost use Rattle.class_expect.specs.NetExpect.Expecting.{Program};
+ghost use Rattle.net_law.specs.Dropped.{left_for};
 ghost use Rattle.net_law.specs.Owners.Names.{ClientPools};
 ghost use Rattle.owner_law.specs.Pools.Places.{PoolAt};
 ghost use Rattle.net_law.specs.Parts.Numbers.{device_at, client_at};
 ghost use Rattle.net_law.specs.TxParts.Numbers.{NetPlace, own_pools};
-ghost use Rattle.net_quiet.specs.TxCast.Casting.{IsClientOf, sends_at};
+ghost use Rattle.net_quiet.specs.TxCast.Casting.{IsClientOf, net_marks, sends_at};
 ghost use Rattle.net_quiet.specs.Still.{HasPools, HasRooms, IsNetwork};
 ghost use Rattle.class_expect.specs.BlkExpect.Replies.{replies_of};
 ghost use Rattle.blk_law.specs.Sheets.Numbers.{BlkPlace, IsBlkClientOf, blk_client_at};
@@ -36,7 +37,8 @@ ghost use Rattle.wired_law.specs.Wiring.{HasWholeIn, HasBlkIn, ClientsSendIn, Ar
 /// Of a cast that has the whole network, of whose queues none has a hostile end, whoever is hostile
 /// at others: where its rows hold, this network is among its actors. Where actors stand for what
 /// passed, and nobody is runnable but perhaps hostile ones, each network client recorded all frames
-/// that are for its address, and the device a merge of all that the clients send by their programs.
+/// that are for its address but those that its copier dropped, and the device a merge of all that
+/// the clients send by their programs, an echo the answers to those.
 /// So it is of the whole block class, where none of its queues has a hostile end: each client
 /// recorded all replies to what it asks, those of a disk that has the bytes of its partition alone.
 pub fn quiet_law()
@@ -44,8 +46,8 @@ pub fn quiet_law()
         (m : Moved) (net : NetPlace) → HasWholeIn scene rows net cast → HasPools net
         → HasRooms (hostiles cast) rows net
         → RowsHold (told_in scene rows cast names) (hostiles cast) cast m
-        → IsNetwork (hostiles cast) scene rows (needful (told_in scene rows cast names) cast m) net
-        m }
+        → IsNetwork (hostiles cast) scene scene.frames [] rows
+        (needful (told_in scene rows cast names) cast m) net m }
     ensures records { (scene : Scene) (ends : Role → ℕ → End) (history : History)
         (rows : List QueueRow) (actors : List Actor) (journal : List Entry)
         (passed : Passed) (names : Names) (net : NetPlace)
@@ -59,7 +61,7 @@ pub fn quiet_law()
         → (k c : ℕ) (x : Actor) (program : Program) (mac : Mac) (q : ClientPools)
         → slice_get actors k ≡ Some x → IsClientOf net c program mac q
         → part_of x ≡ NetworkPart (client_at net.first c program mac (own_pools q))
-        → frames_got x ≡ frames_for mac scene.frames }
+        → frames_got x ≡ left_for (net_marks net passed.calls c) mac scene.frames }
     ensures wire { (scene : Scene) (ends : Role → ℕ → End) (history : History)
         (rows : List QueueRow) (actors : List Actor) (journal : List Entry)
         (passed : Passed) (names : Names) (net : NetPlace)
@@ -71,8 +73,9 @@ pub fn quiet_law()
         (needful (told_in scene rows (map part_of actors) names) (map part_of actors)
         (moved history journal)) journal
         → (k : ℕ) (x : Actor) → slice_get actors k ≡ Some x
-        → part_of x ≡ NetworkPart (device_at net.first scene.frames)
-        → Merge (sends_at net.programs net.macs scene.frames) (frames_got x) }
+        → part_of x ≡ NetworkPart (device_at net.first scene.frames net.device_drops)
+        → Merge (sends_at (net_marks net passed.calls) 0 net.programs net.macs scene.frames)
+        (frames_got x) }
     ensures block { (scene : Scene) (rows : List QueueRow) (cast : List Part) (names : Names)
         (m : Moved) (place : BlkPlace) → HasBlkIn scene rows place cast → HasClientPools place
         → HasBlkRooms (hostiles cast) rows place

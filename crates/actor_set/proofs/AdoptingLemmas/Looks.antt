@@ -240,7 +240,7 @@ module _ (ends ends' : Role → ℕ → End) where
   fits_anew (Kinds.EthDevice x) (Kinds.EthDevice y) is same f = (device_anew x y is same f.0, f.1)
   fits_anew (Kinds.EthDriver x) (Kinds.EthDriver y) is same f = pipes_anew (four_pipes x.driver.pipes) (four_pipes y.driver.pipes) is.0 same f
   fits_anew (Kinds.NetVirtRx x) (Kinds.NetVirtRx y) is same f = record { ends_fit = virt_anew x.ends y.ends is.ends same f.ends_fit; work = f.work; from_each = f.from_each; to_each = f.to_each }
-  fits_anew (Kinds.NetCopier x) (Kinds.NetCopier y) is same f = (copier_anew x y is same f.0, f.1)
+  fits_anew (Kinds.NetCopier x) (Kinds.NetCopier y) is same f = copier_anew x y is same f
   fits_anew (Kinds.NetClient x) (Kinds.NetClient y) is same f = (client_anew x y is same f.0, f.1)
   fits_anew (Kinds.NetVirtTx x) (Kinds.NetVirtTx y) is same f = record { ends_fit = virt_anew x.ends y.ends is.ends same f.ends_fit; work = f.work; from_each = f.from_each; to_each = f.to_each }
   fits_anew (Kinds.DiskDevice x) (Kinds.DiskDevice y) is same f = disk_anew x.device y.device is.0 same f

@@ -18,7 +18,10 @@ use Rattle.play_core.proofs.Lists.{map_get, map_alike}
 use Rattle.actor_set.specs.Actors.{FitsActor, ActorStandsFor, ActorEnd, ActsAlike, IsWhole}
 use Rattle.actor_set.specs.declared.actor.Actor.{Actor}
 use Rattle.actor_set.specs.declared.actor.Actor.TheVariants as Kinds
-use Rattle.actor_set.proofs.LawsLemmas.NetBeside.{fits_pipes, fits_device, fits_receiver, fits_copier, fits_client, stands_pipes, stands_device, stands_receiver, stands_copier, stands_client}
+use Rattle.actor_set.proofs.LawsLemmas.NetBeside.{fits_pipes, fits_device, fits_receiver, fits_copier, fits_client, stands_pipes, stands_receiver, stands_client}
+use Rattle.actor_set.proofs.LawsLemmas.NetCalls.{stands_device, stands_copier, device_anew, copier_anew}
+use Rattle.device_model.specs.Ethernet.Devices.{DeviceStandsFor}
+use Rattle.net_copier.specs.Copying.{CopierStandsFor}
 use Rattle.actor_set.proofs.LawsLemmas.RxBeside.{stands_rx, rx_anew}
 use Rattle.actor_set.proofs.LawsLemmas.TxBeside.{fits_sender, stands_sender}
 use Rattle.actor_set.proofs.RogueLemmas.Ends.{fits_rogue, stands_rogue}
@@ -69,7 +72,7 @@ module _ (ends ends' : Role → ℕ → End) where
   fits_beside (Kinds.EthDevice x) same f = (fits_device ends ends' x same f.0, f.1)
   fits_beside (Kinds.EthDriver x) same f = fits_pipes ends ends' (four_pipes x.driver.pipes) same f
   fits_beside (Kinds.NetVirtRx x) same f = fits_receiver ends ends' x same f
-  fits_beside (Kinds.NetCopier x) same f = (fits_copier ends ends' x same f.0, f.1)
+  fits_beside (Kinds.NetCopier x) same f = fits_copier ends ends' x same f
   fits_beside (Kinds.NetClient x) same f = (fits_client ends ends' x same f.0, f.1)
   fits_beside (Kinds.NetVirtTx x) same f = fits_sender ends ends' x same f
   fits_beside (Kinds.DiskDevice x) same f = fits_disk ends ends' x.device same f
@@ -86,28 +89,71 @@ module _ (passed passed' : Passed) where
   stands_tx : (v : SerialVirtTx) → ((n : ℕ) → TxEnd v Consumer n → passed'.taken n ≡ passed.taken n) → ((n : ℕ) → TxEnd v Producer n → passed'.sent n ≡ passed.sent n) → TxStandsFor v passed → TxStandsFor v passed'
   stands_tx v ins outs f = rw (outs v.output.queue.0 refl, map_alike (λ (q : QueueId). passed'.taken q.0) (λ (q : QueueId). passed.taken q.0) (intake_queues v.inputs) (λ k q at. ins q.0 (k, q, at, refl))) f
 
-  -- a receiving virtualiser of the serial class by itself, since it tells its calls
-  stands_by : (x : Actor) → IsWhole x → ((v : SerialVirtRx) → x ≡ Kinds.SerialVirtRx v → RxStandsFor v passed → RxStandsFor v passed') → ((n : ℕ) → ActorEnd x Consumer n → passed'.taken n ≡ passed.taken n) → ((n : ℕ) → ActorEnd x Producer n → passed'.sent n ≡ passed.sent n) → ActorStandsFor x passed → ActorStandsFor x passed'
-  stands_by (Kinds.UartDevice x) whole rx ins outs f = stands_terminal x.terminal (ins x.terminal.input.queue.0 refl) (outs x.terminal.output.queue.0 refl) f
-  stands_by (Kinds.SerialClient x) whole rx ins outs f = stands_terminal x.terminal (ins x.terminal.input.queue.0 refl) (outs x.terminal.output.queue.0 refl) f
-  stands_by (Kinds.SerialVirtRx x) whole rx ins outs f = rx x refl f
-  stands_by (Kinds.SerialVirtTx x) whole rx ins outs f = stands_tx x ins outs f
-  stands_by (Kinds.UartDriver x) whole rx ins outs f = stands_pipes passed passed' (two_pipes x.driver.pipes) ins outs f
-  stands_by (Kinds.EthDevice x) whole rx ins outs f = stands_device passed passed' x ins outs f
-  stands_by (Kinds.EthDriver x) whole rx ins outs f = stands_pipes passed passed' (four_pipes x.driver.pipes) ins outs f
-  stands_by (Kinds.NetVirtRx x) whole rx ins outs f = stands_receiver passed passed' x whole.from_each whole.to_each ins outs f
-  stands_by (Kinds.NetCopier x) whole rx ins outs f = stands_copier passed passed' x ins outs f
-  stands_by (Kinds.NetClient x) whole rx ins outs f = stands_client passed passed' x ins outs f
-  stands_by (Kinds.NetVirtTx x) whole rx ins outs f = stands_sender passed passed' x whole.from_each whole.to_each ins outs f
-  stands_by (Kinds.DiskDevice x) whole rx ins outs f = stands_disk passed passed' x.start.value x.device ins outs f
-  stands_by (Kinds.BlkDriver x) whole rx ins outs f = stands_pipes passed passed' (two_pipes x.driver.pipes) ins outs f
-  stands_by (Kinds.BlkVirt x) whole rx ins outs f = stands_server passed passed' x whole.from_each whole.to_each ins outs f
-  stands_by (Kinds.BlkClient x) whole rx ins outs f = stands_asker passed passed' x ins outs f
-  stands_by (Kinds.Rogue x) whole rx ins outs f = stands_rogue passed passed' x ins outs f
+  -- those that tell their calls by themselves: a receiving virtualiser of the serial class, an
+  -- Ethernet device and a copier
+  abbrev Telling : Actor → Type 0
+  Telling (Kinds.SerialVirtRx v) = RxStandsFor v passed → RxStandsFor v passed'
+  Telling (Kinds.EthDevice d) = DeviceStandsFor d passed → DeviceStandsFor d passed'
+  Telling (Kinds.NetCopier c) = CopierStandsFor c passed → CopierStandsFor c passed'
+  Telling x = Unit {0}
+
+  stands_by : (x : Actor) → IsWhole x → Telling x → ((n : ℕ) → ActorEnd x Consumer n → passed'.taken n ≡ passed.taken n) → ((n : ℕ) → ActorEnd x Producer n → passed'.sent n ≡ passed.sent n) → ActorStandsFor x passed → ActorStandsFor x passed'
+  stands_by (Kinds.UartDevice x) whole told ins outs f = stands_terminal x.terminal (ins x.terminal.input.queue.0 refl) (outs x.terminal.output.queue.0 refl) f
+  stands_by (Kinds.SerialClient x) whole told ins outs f = stands_terminal x.terminal (ins x.terminal.input.queue.0 refl) (outs x.terminal.output.queue.0 refl) f
+  stands_by (Kinds.SerialVirtRx x) whole told ins outs f = told f
+  stands_by (Kinds.SerialVirtTx x) whole told ins outs f = stands_tx x ins outs f
+  stands_by (Kinds.UartDriver x) whole told ins outs f = stands_pipes passed passed' (two_pipes x.driver.pipes) ins outs f
+  stands_by (Kinds.EthDevice x) whole told ins outs f = told f
+  stands_by (Kinds.EthDriver x) whole told ins outs f = stands_pipes passed passed' (four_pipes x.driver.pipes) ins outs f
+  stands_by (Kinds.NetVirtRx x) whole told ins outs f = stands_receiver passed passed' x whole.from_each whole.to_each ins outs f
+  stands_by (Kinds.NetCopier x) whole told ins outs f = told f
+  stands_by (Kinds.NetClient x) whole told ins outs f = stands_client passed passed' x ins outs f
+  stands_by (Kinds.NetVirtTx x) whole told ins outs f = stands_sender passed passed' x whole.from_each whole.to_each ins outs f
+  stands_by (Kinds.DiskDevice x) whole told ins outs f = stands_disk passed passed' x.start.value x.device ins outs f
+  stands_by (Kinds.BlkDriver x) whole told ins outs f = stands_pipes passed passed' (two_pipes x.driver.pipes) ins outs f
+  stands_by (Kinds.BlkVirt x) whole told ins outs f = stands_server passed passed' x whole.from_each whole.to_each ins outs f
+  stands_by (Kinds.BlkClient x) whole told ins outs f = stands_asker passed passed' x ins outs f
+  stands_by (Kinds.Rogue x) whole told ins outs f = stands_rogue passed passed' x ins outs f
+
+  told_beside : (x : Actor) → ActsAlike x passed.calls passed'.calls → ((n : ℕ) → ActorEnd x Consumer n → passed'.taken n ≡ passed.taken n) → ((n : ℕ) → ActorEnd x Producer n → passed'.sent n ≡ passed.sent n) → Telling x
+  told_beside (Kinds.SerialVirtRx v) same ins outs = stands_rx passed passed' v same ins outs
+  told_beside (Kinds.EthDevice d) same ins outs = stands_device passed passed' d same ins outs
+  told_beside (Kinds.NetCopier c) same ins outs = stands_copier passed passed' c same ins outs
+  told_beside (Kinds.UartDevice x) same ins outs = tt
+  told_beside (Kinds.SerialClient x) same ins outs = tt
+  told_beside (Kinds.SerialVirtTx x) same ins outs = tt
+  told_beside (Kinds.UartDriver x) same ins outs = tt
+  told_beside (Kinds.EthDriver x) same ins outs = tt
+  told_beside (Kinds.NetVirtRx x) same ins outs = tt
+  told_beside (Kinds.NetClient x) same ins outs = tt
+  told_beside (Kinds.NetVirtTx x) same ins outs = tt
+  told_beside (Kinds.DiskDevice x) same ins outs = tt
+  told_beside (Kinds.BlkDriver x) same ins outs = tt
+  told_beside (Kinds.BlkVirt x) same ins outs = tt
+  told_beside (Kinds.BlkClient x) same ins outs = tt
+  told_beside (Kinds.Rogue x) same ins outs = tt
 
   pub stands_beside : (x : Actor) → IsWhole x → ActsAlike x passed.calls passed'.calls → ((n : ℕ) → ActorEnd x Consumer n → passed'.taken n ≡ passed.taken n) → ((n : ℕ) → ActorEnd x Producer n → passed'.sent n ≡ passed.sent n) → ActorStandsFor x passed → ActorStandsFor x passed'
-  stands_beside x whole same ins outs f = stands_by x whole (λ v is st. stands_rx passed passed' v (subst (λ y. ActsAlike y passed.calls passed'.calls) is same) (λ n own. ins n (subst (λ y. ActorEnd y Consumer n) (sym is) own)) (λ n own. outs n (subst (λ y. ActorEnd y Producer n) (sym is) own)) st) ins outs f
+  stands_beside x whole same ins outs f = stands_by x whole (told_beside x same ins outs) ins outs f
 
 -- where nothing passed at an actor's ends, by whichever calls, it stands for nothing
 pub stands_anew : (passed : Passed) (x : Actor) → IsWhole x → ((n : ℕ) → ActorEnd x Consumer n → passed.taken n ≡ []) → ((n : ℕ) → ActorEnd x Producer n → passed.sent n ≡ []) → ActorStandsFor x passed → ActorStandsFor x nothing_passed
-stands_anew passed x whole ins outs f = stands_by passed nothing_passed x whole (λ v is st. rx_anew passed v (λ n own. ins n (subst (λ y. ActorEnd y Consumer n) (sym is) own)) (λ n own. outs n (subst (λ y. ActorEnd y Producer n) (sym is) own)) st) (λ n own. sym (ins n own)) (λ n own. sym (outs n own)) f
+stands_anew passed x whole ins outs f = stands_by passed nothing_passed x whole (told_anew x whole ins outs) (λ n own. sym (ins n own)) (λ n own. sym (outs n own)) f
+  where
+    told_anew : (x : Actor) → IsWhole x → ((n : ℕ) → ActorEnd x Consumer n → passed.taken n ≡ []) → ((n : ℕ) → ActorEnd x Producer n → passed.sent n ≡ []) → Telling passed nothing_passed x
+    told_anew (Kinds.SerialVirtRx v) whole ins outs = rx_anew passed v ins outs
+    told_anew (Kinds.EthDevice d) whole ins outs = device_anew passed d whole ins outs
+    told_anew (Kinds.NetCopier c) whole ins outs = copier_anew passed c ins outs
+    told_anew (Kinds.UartDevice x) whole ins outs = tt
+    told_anew (Kinds.SerialClient x) whole ins outs = tt
+    told_anew (Kinds.SerialVirtTx x) whole ins outs = tt
+    told_anew (Kinds.UartDriver x) whole ins outs = tt
+    told_anew (Kinds.EthDriver x) whole ins outs = tt
+    told_anew (Kinds.NetVirtRx x) whole ins outs = tt
+    told_anew (Kinds.NetClient x) whole ins outs = tt
+    told_anew (Kinds.NetVirtTx x) whole ins outs = tt
+    told_anew (Kinds.DiskDevice x) whole ins outs = tt
+    told_anew (Kinds.BlkDriver x) whole ins outs = tt
+    told_anew (Kinds.BlkVirt x) whole ins outs = tt
+    told_anew (Kinds.BlkClient x) whole ins outs = tt
+    told_anew (Kinds.Rogue x) whole ins outs = tt

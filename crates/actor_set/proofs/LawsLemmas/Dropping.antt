@@ -1,7 +1,7 @@
 -- The ends at which an actor drops are those at which its part does.
-use Rattle.std.proofs.Common.{◌≡◌, ◌==◌, ◌||◌, ◌⊎◌, ◌≢◌, ℕ, zero, suc, Bool, true, false, Some, List, [], ◌∷◌, map, slice_get, refl, sym, ap, ◌∙◌, arith, inl, inr}
+use Rattle.std.proofs.Common.{◌≡◌, ◌==◌, ◌&&◌, ◌||◌, ◌⊎◌, ◌≢◌, ℕ, zero, suc, Bool, true, false, cond, Some, List, [], ◌∷◌, map, slice_get, refl, sym, ap, ◌∙◌, subst, arith, eq-eqb, inl, inr}
 use Rattle.std.proofs.Math.Dec.{eqb}
-use Rattle.std.proofs.lemmas.Bool.{eqb-true}
+use Rattle.std.proofs.lemmas.Bool.{eqb-true, ne_eqb}
 use Rattle.std.proofs.lemmas.Bool.Decides.{eqb_tells}
 use Rattle.wire_core.specs.declared.names.Side.TheVariants.{Backward}
 use Rattle.wire_core.specs.Ends.{Role, Consumer, Producer}
@@ -12,7 +12,9 @@ use Rattle.turn_kit.specs.Dropping.{with_drops}
 use Rattle.serial_virt.specs.Shares.{policy_at}
 use Rattle.play_core.proofs.Lists.{some_is}
 use Rattle.actor_set.specs.Parts.{Part, UartPart, DriverPart, RxPart, TxPart, ClientPart, NetworkPart, SendingPart, BlockPart, HostilePart}
-use Rattle.actor_set.specs.Laws.Kinds.{dropping_ends, drop_seats, has_seat}
+use Rattle.play_core.specs.Wants.{intake}
+use Rattle.net_law.specs.Parts.Parts.{NetPart, NetDevice, NetDriver, NetReceiver, NetCopier, NetClient}
+use Rattle.actor_set.specs.Laws.Kinds.{dropping_ends, net_drop_seats, drop_seats, has_seat}
 use Rattle.actor_set.proofs.LawsLemmas.PartEnds.{PartEnd}
 
 -- the post of a client's end: it drops by the client's policy
@@ -115,6 +117,39 @@ is_clients (q ∷ qs) (true ∷ ds) n h = elim (or_parts (q == n) (has_seat (dro
 ]
 is_clients (q ∷ qs) (false ∷ ds) n h = let c = is_clients qs ds n h in (suc c.0, c.1)
 
+-- one end, or none, at which a buffer is looked for
+pub seat_here : (b : Bool) (n : ℕ) → b ≡ has_seat (cond b (intake n ∷ []) []) Consumer n
+seat_here true n = sym (ap (λ x. (true && x) || false) (eq-eqb n n refl))
+seat_here false n = refl
+
+pub no_outlet : (b : Bool) (n q : ℕ) → false ≡ has_seat (cond b (intake n ∷ []) []) Producer q
+no_outlet true n q = refl
+no_outlet false n q = refl
+
+pub other_intake : (b : Bool) (n q : ℕ) → (n ≡ q → ⊥) → false ≡ has_seat (cond b (intake n ∷ []) []) Consumer q
+other_intake true n q apart = sym (ap (λ x. (true && x) || false) (ne_eqb n q apart))
+other_intake false n q apart = refl
+
+-- it is a consumer's
+is_intake : (b : Bool) (m : ℕ) (r : Role) (n : ℕ) → has_seat (cond b (intake m ∷ []) []) r n ≡ true → (r ≡ Consumer) × (n ≡ m)
+is_intake true m Consumer n h = elim (or_parts (m == n) false h) [
+  | inl e ↦ (refl, sym (eqb-true m n e))
+  | inr e ↦ cc
+]
+is_intake true m Producer n h = cc
+is_intake false m r n h = cc
+
+net_drop_end : (p : NetPart) (r : Role) (n : ℕ) → has_seat (net_drop_seats p) r n ≡ true → PartEnd (NetworkPart p) r n
+net_drop_end (NetDevice rx_free rx_active tx_active tx_free frames drops) r n h =
+    let s = is_intake drops rx_free r n h in
+    subst (λ z. PartEnd (NetworkPart (NetDevice rx_free rx_active tx_active tx_free frames drops)) z n) (sym s.0) (subst (PartEnd (NetworkPart (NetDevice rx_free rx_active tx_active tx_free frames drops)) Consumer) (sym s.1) (0, refl))
+net_drop_end (NetCopier lease_active lease_free rx_active rx_free drops) r n h =
+    let s = is_intake drops rx_free r n h in
+    subst (λ z. PartEnd (NetworkPart (NetCopier lease_active lease_free rx_active rx_free drops)) z n) (sym s.0) (subst (PartEnd (NetworkPart (NetCopier lease_active lease_free rx_active rx_free drops)) Consumer) (sym s.1) (1, refl))
+net_drop_end (NetDriver ways) r n h = cc
+net_drop_end (NetReceiver active free pool clients) r n h = cc
+net_drop_end (NetClient program mac rx_active rx_free tx_active tx_free rx tx) r n h = cc
+
 -- where a part drops it has an end
 pub drop_end : (p : Part) (r : Role) (n : ℕ) → has_seat (drop_seats p) r n ≡ true → PartEnd p r n
 drop_end (RxPart rx clients drops) Consumer n h = let no : true ≡ false = sym h ∙ no_consumer clients drops n in cc
@@ -123,7 +158,7 @@ drop_end (UartPart rx tx input) r n h = cc
 drop_end (DriverPart device_rx device_tx rx tx) r n h = cc
 drop_end (TxPart tx clients) r n h = cc
 drop_end (ClientPart rx tx script) r n h = cc
-drop_end (NetworkPart p) r n h = cc
+drop_end (NetworkPart p) r n h = net_drop_end p r n h
 drop_end (SendingPart p) r n h = cc
 drop_end (BlockPart p) r n h = cc
 drop_end (HostilePart p) r n h = cc

@@ -26,7 +26,7 @@ use Rattle.net_virt_rx.specs.Sharing.{IsFrameInTurn, IsLeaseInTurn, SharerStands
 use Rattle.net_virt_rx.specs.declared.NetVirtRx.{NetVirtRx}
 use Rattle.net_virt_rx.proofs.Standing.{as_lists}
 use Rattle.net_virt_rx.proofs.Steps.{queue_is}
-use Rattle.net_copier.specs.Copying.{FitsCopier, HoldingCopierStands, CopierEnd}
+use Rattle.net_copier.specs.Copying.{FitsCopier, CopierEnd}
 use Rattle.net_copier.specs.declared.NetCopier.{NetCopier}
 use Rattle.client_programs.specs.Net.Clients.{FitsClient, ClientStandsFor, ClientEnd}
 use Rattle.client_programs.specs.Net.Clients as client
@@ -141,8 +141,9 @@ module _ (passed passed' : Passed) where
   stands_pipes [] ins outs f = tt
   stands_pipes (p ∷ ps) ins outs f = (stands_pipe p (ins p.input.queue.0 (inl refl)) (outs p.output.queue.0 (inl refl)) f.0, stands_pipes ps (λ n e. ins n (inr e)) (λ n e. outs n (inr e)) f.1)
 
-  pub stands_device : (d : EthDevice) → ((n : ℕ) → DeviceEnd d Consumer n → passed'.taken n ≡ passed.taken n) → ((n : ℕ) → DeviceEnd d Producer n → passed'.sent n ≡ passed.sent n) → HoldingDeviceStands d passed → HoldingDeviceStands d passed'
-  stands_device d ins outs f = record {
+  -- of a device that waits, by whichever calls
+  pub stays_device : (d : EthDevice) → ((n : ℕ) → DeviceEnd d Consumer n → passed'.taken n ≡ passed.taken n) → ((n : ℕ) → DeviceEnd d Producer n → passed'.sent n ≡ passed.sent n) → HoldingDeviceStands d passed → HoldingDeviceStands d passed'
+  stays_device d ins outs f = record {
     filled = rw (ins (rx_free d) (inl refl), outs (rx_active d) (inl refl)) f.filled;
     takes = rw (ins (rx_free d) (inl refl)) f.takes;
     next = f.next;
@@ -151,21 +152,6 @@ module _ (passed passed' : Passed) where
       recorded = rw (ins (tx_active d) (inr refl)) f.sends.recorded;
     };
   }
-
-  pub stands_copier : (c : NetCopier) → ((n : ℕ) → CopierEnd c Consumer n → passed'.taken n ≡ passed.taken n) → ((n : ℕ) → CopierEnd c Producer n → passed'.sent n ≡ passed.sent n) → HoldingCopierStands c passed → HoldingCopierStands c passed'
-  stands_copier c ins outs f =
-      let li : passed'.taken c.lease_input.queue.0 ≡ passed.taken c.lease_input.queue.0 = ins c.lease_input.queue.0 (inl refl) in
-      let bi : passed'.taken c.buffer_input.queue.0 ≡ passed.taken c.buffer_input.queue.0 = ins c.buffer_input.queue.0 (inr refl) in
-      let bo : passed'.sent c.buffer_output.queue.0 ≡ passed.sent c.buffer_output.queue.0 = outs c.buffer_output.queue.0 (inl refl) in
-      let lo : passed'.sent c.lease_output.queue.0 ≡ passed.sent c.lease_output.queue.0 = outs c.lease_output.queue.0 (inr refl) in
-      record {
-        leases = rw (li, lo) f.leases;
-        copies = rw (li, bi, bo) f.copies;
-        takes = rw (bi, bo) f.takes;
-        puts = rw (bo, lo) f.puts;
-        in_turn = rw lo f.in_turn;
-        work = f.work;
-      }
 
   pub stands_client : (c : NetClient) → ((n : ℕ) → ClientEnd c Consumer n → passed'.taken n ≡ passed.taken n) → ((n : ℕ) → ClientEnd c Producer n → passed'.sent n ≡ passed.sent n) → ClientStandsFor c passed → ClientStandsFor c passed'
   stands_client c ins outs f =

@@ -30,10 +30,10 @@ abbrev pub ends_of : NetPart → List Seat
 ends_of p = (net_sheet (record { frames = []; image = [] }) p).ends
 
 pub ends_same : (scene : Scene) (p : NetPart) → (net_sheet scene p).ends ≡ ends_of p
-ends_same scene (NetDevice rx_free rx_active tx_active tx_free frames) = refl
+ends_same scene (NetDevice rx_free rx_active tx_active tx_free frames drops) = refl
 ends_same scene (NetDriver ways) = refl
 ends_same scene (NetReceiver active free pool clients) = refl
-ends_same scene (NetCopier lease_active lease_free rx_active rx_free) = refl
+ends_same scene (NetCopier lease_active lease_free rx_active rx_free drops) = refl
 ends_same scene (NetClient program mac rx_active rx_free tx_active tx_free rx tx) = refl
 
 pub queue_of : (s : Seat) (r : Role) (n : ℕ) → Some s ≡ Some (seat r n) → n ≡ s.queue

@@ -30,13 +30,17 @@ HasPost posts s n = (k : ℕ) × (p : Post) × (slice_get posts k ≡ Some p) ×
 abbrev pub ArePostsApart : List Post → Type 0
 ArePostsApart posts = (k j : ℕ) (p q : Post) → slice_get posts k ≡ Some p → slice_get posts j ≡ Some q → p.queue ≡ q.queue → k ≡ j
 
--- four posts
+-- four posts, of each of which this holds
+pub four_of : (P : Post → Type 0) (a b c d : Post) → P a → P b → P c → P d → (k : ℕ) (p : Post) → slice_get (a ∷ b ∷ c ∷ d ∷ []) k ≡ Some p → P p
+four_of P a b c d pa pb pc pd zero p at = subst P (some_is at) pa
+four_of P a b c d pa pb pc pd (suc zero) p at = subst P (some_is at) pb
+four_of P a b c d pa pb pc pd (suc (suc zero)) p at = subst P (some_is at) pc
+four_of P a b c d pa pb pc pd (suc (suc (suc zero))) p at = subst P (some_is at) pd
+four_of P a b c d pa pb pc pd (suc (suc (suc (suc k)))) p at = cc
+
+-- four posts that never drop
 pub four_posts : (E : Role → ℕ → Type 0) (a b c d : Post) → IsPostAt E a → IsPostAt E b → IsPostAt E c → IsPostAt E d → (k : ℕ) (p : Post) → slice_get (a ∷ b ∷ c ∷ d ∷ []) k ≡ Some p → IsPostAt E p
-four_posts E a b c d ea eb ec ed zero p at = subst (IsPostAt E) (some_is at) ea
-four_posts E a b c d ea eb ec ed (suc zero) p at = subst (IsPostAt E) (some_is at) eb
-four_posts E a b c d ea eb ec ed (suc (suc zero)) p at = subst (IsPostAt E) (some_is at) ec
-four_posts E a b c d ea eb ec ed (suc (suc (suc zero))) p at = subst (IsPostAt E) (some_is at) ed
-four_posts E a b c d ea eb ec ed (suc (suc (suc (suc k)))) p at = cc
+four_posts E a b c d ea eb ec ed k p at = four_of (IsPostAt E) a b c d ea eb ec ed k p at
 
 -- a driver's posts
 pub pipes_post : (ps : List Pipe) (k : ℕ) (p : Post) → slice_get (pipe_posts ps) k ≡ Some p → IsPostAt (PipesEnd ps) p

@@ -7,18 +7,8 @@ use Rattle.wire_core.specs.Queues.{items_of}
 use Rattle.turn_kit.specs.declared.pipe.Pipe.{Pipe}
 use Rattle.pipe_driver.specs.Drivers.{PipesStandFor, PipesRow}
 use Rattle.play_core.specs.Moved.{Moved, Seat, went}
-use Rattle.device_model.specs.Ethernet.Devices.{HoldingDeviceStands, HoldingDeviceRow}
-use Rattle.device_model.specs.declared.ethernet.EthDevice.{EthDevice}
 use Rattle.net_law.specs.Owners.Ends.{AreItemsOf, passed_at}
 use Rattle.play_core.specs.Rests.Showing.{HaveItems}
-
-pub device_row_of : (d : EthDevice) (passed : Passed) → HoldingDeviceStands d passed → HoldingDeviceRow d passed
-device_row_of d passed st = record {
-  filled = (option_to_list d.load, st.filled);
-  takes = omega (arith, st.takes, st.next);
-  returns = (option_to_list d.wire.pipe.load, sym st.sends.moved);
-  wire = st.sends.recorded;
-}
 
 pub pipes_row_of : (ps : List Pipe) (passed : Passed) → PipesStandFor ps passed → PipesRow ps passed
 pipes_row_of [] passed st = tt

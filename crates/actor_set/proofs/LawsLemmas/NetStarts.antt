@@ -27,7 +27,7 @@ use Rattle.turn_kit.proofs.Holding.{buffers-append, buffers-cons}
 use Rattle.pipe_driver.specs.Drivers.{EachPipe, AreDistinct, PipesEnd, FitsPipes, PipesStandFor, inputs_of, outputs_of}
 use Rattle.play_core.specs.Sheets.{Scene}
 use Rattle.play_core.proofs.Lists.{map_get, map_from}
-use Rattle.device_model.specs.Ethernet.Devices.{FitsDevice, HoldingDeviceStands, DeviceEnd, rx_free, rx_active, tx_active, tx_free}
+use Rattle.device_model.specs.Ethernet.Devices.{FitsDevice, DeviceStandsFor, DeviceEnd, rx_free, rx_active, tx_active, tx_free}
 use Rattle.device_model.specs.declared.ethernet.EthDevice.{EthDevice}
 use Rattle.buffer_kit.specs.Pools.{given_entry, page_bodies}
 use Rattle.buffer_kit.specs.Stocks.{stock_list, stock_hand}
@@ -41,7 +41,7 @@ use Rattle.net_virt_rx.specs.declared.LeaseEnds.{LeaseEnds}
 use Rattle.net_virt_rx.specs.Receiving.{FitsRx}
 use Rattle.net_virt_rx.specs.Sharing.{sharer_hand}
 use Rattle.net_virt_rx.specs.declared.NetVirtRx.{NetVirtRx}
-use Rattle.net_copier.specs.Copying.{FitsCopier, HoldingCopierStands, CopierEnd, IfThere, IsAt, IsWork, IsNewCopier}
+use Rattle.net_copier.specs.Copying.{FitsCopier, CopierStandsFor, CopierEnd, IfThere, IsAt, IsWork, IsNewCopier}
 use Rattle.net_copier.specs.declared.NetCopier.{NetCopier}
 use Rattle.client_programs.specs.Net.Clients.{FitsClient, ClientStandsFor, ClientEnd, client_hand}
 use Rattle.client_programs.specs.Net.Clients as client
@@ -99,7 +99,7 @@ module _ (ends : Role → ℕ → End) where
     frames = new.short;
   }
 
-  pub new_copier_fits : (c : NetCopier) → IsNewCopier c.lease_input.queue c.lease_output.queue c.buffer_output.queue c.buffer_input.queue false c → (c.lease_input.queue.0 ≡ c.buffer_input.queue.0 → ⊥) → (c.buffer_output.queue.0 ≡ c.lease_output.queue.0 → ⊥) → IsWork c → Seated (CopierEnd c) → FitsCopier ends c
+  pub new_copier_fits : (c : NetCopier) → IsNewCopier c.lease_input.queue c.lease_output.queue c.buffer_output.queue c.buffer_input.queue c.drops c → (c.lease_input.queue.0 ≡ c.buffer_input.queue.0 → ⊥) → (c.buffer_output.queue.0 ≡ c.lease_output.queue.0 → ⊥) → IsWork c → Seated (CopierEnd c) → FitsCopier ends c
   new_copier_fits c new i o work s = record {
     lease_input = s.inputs c.lease_input.queue.0 c.lease_input.state (inl refl) (ap (λ (x : Intake). x.state) new.lease_input);
     buffer_input = s.inputs c.buffer_input.queue.0 c.buffer_input.state (inr refl) (ap (λ (x : Intake). x.state) new.buffer_input);
@@ -200,21 +200,22 @@ pub new_pipes_stand : (ps : List Pipe) → EachPipe (λ p. IsNewPipe p.input.que
 new_pipes_stand [] new = tt
 new_pipes_stand (p ∷ ps) new = (new_pipe_stands p new.0, new_pipes_stand ps new.1)
 
-pub new_device_stands : (d : EthDevice) → IsNewReceiving d → HoldingDeviceStands d nothing_passed
+pub new_device_stands : (d : EthDevice) → IsNewReceiving d → DeviceStandsFor d nothing_passed
 new_device_stands d new = record {
   filled = ap option_to_list new.new.load ∙ sym (no_entries d.frames);
   takes = sym new.new.next;
   next = rw new.new.next (omega arith);
   sends = record { moved = new_pipe_stands d.wire.pipe new.new.wire; recorded = new.new.sent };
+  tells = λ drops. record { used = sym new.new.next; each = refl };
 }
 
-pub new_copier_work : (c : NetCopier) → IsNewCopier c.lease_input.queue c.lease_output.queue c.buffer_output.queue c.buffer_input.queue false c → IsWork c
+pub new_copier_work : (c : NetCopier) → IsNewCopier c.lease_input.queue c.lease_output.queue c.buffer_output.queue c.buffer_input.queue c.drops c → IsWork c
 new_copier_work c new = record {
   lease = subst (λ x. IfThere x (IsAt c.stage)) (sym new.lease) tt;
   buffered = λ some. let no : false ≡ true = sym (ap is_some new.buffer) ∙ some in cc;
 }
 
-pub new_copier_stands : (c : NetCopier) → IsNewCopier c.lease_input.queue c.lease_output.queue c.buffer_output.queue c.buffer_input.queue false c → HoldingCopierStands c nothing_passed
+pub new_copier_stands : (c : NetCopier) → IsNewCopier c.lease_input.queue c.lease_output.queue c.buffer_output.queue c.buffer_input.queue c.drops c → CopierStandsFor c nothing_passed
 new_copier_stands c new = record {
   leases = sym (ap option_to_list new.lease);
   copies = ap option_to_list new.buffer;
@@ -222,6 +223,7 @@ new_copier_stands c new = record {
   puts = rw new.lease refl;
   in_turn = λ k x lt. absurd (omega (arith, lt));
   work = new_copier_work c new;
+  tells = λ drops. record { came = rw new.lease refl; waits = rw new.lease refl; each = refl };
 }
 
 pub new_client_stands : (c : NetClient) → IsNewClientOf c → ClientStandsFor c nothing_passed

@@ -1,4 +1,4 @@
-use Rattle.std.proofs.Common.{◌≡◌, ◌⊎◌, ◌==◌, ◌<◌, ◌+◌, ◌&&◌, ◌||◌, ℕ, zero, suc, Bool, true, false, Some, is_some, is_none, List, [], ◌∷◌, length, slice_get, slice_index_or, refl, sym, ap, ◌∙◌, subst, arith, inl, inr}
+use Rattle.std.proofs.Common.{◌≡◌, ◌⊎◌, ◌==◌, ◌<◌, ◌+◌, ◌&&◌, ◌||◌, ℕ, zero, suc, Bool, true, false, cond, Some, is_some, is_none, List, [], ◌∷◌, length, slice_get, slice_index_or, refl, sym, ap, ◌∙◌, subst, arith, inl, inr}
 use Rattle.std.proofs.lemmas.Bool.{eqb-true}
 use Rattle.wire_core.specs.declared.names.QueueRow.{QueueRow}
 use Rattle.wire_core.specs.declared.names.Entry.{Entry}
@@ -17,7 +17,13 @@ use Rattle.actor_set.specs.Actors.{ActorEnd, actor_round, numbers, part_of}
 use Rattle.actor_set.specs.Parts.{Part, UartPart, DriverPart, RxPart, TxPart, ClientPart, NetworkPart, SendingPart, BlockPart, HostilePart}
 use Rattle.actor_set.specs.Laws.Kinds.{manner_of, dropping_ends, drop_seats, has_seat}
 use Rattle.actor_set.proofs.LawsLemmas.PartEnds.{number_there, queue_there}
-use Rattle.actor_set.proofs.LawsLemmas.Dropping.{RxPost, rx_post, rx_has, no_consumer, client_there}
+use Rattle.actor_set.proofs.LawsLemmas.Dropping.{RxPost, rx_post, rx_has, no_consumer, client_there, seat_here, no_outlet, other_intake}
+use Rattle.play_core.specs.Wants.{intake}
+use Rattle.device_model.specs.Ethernet.Devices.{free_post, device_round}
+use Rattle.device_model.specs.declared.ethernet.EthDevice.{EthDevice}
+use Rattle.net_copier.specs.Copying.{buffer_post, copier_round}
+use Rattle.net_copier.specs.declared.NetCopier.{NetCopier}
+use Rattle.net_law.specs.Parts.Parts as net
 use Rattle.actor_set.specs.declared.actor.Actor.{Actor}
 use Rattle.actor_set.specs.declared.actor.Actor.TheVariants as Kinds
 use Rattle.device_model.specs.declared.serial_terminal.Terminal.{Terminal}
@@ -34,21 +40,29 @@ use Rattle.net_virt_tx.specs.Traffics.{is_free, owes, needs_at, loaded_at}
 use Rattle.pipe_driver.specs.Lengths.{two_pipes}
 use Rattle.blk_virt.specs.Works.{is_owing, wants_at, gives_at}
 use Rattle.actor_set.specs.StartStates.{HasApartEnds, HasNoLoop}
-use Rattle.actor_set.proofs.LawsLemmas.NetPaces.{four_posts, pipes_post, pipes_has, pipes_size, pipes_apart, virt_post, virt_has, virt_size, virt_apart}
+use Rattle.actor_set.proofs.LawsLemmas.NetPaces.{four_of, four_posts, pipes_post, pipes_has, pipes_size, pipes_apart, virt_post, virt_has, virt_size, virt_apart}
 use Rattle.play_core.specs.Runs.{called_from}
 use Rattle.turn_kit.specs.Pace.{pendings, IsCalled}
 use Rattle.play_core.proofs.Lists.{some_is, map_get, map_from}
 
 -- Each actor's round is its ends, and an actor that is called has a notification pending at one of them.
 
--- a part that isn't a receiving virtualiser of the serial class drops nowhere
+-- of the network, a part that is neither a device nor a copier drops nowhere
+abbrev pub NetWaits : net.NetPart → Post → Type 0
+NetWaits (net.NetDevice rx_free rx_active tx_active tx_free frames drops) p = Unit {0}
+NetWaits (net.NetDriver ways) p = p.drops ≡ false
+NetWaits (net.NetReceiver active free pool clients) p = p.drops ≡ false
+NetWaits (net.NetCopier lease_active lease_free rx_active rx_free drops) p = Unit {0}
+NetWaits (net.NetClient program mac rx_active rx_free tx_active tx_free rx tx) p = p.drops ≡ false
+
+-- nor does one that isn't a receiving virtualiser of the serial class
 abbrev pub Waits : Part → Post → Type 0
 Waits (UartPart rx tx input) p = p.drops ≡ false
 Waits (DriverPart device_rx device_tx rx tx) p = p.drops ≡ false
 Waits (RxPart rx clients drops) p = Unit {0}
 Waits (TxPart tx clients) p = p.drops ≡ false
 Waits (ClientPart rx tx script) p = p.drops ≡ false
-Waits (NetworkPart q) p = p.drops ≡ false
+Waits (NetworkPart q) p = NetWaits q p
 Waits (SendingPart q) p = p.drops ≡ false
 Waits (BlockPart q) p = p.drops ≡ false
 Waits (HostilePart q) p = p.drops ≡ false
@@ -77,10 +91,10 @@ post_stands (Kinds.SerialVirtRx x) zero p at = subst (IsPostOf (Kinds.SerialVirt
 post_stands (Kinds.SerialVirtRx x) (suc k) p at = (outlet_end x k p (rx_post x.drops.items x.outputs.ends.items k p at), tt)
 post_stands (Kinds.SerialVirtTx x) zero p at = subst (IsPostOf (Kinds.SerialVirtTx x)) (some_is at) (refl, refl)
 post_stands (Kinds.SerialVirtTx x) (suc k) p at = let m = map_from intake_post x.inputs.ends.items k p at in subst (IsPostOf (Kinds.SerialVirtTx x)) m.2 ((k, m.0.queue, map_get (λ (i : Intake). i.queue) x.inputs.ends.items k m.0 m.1, refl), refl)
-post_stands (Kinds.EthDevice x) k p at = four_posts (ActorEnd (Kinds.EthDevice x)) (intake_post x.free) (outlet_post x.active) (intake_post x.wire.pipe.input) (outlet_post x.wire.pipe.output) (inl refl, refl) (inl refl, refl) (inr refl, refl) (inr refl, refl) k p at
+post_stands (Kinds.EthDevice x) k p at = four_of (IsPostOf (Kinds.EthDevice x)) (free_post x) (outlet_post x.active) (intake_post x.wire.pipe.input) (outlet_post x.wire.pipe.output) (inl refl, tt) (inl refl, tt) (inr refl, tt) (inr refl, tt) k p at
 post_stands (Kinds.EthDriver x) k p at = pipes_post (four_pipes x.driver.pipes) k p at
 post_stands (Kinds.NetVirtRx x) k p at = virt_post x.ends k p at
-post_stands (Kinds.NetCopier x) k p at = four_posts (ActorEnd (Kinds.NetCopier x)) (intake_post x.lease_input) (intake_post x.buffer_input) (outlet_post x.buffer_output) (outlet_post x.lease_output) (inl refl, refl) (inr refl, refl) (inl refl, refl) (inr refl, refl) k p at
+post_stands (Kinds.NetCopier x) k p at = four_of (IsPostOf (Kinds.NetCopier x)) (intake_post x.lease_input) (buffer_post x) (outlet_post x.buffer_output) (outlet_post x.lease_output) (inl refl, tt) (inr refl, tt) (inl refl, tt) (inr refl, tt) k p at
 post_stands (Kinds.NetClient x) k p at = four_posts (ActorEnd (Kinds.NetClient x)) (intake_post x.frames.pipe.input) (outlet_post x.frames.pipe.output) (intake_post x.sent) (outlet_post x.send) (inl refl, refl) (inl refl, refl) (inr refl, refl) (inr refl, refl) k p at
 post_stands (Kinds.NetVirtTx x) k p at = virt_post x.ends k p at
 post_stands (Kinds.DiskDevice x) zero p at = subst (IsPostOf (Kinds.DiskDevice x)) (some_is at) (refl, refl)
@@ -107,6 +121,15 @@ rx_drops x (suc k) p apart at =
     o.drops ∙ (sym (client_there qs x.drops.items k p.queue there (λ j at. let q = queue_there (outlet_queues x.outputs) j p.queue at in apart j k q.0 o.end.queue q.1 here (sym q.2 ∙ o.queue)))
     ∙ ap (λ s. has_seat (dropping_ends qs x.drops.items) (waiting_role s) p.queue) (sym o.side))
 
+-- a device and a copier drop where they look for a buffer
+device_drops : (x : EthDevice) (k : ℕ) (p : Post) → (device.rx_free x ≡ device.tx_active x → ⊥) → slice_get (device_round x).posts k ≡ Some p → p.drops ≡ has_seat (cond x.drops (intake (device.rx_free x) ∷ []) []) (waiting_role p.side) p.queue
+device_drops x k p apart at = four_of (λ (z : Post). z.drops ≡ has_seat (cond x.drops (intake (device.rx_free x) ∷ []) []) (waiting_role z.side) z.queue) (free_post x) (outlet_post x.active) (intake_post x.wire.pipe.input) (outlet_post x.wire.pipe.output)
+    (seat_here x.drops (device.rx_free x)) (no_outlet x.drops (device.rx_free x) x.active.queue.0) (other_intake x.drops (device.rx_free x) (device.tx_active x) apart) (no_outlet x.drops (device.rx_free x) x.wire.pipe.output.queue.0) k p at
+
+copier_drops : (x : NetCopier) (k : ℕ) (p : Post) → (x.lease_input.queue.0 ≡ x.buffer_input.queue.0 → ⊥) → slice_get (copier_round x).posts k ≡ Some p → p.drops ≡ has_seat (cond x.drops (intake x.buffer_input.queue.0 ∷ []) []) (waiting_role p.side) p.queue
+copier_drops x k p apart at = four_of (λ (z : Post). z.drops ≡ has_seat (cond x.drops (intake x.buffer_input.queue.0 ∷ []) []) (waiting_role z.side) z.queue) (intake_post x.lease_input) (buffer_post x) (outlet_post x.buffer_output) (outlet_post x.lease_output)
+    (other_intake x.drops x.buffer_input.queue.0 x.lease_input.queue.0 (λ e. apart (sym e))) (seat_here x.drops x.buffer_input.queue.0) (no_outlet x.drops x.buffer_input.queue.0 x.buffer_output.queue.0) (no_outlet x.drops x.buffer_input.queue.0 x.lease_output.queue.0) k p at
+
 -- an actor drops at the ends at which its part does
 pub post_drops : (x : Actor) (k : ℕ) (p : Post) → HasApartEnds x → slice_get (actor_round x).posts k ≡ Some p → p.drops ≡ has_seat (drop_seats (part_of x)) (waiting_role p.side) p.queue
 post_drops (Kinds.SerialVirtRx x) k p apart at = rx_drops x k p apart at
@@ -114,10 +137,10 @@ post_drops (Kinds.UartDevice x) k p apart at = (post_stands (Kinds.UartDevice x)
 post_drops (Kinds.SerialClient x) k p apart at = (post_stands (Kinds.SerialClient x) k p at).1
 post_drops (Kinds.UartDriver x) k p apart at = (post_stands (Kinds.UartDriver x) k p at).1
 post_drops (Kinds.SerialVirtTx x) k p apart at = (post_stands (Kinds.SerialVirtTx x) k p at).1
-post_drops (Kinds.EthDevice x) k p apart at = (post_stands (Kinds.EthDevice x) k p at).1
+post_drops (Kinds.EthDevice x) k p apart at = device_drops x k p apart.0 at
 post_drops (Kinds.EthDriver x) k p apart at = (post_stands (Kinds.EthDriver x) k p at).1
 post_drops (Kinds.NetVirtRx x) k p apart at = (post_stands (Kinds.NetVirtRx x) k p at).1
-post_drops (Kinds.NetCopier x) k p apart at = (post_stands (Kinds.NetCopier x) k p at).1
+post_drops (Kinds.NetCopier x) k p apart at = copier_drops x k p apart.0 at
 post_drops (Kinds.NetClient x) k p apart at = (post_stands (Kinds.NetClient x) k p at).1
 post_drops (Kinds.NetVirtTx x) k p apart at = (post_stands (Kinds.NetVirtTx x) k p at).1
 post_drops (Kinds.DiskDevice x) k p apart at = (post_stands (Kinds.DiskDevice x) k p at).1
@@ -148,14 +171,14 @@ end_post (Kinds.SerialVirtRx x) Backward n calm h =
     (suc h.0, r.0, r.1, r.2 ∙ (ap (λ (q : QueueId). q.0) m.2 ∙ sym h.3), r.3)
 end_post (Kinds.SerialVirtTx x) Forward n calm h = let m = map_from (λ (i : Intake). i.queue) x.inputs.ends.items h.0 h.1 h.2 in (suc h.0, intake_post m.0, map_get intake_post x.inputs.ends.items h.0 m.0 m.1, ap (λ (q : QueueId). q.0) m.2 ∙ sym h.3, refl)
 end_post (Kinds.SerialVirtTx x) Backward n calm h = (0, outlet_post x.output, refl, sym h, refl)
-end_post (Kinds.EthDevice x) Forward n calm (inl h) = (0, intake_post x.free, refl, sym h, refl)
+end_post (Kinds.EthDevice x) Forward n calm (inl h) = (0, free_post x, refl, sym h, refl)
 end_post (Kinds.EthDevice x) Forward n calm (inr h) = (2, intake_post x.wire.pipe.input, refl, sym h, refl)
 end_post (Kinds.EthDevice x) Backward n calm (inl h) = (1, outlet_post x.active, refl, sym h, refl)
 end_post (Kinds.EthDevice x) Backward n calm (inr h) = (3, outlet_post x.wire.pipe.output, refl, sym h, refl)
 end_post (Kinds.EthDriver x) s n calm h = pipes_has (four_pipes x.driver.pipes) s n h
 end_post (Kinds.NetVirtRx x) s n calm h = virt_has x.ends s n h
 end_post (Kinds.NetCopier x) Forward n calm (inl h) = (0, intake_post x.lease_input, refl, sym h, refl)
-end_post (Kinds.NetCopier x) Forward n calm (inr h) = (1, intake_post x.buffer_input, refl, sym h, refl)
+end_post (Kinds.NetCopier x) Forward n calm (inr h) = (1, buffer_post x, refl, sym h, refl)
 end_post (Kinds.NetCopier x) Backward n calm (inl h) = (2, outlet_post x.buffer_output, refl, sym h, refl)
 end_post (Kinds.NetCopier x) Backward n calm (inr h) = (3, outlet_post x.lease_output, refl, sym h, refl)
 end_post (Kinds.NetClient x) Forward n calm (inl h) = (0, intake_post x.frames.pipe.input, refl, sym h, refl)
@@ -289,10 +312,10 @@ apart_posts (Kinds.SerialVirtTx x) h d (suc k) (suc j) p q a b e =
     let o = map_from intake_post x.inputs.ends.items k p a in
     let r = map_from intake_post x.inputs.ends.items j q b in
     ap suc (h k j o.0.queue r.0.queue (map_get (λ (y : Intake). y.queue) x.inputs.ends.items k o.0 o.1) (map_get (λ (y : Intake). y.queue) x.inputs.ends.items j r.0 r.1) (ap (λ (z : Post). z.queue) o.2 ∙ (e ∙ sym (ap (λ (z : Post). z.queue) r.2))))
-apart_posts (Kinds.EthDevice x) h d k j p q a b e = four_apart (intake_post x.free) (outlet_post x.active) (intake_post x.wire.pipe.input) (outlet_post x.wire.pipe.output) (λ e. d (device.rx_free x) (inl refl) (inl e)) h.0 (λ e. d (device.rx_free x) (inl refl) (inr e)) (λ e. d (device.tx_active x) (inr refl) (inl (sym e))) h.1 (λ e. d (device.tx_active x) (inr refl) (inr e)) k j p q a b e
+apart_posts (Kinds.EthDevice x) h d k j p q a b e = four_apart (free_post x) (outlet_post x.active) (intake_post x.wire.pipe.input) (outlet_post x.wire.pipe.output) (λ e. d (device.rx_free x) (inl refl) (inl e)) h.0 (λ e. d (device.rx_free x) (inl refl) (inr e)) (λ e. d (device.tx_active x) (inr refl) (inl (sym e))) h.1 (λ e. d (device.tx_active x) (inr refl) (inr e)) k j p q a b e
 apart_posts (Kinds.EthDriver x) h d k j p q a b e = pipes_apart (four_pipes x.driver.pipes) h.0 h.1 d k j p q a b e
 apart_posts (Kinds.NetVirtRx x) h d k j p q a b e = virt_apart x.ends h d k j p q a b e
-apart_posts (Kinds.NetCopier x) h d k j p q a b e = four_apart (intake_post x.lease_input) (intake_post x.buffer_input) (outlet_post x.buffer_output) (outlet_post x.lease_output) h.0 (λ e. d x.lease_input.queue.0 (inl refl) (inl e)) (λ e. d x.lease_input.queue.0 (inl refl) (inr e)) (λ e. d x.buffer_input.queue.0 (inr refl) (inl e)) (λ e. d x.buffer_input.queue.0 (inr refl) (inr e)) h.1 k j p q a b e
+apart_posts (Kinds.NetCopier x) h d k j p q a b e = four_apart (intake_post x.lease_input) (buffer_post x) (outlet_post x.buffer_output) (outlet_post x.lease_output) h.0 (λ e. d x.lease_input.queue.0 (inl refl) (inl e)) (λ e. d x.lease_input.queue.0 (inl refl) (inr e)) (λ e. d x.buffer_input.queue.0 (inr refl) (inl e)) (λ e. d x.buffer_input.queue.0 (inr refl) (inr e)) h.1 k j p q a b e
 apart_posts (Kinds.NetClient x) h d k j p q a b e = four_apart (intake_post x.frames.pipe.input) (outlet_post x.frames.pipe.output) (intake_post x.sent) (outlet_post x.send) (λ e. d (client.rx_active x) (inl refl) (inl e)) h.0 (λ e. d (client.rx_active x) (inl refl) (inr e)) (λ e. d (client.tx_free x) (inr refl) (inl (sym e))) h.1 (λ e. d (client.tx_free x) (inr refl) (inr e)) k j p q a b e
 apart_posts (Kinds.NetVirtTx x) h d k j p q a b e = virt_apart x.ends h d k j p q a b e
 apart_posts (Kinds.DiskDevice x) h d k j p q a b e = two_apart (intake_post x.device.input) (outlet_post x.device.output) (λ e. d x.device.input.queue.0 refl e) k j p q a b e

@@ -225,7 +225,7 @@ module _ (history : History) (journal : List Entry) (w : List Queue) (bells : Ha
   rest_of (Kinds.EthDevice x) calm turn f st = device_rest scene history journal w passed has bells x f.0 st
   rest_of (Kinds.EthDriver x) calm turn f st = driver_rest scene history journal w passed has bells (four_pipes x.driver.pipes) x.driver.turn.last f st
   rest_of (Kinds.NetVirtRx x) calm turn f st = receiver_rest scene history journal w passed has bells x turn f st
-  rest_of (Kinds.NetCopier x) calm turn f st = copier_rest scene history journal w passed has bells x turn f.0 st
+  rest_of (Kinds.NetCopier x) calm turn f st = copier_rest scene history journal w passed has bells x turn f st
   rest_of (Kinds.NetClient x) calm turn f st = client_rest scene history journal w passed has bells x turn.1 f.0 st
   rest_of (Kinds.NetVirtTx x) calm turn f st = sender_rest history journal w passed has bells x turn.good turn.in_turn f st
   rest_of (Kinds.DiskDevice x) calm turn f st = block.disk_rest scene history journal w passed has bells x.start.value x.device turn f st

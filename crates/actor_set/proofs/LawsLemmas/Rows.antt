@@ -19,7 +19,8 @@ use Rattle.serial_virt.specs.Receiving.{RxStandsFor}
 use Rattle.serial_virt.proofs.Sharing.{rx_row as rx_row_of}
 use Rattle.serial_law.specs.Dropped.{told_marks, client_queues}
 use Rattle.serial_law.proofs.Telling.{told_shares}
-use Rattle.wire_core.specs.Ends.{Producer}
+use Rattle.wire_core.specs.Ends.{Consumer, Producer}
+use Rattle.device_model.specs.Ethernet.Devices.{rx_free}
 use Rattle.serial_virt.specs.declared.rx.SerialVirtRx.{SerialVirtRx}
 use Rattle.serial_virt.specs.Sending.{TxStandsFor}
 use Rattle.serial_virt.specs.declared.tx.SerialVirtTx.{SerialVirtTx}
@@ -28,13 +29,15 @@ use Rattle.play_core.proofs.Merges.{merge_map}
 use Rattle.play_core.specs.Moved.{Moved}
 use Rattle.play_core.specs.Sheets.{Scene}
 use Rattle.eth_driver.specs.Four.{four_pipes}
-use Rattle.net_copier.proofs.Holding.{held_row as copier_row_of}
+use Rattle.device_model.proofs.EthernetLemmas.Holding.{row_of as device_row_of}
+use Rattle.net_copier.proofs.Holding.{row_of as copier_row_of}
 use Rattle.net_virt_rx.proofs.Rounds.{row_of as receiver_row_of}
 use Rattle.net_virt_tx.proofs.Rounds.{row_of as sender_row_of}
 use Rattle.net_law.specs.Parts.Table.{net_sheet}
 use Rattle.net_law.specs.Parts.Playing.{device_part, driver_part, receiver_part, copier_part, client_part}
 use Rattle.client_programs.proofs.NetLemmas.Standing.{row_of}
-use Rattle.net_law.proofs.PartsLemmas.Items.{device_row, driver_row, copier_row, client_row}
+use Rattle.net_law.proofs.PartsLemmas.Items.{driver_row, client_row}
+use Rattle.net_law.proofs.DropsLemmas.Telling.{device_row, copier_row, used_up}
 use Rattle.net_law.proofs.PartsLemmas.Leasing.{receiver_row}
 use Rattle.net_law.specs.TxParts.Table.{send_sheet}
 use Rattle.net_law.specs.TxParts.Playing.{send_part}
@@ -50,7 +53,7 @@ use Rattle.blk_law.proofs.SheetsLemmas.Virtual.{virt_row}
 use Rattle.actor_set.proofs.LawsLemmas.BlkRows.{disk_row_of}
 use Rattle.actor_set.specs.Laws.Kinds.{sheet}
 use Rattle.actor_set.specs.Laws.Turning.{InTurn}
-use Rattle.actor_set.proofs.LawsLemmas.NetRows.{device_row_of, pipes_row_of, items_at}
+use Rattle.actor_set.proofs.LawsLemmas.NetRows.{pipes_row_of, items_at}
 use Rattle.actor_set.specs.Actors.{ActorStandsFor, part_of, numbers}
 use Rattle.play_core.specs.Rests.Showing.{HaveItems}
 use Rattle.actor_set.specs.Laws.Records.{record_of, record_by, frames_got, frames_by, replies_got, replies_by}
@@ -108,10 +111,10 @@ module _ (scene : Scene) (passed : Passed) (items : Moved) (h : HaveItems passed
   actor_row (Kinds.SerialVirtRx x) turn f = rx_row x f
   actor_row (Kinds.SerialVirtTx x) turn f = tx_row x f
   actor_row (Kinds.UartDriver x) turn f = (pipe_row x.driver.pipes.first f.0, pipe_row x.driver.pipes.rest f.1.0)
-  actor_row (Kinds.EthDevice x) turn f = device_row scene x passed items (items_at (net_sheet scene (device_part x)).ends passed items h) (device_row_of x passed f)
+  actor_row (Kinds.EthDevice x) turn f = device_row scene x passed items (record { items = items_at (net_sheet scene (device_part x)).ends passed items h; noes = h.noes Consumer (rx_free x); settled = used_up x passed f }) (device_row_of x passed f)
   actor_row (Kinds.EthDriver x) turn f = driver_row scene (four_pipes x.driver.pipes) passed items (items_at (net_sheet scene (driver_part (four_pipes x.driver.pipes))).ends passed items h) (pipes_row_of (four_pipes x.driver.pipes) passed f)
   actor_row (Kinds.NetVirtRx x) turn f = let row = receiver_row_of x passed f in receiver_row scene x passed items (items_at (net_sheet scene (receiver_part x)).ends passed items h) turn.takes row (turn.in_turn row)
-  actor_row (Kinds.NetCopier x) turn f = copier_row scene x passed items (items_at (net_sheet scene (copier_part x)).ends passed items h) turn (copier_row_of x passed f)
+  actor_row (Kinds.NetCopier x) turn f = copier_row scene x passed items (record { items = items_at (net_sheet scene (copier_part x)).ends passed items h; noes = h.noes Consumer x.buffer_input.queue.0 }) turn (copier_row_of x passed f)
   actor_row (Kinds.NetClient x) turn f = client_row scene x passed items turn.0 turn.1 (items_at (net_sheet scene (client_part x)).ends passed items h) (row_of x passed f)
   actor_row (Kinds.NetVirtTx x) turn f = let row = sender_row_of x passed f in send_row x passed items (items_at (send_sheet (send_part x)).ends passed items h) turn.good row (turn.in_turn row)
   actor_row (Kinds.DiskDevice x) turn f = block.disk_row scene x.start.value x.device passed items turn (items_at (blk_sheet scene (disk_part x.start.value x.device)).ends passed items h) (disk_row_of x.start.value x.device passed f)

@@ -3,17 +3,14 @@ use Rattle.std.proofs.Common.{◌≡◌, ◌==◌, ◌&&◌, ◌+◌, nat_lt, �
 use Rattle.std.specs.List.{filter}
 use Rattle.std.proofs.lemmas.Bool.{and_parts, eqb-true}
 use Rattle.std.proofs.lemmas.List.Concat.{flat_map-append}
-use Rattle.wire_core.specs.declared.names.Answer.{Answer}
 use Rattle.wire_core.specs.declared.names.Event.{Event}
 use Rattle.wire_core.specs.declared.names.Op.{Op}
 use Rattle.wire_core.specs.declared.names.Op.TheVariants as Do
 use Rattle.wire_core.specs.declared.names.QueueId.{QueueId}
-use Rattle.wire_core.specs.Bells.{bit}
 use Rattle.wire_core.specs.Deeds.{Cargo}
 use Rattle.wire_core.specs.Ends.{Role, Consumer, Producer, role_of}
-use Rattle.wire_core.specs.Fates.{Word, Came, Served, Refused, Other, Fate, is_take, is_take_at, is_vain_at, noes_at, without}
+use Rattle.wire_core.specs.Fates.{Word, Came, Served, Refused, Other, Fate, is_take_at, is_vain_at, noes_at, without}
 use Rattle.wire_core.specs.Lists.{Passed, nothing_passed}
-use Rattle.wire_core.specs.Marks.{is_role, is_vain_look}
 use Rattle.wire_core.specs.Queues.{is_store}
 use Rattle.wire_core.proofs.Reasons.{fate_own}
 use Rattle.turn_kit.specs.ManyEnds.{outlet_queues}
@@ -25,20 +22,7 @@ use Rattle.serial_virt.specs.Receiving.{RxStandsFor, RxEnd, clients_of, policy_o
 use Rattle.serial_virt.specs.declared.rx.SerialVirtRx.{SerialVirtRx}
 use Rattle.actor_set.specs.Actors.{ActsAlike}
 use Rattle.actor_set.specs.declared.actor.Actor.TheVariants as Kinds
-use Rattle.actor_set.proofs.LawsLemmas.Alike.{role_same}
-
-take_role : (o : Op) → is_take o ≡ true → (role_of o ≡ Consumer) × (is_store o ≡ false)
-take_role Do.Take h = (refl, refl)
-take_role Do.Put h = cc
-take_role Do.See h = cc
-take_role Do.Room h = cc
-take_role (Do.Ask s) h = cc
-take_role (Do.Waive s) h = cc
-take_role (Do.Wake s) h = cc
-take_role (Do.Wanted s) h = cc
-take_role (Do.Settle s) h = cc
-take_role (Do.Ring s) h = cc
-take_role (Do.Store w v) h = cc
+use Rattle.actor_set.proofs.LawsLemmas.OthersCalls.{false_unless, and_no, not_other, other_take, other_look, looks_own}
 
 put_role : (o : Op) → is_put o ≡ true → (role_of o ≡ Producer) × (is_store o ≡ false)
 put_role Do.Put h = (refl, refl)
@@ -53,23 +37,6 @@ put_role (Do.Settle s) h = cc
 put_role (Do.Ring s) h = cc
 put_role (Do.Store w v) h = cc
 
-vain_plain : (o : Op) (a : Answer) → is_vain_look o a ≡ true → is_store o ≡ false
-vain_plain Do.See a h = refl
-vain_plain Do.Room a h = refl
-vain_plain Do.Take a h = refl
-vain_plain Do.Put a h = refl
-vain_plain (Do.Ask s) a h = refl
-vain_plain (Do.Waive s) a h = refl
-vain_plain (Do.Wake s) a h = refl
-vain_plain (Do.Wanted s) a h = refl
-vain_plain (Do.Settle s) a h = refl
-vain_plain (Do.Ring s) a h = refl
-vain_plain (Do.Store w v) a h = cc
-
-false_unless : (b : Bool) → (b ≡ true → ⊥) → b ≡ false
-false_unless true absent = absurd (absent refl)
-false_unless false absent = refl
-
 -- a client stands as before where what its calls tell, what came and what went stay
 same_client : (drops : Bool) (f g : Fate) (n m : ℕ) (xs ys : List ℕ) (s t owed : List Cargo) → g ≡ f → m ≡ n → ys ≡ xs → t ≡ s → ClientStands drops f n xs s owed → ClientStands drops g m ys t owed
 same_client drops f g n m xs ys s t owed fates noes came went c =
@@ -82,18 +49,8 @@ module _ (v : SerialVirtRx) (own : Event → Bool) (others : (e : Event) → own
   abbrev rx : ℕ
   rx = v.input.queue.0
 
-  -- no call at one of its ends is another's, but for a store
-  not_other : (r : Role) (n : ℕ) → RxEnd v r n → (e : Event) → own e ≡ false → role_of e.op ≡ r → e.queue.0 ≡ n → is_store e.op ≡ false → ⊥
-  not_other r n end e not_own role queue plain =
-      let store : is_store e.op ≡ true = others e not_own (subst (λ z. RxEnd v z e.queue.0) (sym role) (subst (RxEnd v r) (sym queue) end)) in
-      let bad : true ≡ false = sym store ∙ plain in
-      cc
-
   no_take : (e : Event) → own e ≡ false → is_take_at rx e ≡ false
-  no_take e not_own = false_unless (is_take_at rx e) (λ h.
-      let p = and_parts (is_take e.op) (e.queue.0 == rx) h in
-      let r = take_role e.op p.0 in
-      not_other Consumer rx refl e not_own r.0 (eqb-true e.queue.0 rx p.1) r.1)
+  no_take = other_take (RxEnd v) own others rx refl
 
   heard_own : (es : List Event) → heard rx es ≡ heard rx (filter own es)
   heard_own [] = refl
@@ -108,24 +65,13 @@ module _ (v : SerialVirtRx) (own : Event → Bool) (others : (e : Event) → own
     no_put e not_own = false_unless (is_put_at q.0 e) (λ h.
         let p = and_parts (is_put e.op) (e.queue.0 == q.0) h in
         let r = put_role e.op p.0 in
-        not_other Producer q.0 (k, q, at, refl) e not_own r.0 (eqb-true e.queue.0 q.0 p.1) r.1)
+        not_other (RxEnd v) own others Producer q.0 (k, q, at, refl) e not_own r.0 (eqb-true e.queue.0 q.0 p.1) r.1)
 
     no_vain : (e : Event) → own e ≡ false → is_vain_at Producer q.0 e ≡ false
-    no_vain e not_own = false_unless (is_vain_at Producer q.0 e) (λ h.
-        let p = and_parts (is_vain_look e.op e.answer) (is_role (role_of e.op) Producer && (e.queue.0 == q.0)) h in
-        let r = and_parts (is_role (role_of e.op) Producer) (e.queue.0 == q.0) p.1 in
-        not_other Producer q.0 (k, q, at, refl) e not_own (role_same (role_of e.op) Producer r.0) (eqb-true e.queue.0 q.0 r.1) (vain_plain e.op e.answer p.0))
-
-    nothing : (n : ℕ) → bit false + n ≡ n
-    nothing n = omega arith
+    no_vain = other_look (RxEnd v) own others Producer q.0 (k, q, at, refl)
 
     noes_own : (es : List Event) → noes_at Producer q.0 es ≡ noes_at Producer q.0 (filter own es)
-    noes_own [] = refl
-    noes_own (e ∷ es) = by (own e) refl (noes_own es)
-      where
-        by : (b : Bool) → own e ≡ b → noes_at Producer q.0 es ≡ noes_at Producer q.0 (filter own es) → noes_at Producer q.0 (e ∷ es) ≡ noes_at Producer q.0 (filter own (e ∷ es))
-        by true o h = ap (λ n. bit (is_vain_at Producer q.0 e) + n) h ∙ ap (λ b. noes_at Producer q.0 (cond b (e ∷ filter own es) (filter own es))) (sym o)
-        by false o h = ap (λ b. bit b + noes_at Producer q.0 es) (no_vain e o) ∙ (nothing (noes_at Producer q.0 es) ∙ (h ∙ ap (λ b. noes_at Producer q.0 (cond b (e ∷ filter own es) (filter own es))) (sym o)))
+    noes_own = looks_own (RxEnd v) own others Producer q.0 (k, q, at, refl)
 
     abbrev t : Taker
     t = taker_of v k q
@@ -146,10 +92,6 @@ module _ (v : SerialVirtRx) (own : Event → Bool) (others : (e : Event) → own
 
     word_own : (before : List Event) (e : Event) → serial_word rx t before e ≡ serial_word rx t (filter own before) e
     word_own before e = word_is before e ∙ (ap (λ bs. word_by bs e) (heard_own before) ∙ sym (word_is (filter own before) e))
-
-    and_no : (b : Bool) → (b && false) ≡ false
-    and_no true = refl
-    and_no false = refl
 
     silent : (before : List Event) (e : Event) → own e ≡ false → serial_word rx t before e ≡ Other
     silent before e not_own = rw (no_take e not_own, no_put e not_own, no_vain e not_own, and_no t.drops) refl

@@ -168,7 +168,7 @@ module _ (rows : List QueueRow) (k : ℕ) where
   new_fits (Kinds.EthDevice x) new apart seats = (new_device_fits ends x new apart.0 apart.1 (net_seats (ActorEnd (Kinds.EthDevice x)) seats), new.new.drop)
   new_fits (Kinds.EthDriver x) new apart seats = new_pipes_fit ends (four_pipes x.driver.pipes) new apart.0 apart.1 (net_seats (ActorEnd (Kinds.EthDriver x)) seats)
   new_fits (Kinds.NetVirtRx x) new apart seats = new_receiver_fits ends x new (new_receiver_whole x new) apart (net_seats (ActorEnd (Kinds.NetVirtRx x)) seats)
-  new_fits (Kinds.NetCopier x) new apart seats = (new_copier_fits ends x new apart.0 apart.1 (new_copier_work x new) (net_seats (ActorEnd (Kinds.NetCopier x)) seats), new.drop)
+  new_fits (Kinds.NetCopier x) new apart seats = new_copier_fits ends x new apart.0 apart.1 (new_copier_work x new) (net_seats (ActorEnd (Kinds.NetCopier x)) seats)
   new_fits (Kinds.NetClient x) new apart seats = (new_client_fits ends x new (new_client_few x new) apart.0 apart.1 (net_seats (ActorEnd (Kinds.NetClient x)) seats), record { base = new.new.base; spare_base = new.new.outbox.base })
   new_fits (Kinds.NetVirtTx x) new apart seats = new_sender_fits ends x new (new_sender_whole x new) apart (net_seats (ActorEnd (Kinds.NetVirtTx x)) seats)
   new_fits (Kinds.DiskDevice x) new apart seats = new_disk_fits ends x.start.value x.device new (carried_seats (kind_at (Kinds.DiskDevice x)) (ActorEnd (Kinds.DiskDevice x)) seats)
@@ -225,7 +225,7 @@ new_whole (Kinds.SerialClient x) new = tt
 new_whole (Kinds.UartDriver x) new = tt
 new_whole (Kinds.SerialVirtRx x) new = tt
 new_whole (Kinds.SerialVirtTx x) new = tt
-new_whole (Kinds.EthDevice x) new = tt
+new_whole (Kinds.EthDevice x) new = new.new.drop
 new_whole (Kinds.EthDriver x) new = tt
 new_whole (Kinds.NetVirtRx x) new = new_receiver_whole x new
 new_whole (Kinds.NetCopier x) new = tt
@@ -244,7 +244,7 @@ fits_whole ends (Kinds.SerialClient x) f = tt
 fits_whole ends (Kinds.UartDriver x) f = tt
 fits_whole ends (Kinds.SerialVirtRx x) f = tt
 fits_whole ends (Kinds.SerialVirtTx x) f = tt
-fits_whole ends (Kinds.EthDevice x) f = tt
+fits_whole ends (Kinds.EthDevice x) f = f.1
 fits_whole ends (Kinds.EthDriver x) f = tt
 fits_whole ends (Kinds.NetVirtRx x) f = record { work = f.work; from_each = f.from_each; to_each = f.to_each }
 fits_whole ends (Kinds.NetCopier x) f = tt

@@ -11,7 +11,7 @@ use Rattle.wire_core.specs.Marks.{is_role}
 use Rattle.play_core.specs.Manners.{Manner, Calm, Hostile, Manners, hostile_by}
 use Rattle.play_core.specs.Moved.{Seat}
 use Rattle.play_core.specs.Sheets.{Scene, Sheet}
-use Rattle.play_core.specs.Wants.{outlet}
+use Rattle.play_core.specs.Wants.{intake, outlet}
 use Rattle.serial_law.specs.Parts.{SerialPart, SerialDevice, SerialDriver, SerialReceiver}
 use Rattle.serial_law.specs.Parts.{SerialSender, SerialClient}
 use Rattle.serial_law.specs.Table.{serial_sheet}
@@ -36,10 +36,10 @@ serial_part (SerialClient rx tx script) = ClientPart rx tx script
 
 -- the frames that a trace gives an actor of the network class: those that its device receives
 abbrev pub net_frames_of : NetPart → List (List ℕ)
-net_frames_of (NetDevice rx_free rx_active tx_active tx_free frames) = frames
+net_frames_of (NetDevice rx_free rx_active tx_active tx_free frames drops) = frames
 net_frames_of (NetDriver ways) = []
 net_frames_of (NetReceiver active free pool clients) = []
-net_frames_of (NetCopier lease_active lease_free rx_active rx_free) = []
+net_frames_of (NetCopier lease_active lease_free rx_active rx_free drops) = []
 net_frames_of (NetClient program mac rx_active rx_free tx_active tx_free rx tx) = []
 
 -- the frames that a trace gives a part
@@ -139,6 +139,17 @@ dropping_ends [] drops = []
 dropping_ends (q ∷ qs) [] = []
 dropping_ends (q ∷ qs) (d ∷ ds) = cond d (outlet q ∷ dropping_ends qs ds) (dropping_ends qs ds)
 
+-- of a part of the network the end at which frames may be dropped for want of a buffer: a device's
+-- and a copier's
+abbrev pub net_drop_seats : NetPart → List Seat
+net_drop_seats (NetDevice rx_free rx_active tx_active tx_free frames drops) =
+    cond drops (intake rx_free ∷ []) []
+net_drop_seats (NetDriver ways) = []
+net_drop_seats (NetReceiver active free pool clients) = []
+net_drop_seats (NetCopier lease_active lease_free rx_active rx_free drops) =
+    cond drops (intake rx_free ∷ []) []
+net_drop_seats (NetClient program mac rx_active rx_free tx_active tx_free rx tx) = []
+
 -- the ends at which a part drops what it has for want of what it would wait for there
 abbrev pub drop_seats : Part → List Seat
 drop_seats (UartPart rx tx input) = []
@@ -146,7 +157,7 @@ drop_seats (DriverPart device_rx device_tx rx tx) = []
 drop_seats (RxPart rx clients drops) = dropping_ends clients drops
 drop_seats (TxPart tx clients) = []
 drop_seats (ClientPart rx tx script) = []
-drop_seats (NetworkPart p) = []
+drop_seats (NetworkPart p) = net_drop_seats p
 drop_seats (SendingPart p) = []
 drop_seats (BlockPart p) = []
 drop_seats (HostilePart p) = []

@@ -67,13 +67,13 @@ frames_got (Kinds.Rogue x) = []
 -- the frames that a part of the network class recorded, by the entries that it took with their
 -- bodies: a device for its wire and a client for its record the frames in them
 abbrev pub net_frames_by : Passed → NetPart → List (List ℕ)
-net_frames_by passed (NetDevice rx_free rx_active tx_active tx_free frames) =
+net_frames_by passed (NetDevice rx_free rx_active tx_active tx_free frames drops) =
     map frame_of (passed.taken tx_active)
 net_frames_by passed (NetClient program mac rx_active rx_free tx_active tx_free rx tx) =
     map frame_of (passed.taken rx_active)
 net_frames_by passed (NetDriver ways) = []
 net_frames_by passed (NetReceiver active free pool clients) = []
-net_frames_by passed (NetCopier lease_active lease_free rx_active rx_free) = []
+net_frames_by passed (NetCopier lease_active lease_free rx_active rx_free drops) = []
 
 -- and those that a part recorded
 abbrev pub frames_by : Passed → Part → List (List ℕ)

@@ -3,7 +3,7 @@
 use Rattle.std.specs.Prelude.{◌≡◌, []}
 use Rattle.wire_core.specs.Lists.{Passed}
 use Rattle.play_core.specs.Sheets.{Scene}
-use Rattle.net_law.specs.Parts.Playing.{AreLeases, ReceivesInTurn, HasBuffers, AnswersInTurn}
+use Rattle.net_law.specs.Parts.Playing.{AreLeases, ReceivesInTurn, HasBuffers, AnswersWhole}
 use Rattle.net_virt_tx.specs.declared.NetVirtTx.{NetVirtTx}
 use Rattle.net_virt_tx.specs.Sending.{TxRow}
 use Rattle.net_law.specs.TxParts.Playing.{TakesGood}
@@ -29,7 +29,7 @@ InTurn scene (Kinds.EthDevice x) passed = Unit {0}
 InTurn scene (Kinds.EthDriver x) passed = Unit {0}
 InTurn scene (Kinds.NetVirtRx x) passed = ReceivesInTurn scene.frames x passed
 InTurn scene (Kinds.NetCopier x) passed = AreLeases (passed.taken x.lease_input.queue.0)
-InTurn scene (Kinds.NetClient x) passed = HasBuffers x × AnswersInTurn scene.frames x
+InTurn scene (Kinds.NetClient x) passed = HasBuffers x × AnswersWhole x passed
 InTurn scene (Kinds.NetVirtTx x) passed = SendsInTurn x passed
 InTurn scene (Kinds.DiskDevice x) passed = DiskInTurn x.start.value x.device passed
 InTurn scene (Kinds.BlkDriver x) passed = Unit {0}

@@ -21,7 +21,7 @@ ghost use Rattle.net_virt_tx.specs.declared.NetVirtTx.{NetVirtTx};
 ghost use Rattle.net_virt_tx.specs.Sending.{TxStandsFor};
 ghost use Rattle.net_virt_tx.specs.Traffics.{traffic_hand};
 ghost use Rattle.net_copier.specs.declared.NetCopier.{NetCopier};
-ghost use Rattle.net_copier.specs.Copying.{HoldingCopierStands, copier_hand};
+ghost use Rattle.net_copier.specs.Copying.{CopierStandsFor, copier_hand};
 ghost use Rattle.device_model.specs.declared.ethernet.EthDevice.{EthDevice};
 ghost use Rattle.device_model.specs.Ethernet.Devices as Device;
 ghost use Rattle.device_model.specs.declared.serial_terminal.Terminal.{Terminal};
@@ -39,7 +39,7 @@ ghost use Rattle.blk_virt.specs.Works.{work_cargo};
 /// Of the network class and of each driver: whatever is counted, what an actor had at the start and
 /// what came is what went, what is in its hand, and what it lends.
 pub fn network_law()
-    ensures copier { (c : NetCopier) (passed : Passed) → HoldingCopierStands c passed
+    ensures copier { (c : NetCopier) (passed : Passed) → CopierStandsFor c passed
         → Conserves [] (bodies_at passed.taken (c.lease_input.queue.0 ∷ c.buffer_input.queue.0
         ∷ [])) (bodies_at passed.sent (c.buffer_output.queue.0 ∷ c.lease_output.queue.0 ∷ []))
         (copier_hand c) [] }
@@ -50,7 +50,7 @@ pub fn network_law()
     ensures driver { (ps : List Pipe) (passed : Passed) → PipesStandFor ps passed
         → Conserves [] (bodies_at passed.taken (inputs_of ps))
         (bodies_at passed.sent (outputs_of ps)) (pipes_hand ps) [] }
-    ensures device { (d : EthDevice) (passed : Passed) → Device.HoldingDeviceStands d passed
+    ensures device { (d : EthDevice) (passed : Passed) → Device.DeviceStandsFor d passed
         → Conserves [] (bodies_at passed.taken (Device.rx_free d ∷ Device.tx_active d ∷ []))
         (bodies_at passed.sent (Device.rx_active d ∷ Device.tx_free d ∷ []))
         (Device.device_hand d) [] }

@@ -1,18 +1,20 @@
 -- Copier, client, driver and device: what each stands for conserves buffers one by one.
-use Rattle.std.proofs.Common.{◌≡◌, ◌+◌, ◌≤◌, ◌&&◌, true, Option, Some, None, is_some, List, ℕ, [], ◌∷◌, ◌++◌, length, map, refl, ap, ◌∙◌, arith}
+use Rattle.std.proofs.Common.{◌≡◌, ◌+◌, ◌≤◌, Bool, true, false, List, ℕ, [], ◌∷◌, ◌++◌, length, map, refl, ap, ◌∙◌, arith}
 use Rattle.std.specs.Option.{option_to_list}
 use Rattle.std.proofs.lemmas.List.{length-append, length-map}
-use Rattle.wire_core.specs.Bells.{bit}
 use Rattle.wire_core.specs.Deeds.{Cargo}
 use Rattle.wire_core.specs.Lists.{Passed}
 use Rattle.turn_kit.specs.Hands.{bodies_of, bodies_at}
 use Rattle.turn_kit.specs.declared.pipe.Pipe.{Pipe}
 use Rattle.buffer_kit.specs.Pools.{given_entry, page_bodies}
 use Rattle.buffer_kit.specs.Stocks.{stock_list, stock_hand}
-use Rattle.net_copier.specs.declared.Stage.{Stage}
-use Rattle.net_copier.specs.declared.Stage.TheVariants as At
 use Rattle.net_copier.specs.declared.NetCopier.{NetCopier}
-use Rattle.net_copier.specs.Copying.{HoldingCopierStands, copier_hand, is_copied, leased_bytes}
+use Rattle.net_copier.specs.Copying.{CopierStandsFor, CopierRow, copier_hand, leased_bytes, leases_dropped}
+use Rattle.net_copier.proofs.Dropping.{none_dropped_held as none_lease_dropped}
+use Rattle.net_copier.proofs.Holding.{row_of}
+use Rattle.wire_core.specs.Fates.{without, marked}
+use Rattle.wire_core.proofs.Fating.{without_none, without_length}
+use Rattle.device_model.proofs.EthernetLemmas.Dropping.{none_dropped_held as none_frame_dropped}
 use Rattle.client_programs.specs.declared.net.NetClient.{NetClient}
 use Rattle.client_programs.specs.declared.net.outbox.Outbox.{Outbox}
 use Rattle.client_programs.specs.Net.Sending.{OutboxStandsFor, outbox_hand}
@@ -24,23 +26,34 @@ use Rattle.buffer_kit.specs.Conserving.{Count, counted, Conserves, weighed}
 use Rattle.buffer_kit.proofs.Conserving.{weighed-append, counted-append, counted-at}
 use Rattle.wired_law.proofs.PageLaw.ActorsLemmas.Filling.{given_count, stock_count, all_filled_same}
 
-hand_few : (lease buffer : Option Cargo) (s : Stage) → (is_some buffer ≡ true → (is_some lease ≡ true) × (s ≡ At.Taken)) → bit (is_some lease && is_copied s) + length (option_to_list buffer) ≤ length (option_to_list lease)
-hand_few None None s h = omega arith
-hand_few None (Some b) s h = let no : is_some {T = Cargo} None ≡ true = (h refl).0 in absurd cc
-hand_few (Some l) None At.Taken h = omega arith
-hand_few (Some l) None At.Copied h = omega arith
-hand_few (Some l) None At.Stray h = omega arith
-hand_few (Some l) (Some b) At.Taken h = omega arith
-hand_few (Some l) (Some b) At.Copied h = let no : At.Copied ≡ At.Taken = (h refl).1 in absurd cc
-hand_few (Some l) (Some b) At.Stray h = let no : At.Stray ≡ At.Taken = (h refl).1 in absurd cc
+module _ (c : NetCopier) (passed : Passed) (h : CopierStandsFor c passed) where
+  abbrev leases : List Cargo
+  leases = passed.taken c.lease_input.queue.0
 
-module _ (c : NetCopier) (passed : Passed) (h : HoldingCopierStands c passed) where
-  taken_few : length (passed.taken c.buffer_input.queue.0) ≤ length (passed.taken c.lease_input.queue.0)
-  taken_few =
-      let hand = hand_few c.lease c.buffer c.stage h.work.buffered in
-      let la = ap length h.leases ∙ length-append (passed.sent c.lease_output.queue.0) (option_to_list c.lease) in
-      let rf = h.takes ∙ length-append (passed.sent c.buffer_output.queue.0) (option_to_list c.buffer) in
-      omega (arith, hand, la, rf, h.puts)
+  abbrev buffers : List Cargo
+  buffers = passed.taken c.buffer_input.queue.0
+
+  abbrev gone : List Bool
+  gone = leases_dropped c passed.calls
+
+  row : CopierRow c passed
+  row = row_of c passed h
+
+  taken_few : length buffers ≤ length (without gone leases)
+  taken_few = by c.drops refl
+    where
+      by : (b : Bool) → c.drops ≡ b → length buffers ≤ length (without gone leases)
+      by true on =
+          let takes = row.takes_for in
+          let settled = row.settled on in
+          let all = ap length row.taken ∙ length-append row.leases row.stray in
+          let left = without_length gone leases (omega (arith, settled, all)) in
+          omega (arith, takes, all, left)
+      by false off =
+          let takes = row.takes_for in
+          let all = ap length row.taken ∙ length-append row.leases row.stray in
+          let same = ap length (without_none gone leases (none_lease_dropped c off passed.calls)) in
+          omega (arith, takes, all, same)
 
   pub copier_conserves : Conserves [] (bodies_at passed.taken (c.lease_input.queue.0 ∷ c.buffer_input.queue.0 ∷ [])) (bodies_at passed.sent (c.buffer_output.queue.0 ∷ c.lease_output.queue.0 ∷ [])) (copier_hand c) []
   copier_conserves f =
@@ -48,12 +61,13 @@ module _ (c : NetCopier) (passed : Passed) (h : HoldingCopierStands c passed) wh
       let came' = counted-at f passed.taken c.buffer_input.queue.0 [] in
       let went = counted-at f passed.sent c.buffer_output.queue.0 (c.lease_output.queue.0 ∷ []) in
       let went' = counted-at f passed.sent c.lease_output.queue.0 [] in
-      let leases = ap (weighed f) h.leases ∙ weighed-append f (passed.sent c.lease_output.queue.0) (option_to_list c.lease) in
-      let long = length-map (passed.taken c.lease_input.queue.0) leased_bytes in
-      let copies = ap (weighed f) h.copies ∙ all_filled_same f (map leased_bytes (passed.taken c.lease_input.queue.0)) (passed.taken c.buffer_input.queue.0) (omega (arith, long, taken_few)) in
+      let back = ap (weighed f) h.leases ∙ weighed-append f (passed.sent c.lease_output.queue.0) (option_to_list c.lease) in
+      let long = length-map (without gone leases) leased_bytes in
+      let few = taken_few in
+      let copies = ap (weighed f) h.copies ∙ all_filled_same f (map leased_bytes (without gone leases)) buffers (omega (arith, long, few)) in
       let parts = weighed-append f (passed.sent c.buffer_output.queue.0) (option_to_list c.buffer) in
       let hand = weighed-append f (option_to_list c.lease) (option_to_list c.buffer) in
-      omega (arith, came, came', went, went', leases, copies, parts, hand)
+      omega (arith, came, came', went, went', back, copies, parts, hand)
 
 outbox_balance : (f : Count) (o : Outbox) (fs : List (List ℕ)) (back put : List Cargo) (h : OutboxStandsFor o fs back put) → counted f (page_bodies h.start) + weighed f back ≡ weighed f put + counted f (outbox_hand o)
 outbox_balance f o fs back put h =
@@ -92,15 +106,27 @@ driver_conserves (p ∷ ps) passed h f =
     let here = ap (weighed f) h.0 ∙ weighed-append f (passed.sent p.output.queue.0) (option_to_list p.load) in
     omega (arith, rest, came, went, hand, here)
 
-pub device_conserves : (d : EthDevice) (passed : Passed) → Dev.HoldingDeviceStands d passed → Conserves [] (bodies_at passed.taken (Dev.rx_free d ∷ Dev.tx_active d ∷ [])) (bodies_at passed.sent (Dev.rx_active d ∷ Dev.tx_free d ∷ [])) (bodies_of (option_to_list d.load ++ option_to_list d.wire.pipe.load)) []
+pub device_conserves : (d : EthDevice) (passed : Passed) → Dev.DeviceStandsFor d passed → Conserves [] (bodies_at passed.taken (Dev.rx_free d ∷ Dev.tx_active d ∷ [])) (bodies_at passed.sent (Dev.rx_active d ∷ Dev.tx_free d ∷ [])) (bodies_of (option_to_list d.load ++ option_to_list d.wire.pipe.load)) []
 device_conserves d passed h f =
     let came = counted-at f passed.taken (Dev.rx_free d) (Dev.tx_active d ∷ []) in
     let came' = counted-at f passed.taken (Dev.tx_active d) [] in
     let went = counted-at f passed.sent (Dev.rx_active d) (Dev.tx_free d ∷ []) in
     let went' = counted-at f passed.sent (Dev.tx_free d) [] in
-    let few : length (passed.taken (Dev.rx_free d)) ≤ length d.frames = omega (arith, h.takes, h.next) in
-    let filled = ap (weighed f) h.filled ∙ all_filled_same f d.frames (passed.taken (Dev.rx_free d)) few in
+    let filled = ap (weighed f) h.filled ∙ all_filled_same f (without (Dev.frames_dropped d passed.calls) d.frames) (passed.taken (Dev.rx_free d)) (few d.drops refl) in
     let parts = weighed-append f (passed.sent (Dev.rx_active d)) (option_to_list d.load) in
     let moved = ap (weighed f) h.sends.moved ∙ weighed-append f (passed.sent (Dev.tx_free d)) (option_to_list d.wire.pipe.load) in
     let hand = weighed-append f (option_to_list d.load) (option_to_list d.wire.pipe.load) in
     omega (arith, came, came', went, went', filled, parts, moved, hand)
+  where
+    few : (b : Bool) → d.drops ≡ b → length (passed.taken (Dev.rx_free d)) ≤ length (without (Dev.frames_dropped d passed.calls) d.frames)
+    few true on =
+        let takes = h.takes in
+        let next = h.next in
+        let all = (h.tells on).used in
+        let left = without_length (Dev.frames_dropped d passed.calls) d.frames (omega (arith, all, next)) in
+        omega (arith, takes, all, left)
+    few false off =
+        let takes = h.takes in
+        let next = h.next in
+        let same = ap length (without_none (Dev.frames_dropped d passed.calls) d.frames (none_frame_dropped d off passed.calls)) in
+        omega (arith, takes, next, same)

@@ -8,7 +8,7 @@ use Rattle.wire_core.specs.Lists.{Passed}
 use Rattle.turn_kit.specs.Hands.{bodies_at}
 use Rattle.buffer_kit.specs.Conserving.{Count, counted}
 use Rattle.buffer_kit.specs.Virtualising.{from_queues, to_queues}
-use Rattle.net_copier.specs.Copying.{HoldingCopierStands}
+use Rattle.net_copier.specs.Copying.{CopierStandsFor}
 use Rattle.net_copier.specs.declared.NetCopier.{NetCopier}
 use Rattle.net_virt_tx.specs.Sending.{TxStandsFor}
 use Rattle.net_virt_tx.specs.declared.NetVirtTx.{NetVirtTx}
@@ -47,7 +47,7 @@ queues_of c sends returns =
 pub record IsServed (r : Rogue) (c : NetCopier) (v : NetVirtTx) (k : ℕ) (s : Client)
     (sends returns : QueueId) (passed : Passed) : Type 0 where
   pub client : RogueStandsFor r passed
-  pub copier : HoldingCopierStands c passed
+  pub copier : CopierStandsFor c passed
   pub sender : TxStandsFor v passed
   pub inputs : numbers r.inputs.items ≡ c.buffer_output.queue.0 ∷ returns.0 ∷ []
   pub outputs : numbers r.outputs.items ≡ c.buffer_input.queue.0 ∷ sends.0 ∷ []

@@ -21,13 +21,13 @@ pub returns-in-EthDevice-clause-fits : goal.returns-in-EthDevice-clause-fits
 returns-in-EthDevice-clause-fits c = λ ends h. let f = subst (FitsActor ends) c.in-EthDevice.is h in (c.forget-in-EthDevice.ensures.fits ends f.0, c.forget-in-EthDevice.ensures.same.drops ∙ f.1)
 
 pub returns-in-EthDevice-clause-lists : goal.returns-in-EthDevice-clause-lists
-returns-in-EthDevice-clause-lists c = λ passed h. c.forget-in-EthDevice.ensures.held passed (subst (λ a. ActorStandsFor a passed) c.in-EthDevice.is h)
+returns-in-EthDevice-clause-lists c = λ passed h. c.forget-in-EthDevice.ensures.lists passed (subst (λ a. ActorStandsFor a passed) c.in-EthDevice.is h)
 
 pub returns-in-NetCopier-clause-fits : goal.returns-in-NetCopier-clause-fits
-returns-in-NetCopier-clause-fits c = λ ends h. let f = subst (FitsActor ends) c.in-NetCopier.is h in (c.forget-in-NetCopier.ensures.fits ends f.0, c.forget-in-NetCopier.ensures.same.drops ∙ f.1)
+returns-in-NetCopier-clause-fits c = λ ends h. c.forget-in-NetCopier.ensures.fits ends (subst (FitsActor ends) c.in-NetCopier.is h)
 
 pub returns-in-NetCopier-clause-lists : goal.returns-in-NetCopier-clause-lists
-returns-in-NetCopier-clause-lists c = λ passed h. c.forget-in-NetCopier.ensures.held passed (subst (λ a. ActorStandsFor a passed) c.in-NetCopier.is h)
+returns-in-NetCopier-clause-lists c = λ passed h. c.forget-in-NetCopier.ensures.lists passed (subst (λ a. ActorStandsFor a passed) c.in-NetCopier.is h)
 
 pub returns-in-SerialVirtTx-clause-fits : goal.returns-in-SerialVirtTx-clause-fits
 returns-in-SerialVirtTx-clause-fits c = λ ends h. c.forget-in-SerialVirtTx.ensures.fits ends (subst (FitsActor ends) c.in-SerialVirtTx.is h)
@@ -49,6 +49,9 @@ returns-in-NetVirtRx-clause-fits c = λ ends h. let f = subst (FitsActor ends) c
 
 pub returns-in-NetClient-clause-fits : goal.returns-in-NetClient-clause-fits
 returns-in-NetClient-clause-fits c = λ ends h. let f = subst (FitsActor ends) c.in-NetClient.is h in (c.forget-in-NetClient.ensures.fits ends f.0, record { base = c.forget-in-NetClient.ensures.same.stock.base ∙ f.1.base; spare_base = c.forget-in-NetClient.ensures.same.spare.base ∙ f.1.spare_base })
+
+pub returns-in-EthDevice-clause-whole : goal.returns-in-EthDevice-clause-whole
+returns-in-EthDevice-clause-whole c = λ h. c.forget-in-EthDevice.ensures.same.drops ∙ subst IsWhole c.in-EthDevice.is h
 
 pub returns-in-NetVirtRx-clause-whole : goal.returns-in-NetVirtRx-clause-whole
 returns-in-NetVirtRx-clause-whole c = λ h.

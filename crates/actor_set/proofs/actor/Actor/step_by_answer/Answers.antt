@@ -2,9 +2,7 @@ use Rattle.std.proofs.Common.{◌∙◌, sym, subst}
 use Rattle.net_virt_rx.specs.Receiving.{RxStandsFor as NetRxStandsFor}
 use Rattle.device_model.specs.Ethernet.Devices.{DeviceStandsFor}
 use Rattle.device_model.specs.Disk.Disks.{DiskStandsFor}
-use Rattle.device_model.proofs.EthernetLemmas.Dropping as eth
 use Rattle.net_copier.specs.Copying.{CopierStandsFor}
-use Rattle.net_copier.proofs.Dropping as copier
 use Rattle.client_programs.specs.Net.Clients.{ClientStandsFor}
 use Rattle.client_programs.specs.Blk.Clients.{BlkClientStandsFor}
 use Rattle.client_programs.specs.Rogue.Clients.{RogueStandsFor}
@@ -13,22 +11,14 @@ use Rattle.actor_set.specs.Actors.{FitsActor, ActorStandsFor, IsActorCall}
 use Rattle.actor_set.proofs.Casting.{as_actor}
 use Rattle.actor_set.proofs.actor.Actor.step_by_answer.Goals as goal
 
--- an Ethernet device waits
 pub returns-in_ok-event-in-EthDevice-clause-stepped : goal.returns-in_ok-event-in-EthDevice-clause-stepped
-returns-in_ok-event-in-EthDevice-clause-stepped g c =
-    let f = subst (FitsActor (g.W.Wires.ends c.args.wires.now)) c.in-EthDevice.is c.requires.fits in
-    let now = c.step-in-EthDevice.ensures.same.drops ∙ f.1 in
-    as_actor DeviceStandsFor _ _ _ _ _ _ _ _ (λ passed h. eth.held_stands c.in-EthDevice.device passed f.1 (subst (λ a. ActorStandsFor a passed) c.in-EthDevice.is h)) (λ passed h. eth.stands_held c.step-in-EthDevice.new.self passed now h) c.in_ok-event-in-EthDevice.ensures.stepped
+returns-in_ok-event-in-EthDevice-clause-stepped g c = as_actor DeviceStandsFor _ _ _ _ _ _ _ _ (λ passed h. subst (λ a. ActorStandsFor a passed) c.in-EthDevice.is h) (λ passed h. h) c.in_ok-event-in-EthDevice.ensures.stepped
 
 pub returns-in_ok-event-in-NetVirtRx-clause-stepped : goal.returns-in_ok-event-in-NetVirtRx-clause-stepped
 returns-in_ok-event-in-NetVirtRx-clause-stepped g c = as_actor NetRxStandsFor _ _ _ _ _ _ _ _ (λ passed h. subst (λ a. ActorStandsFor a passed) c.in-NetVirtRx.is h) (λ passed h. h) c.in_ok-event-in-NetVirtRx.ensures.stepped
 
--- a copier waits
 pub returns-in-NetCopier-clause-stepped : goal.returns-in-NetCopier-clause-stepped
-returns-in-NetCopier-clause-stepped g c =
-    let f = subst (FitsActor (g.W.Wires.ends c.args.wires.now)) c.in-NetCopier.is c.requires.fits in
-    let now = c.step-in-NetCopier.ensures.same.drops ∙ f.1 in
-    as_actor CopierStandsFor _ _ _ _ _ _ _ _ (λ passed h. copier.held_stands c.in-NetCopier.copier passed f.1 (subst (λ a. ActorStandsFor a passed) c.in-NetCopier.is h)) (λ passed h. copier.stands_held c.step-in-NetCopier.new.self passed now h) c.step-in-NetCopier.ensures.stepped
+returns-in-NetCopier-clause-stepped g c = as_actor CopierStandsFor _ _ _ _ _ _ _ _ (λ passed h. subst (λ a. ActorStandsFor a passed) c.in-NetCopier.is h) (λ passed h. h) c.step-in-NetCopier.ensures.stepped
 
 pub returns-in_ok-event-in-NetClient-clause-stepped : goal.returns-in_ok-event-in-NetClient-clause-stepped
 returns-in_ok-event-in-NetClient-clause-stepped g c = as_actor ClientStandsFor _ _ _ _ _ _ _ _ (λ passed h. subst (λ a. ActorStandsFor a passed) c.in-NetClient.is h) (λ passed h. h) c.in_ok-event-in-NetClient.ensures.stepped
