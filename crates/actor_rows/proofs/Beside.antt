@@ -11,7 +11,7 @@ use Rattle.net_copier.specs.Copying.{CopierEnd}
 use Rattle.net_copier.specs.declared.NetCopier.{NetCopier}
 use Rattle.device_model.specs.Ethernet.Devices.{DeviceEnd}
 use Rattle.device_model.specs.declared.ethernet.EthDevice.{EthDevice}
-use Rattle.actor_rows.specs.Hands.{OnlyAt}
+use Rattle.base_rows.specs.Hands.{OnlyAt}
 use Rattle.actor_rows.specs.Sizes.{IsInput, IsOutput, DeviceStands, CopierStands}
 use Rattle.actor_rows.proofs.Sizing.{others}
 

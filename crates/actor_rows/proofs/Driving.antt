@@ -13,7 +13,7 @@ use Rattle.turn_kit.specs.declared.pipe.Pipe.{Pipe}
 use Rattle.pipe_driver.specs.Drivers.{FitsPipes, PipesStandFor, inputs_of, outputs_of}
 use Rattle.pipe_driver.specs.Lengths.{two_pipes}
 use Rattle.uart_driver.specs.declared.UartDriver.{UartDriver}
-use Rattle.actor_rows.specs.Hands.{OnlyAt, AreByteQueues}
+use Rattle.base_rows.specs.Hands.{OnlyAt, AreByteQueues}
 use Rattle.actor_rows.specs.Standings.{DriverStands, queue}
 
 both : {a b m n : ℕ} → a ≡ m → b ≡ n → (a ∷ b ∷ []) ≡ (m ∷ n ∷ [])

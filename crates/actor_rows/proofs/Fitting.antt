@@ -11,7 +11,7 @@ use Rattle.turn_kit.specs.ManyEnds.{AreApart, outlet_queues}
 use Rattle.turn_kit.specs.declared.ends.Outlet.{Outlet}
 use Rattle.serial_virt.specs.Receiving.{FitsRx, RxStandsFor, RxEnd, IsNewRx, new_outlet, rx_queues}
 use Rattle.serial_virt.specs.declared.rx.SerialVirtRx.{SerialVirtRx}
-use Rattle.actor_rows.specs.Hands.{OnlyAt, AreByteQueues}
+use Rattle.base_rows.specs.Hands.{OnlyAt, AreByteQueues}
 use Rattle.actor_rows.specs.Standings.{RxStands, IsNewSharer, queue, eight}
 
 pub some_is : {X : Type 0} {a b : X} → Some a ≡ Some b → a ≡ b

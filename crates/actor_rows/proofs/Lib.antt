@@ -1,6 +1,4 @@
--- The proofs of the helpers of these tests.
-pub mod Moved
-pub mod Started
+-- The proofs of the helpers of these rows.
 pub mod Fitting
 pub mod Driving
 pub mod Merging

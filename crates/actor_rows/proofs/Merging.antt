@@ -10,7 +10,7 @@ use Rattle.turn_kit.specs.ManyEnds.{AreApart, intake_queues}
 use Rattle.turn_kit.specs.declared.ends.Intake.{Intake}
 use Rattle.serial_virt.specs.Sending.{FitsTx, TxStandsFor, TxEnd, IsNewTx, new_intake, tx_queues}
 use Rattle.serial_virt.specs.declared.tx.SerialVirtTx.{SerialVirtTx}
-use Rattle.actor_rows.specs.Hands.{OnlyAt, AreByteQueues}
+use Rattle.base_rows.specs.Hands.{OnlyAt, AreByteQueues}
 use Rattle.actor_rows.specs.Standings.{TxStands, queue, eight}
 use Rattle.actor_rows.proofs.Fitting.{some_is, map_get, eight_at, eight_apart}
 

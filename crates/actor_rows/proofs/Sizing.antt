@@ -34,7 +34,7 @@ use Rattle.client_programs.specs.Net.Clients.{IsNewClient}
 use Rattle.client_programs.specs.declared.net.NetClient.{NetClient}
 use Rattle.client_programs.specs.declared.net.program.NetProgram.{NetProgram}
 use Rattle.frame_core.specs.declared.mac.Mac.{Mac}
-use Rattle.actor_rows.specs.Hands.{OnlyAt, AreQueues}
+use Rattle.base_rows.specs.Hands.{OnlyAt, AreQueues}
 use Rattle.actor_rows.specs.Standings.{queue}
 use Rattle.actor_rows.specs.Sizes.{IsInput, IsOutput, AreFed, DeviceStands, LenderStands, CopierStands, ClientStands, pool, AreFedEight, FourStand, IsNewFour}
 use Rattle.eth_driver.specs.declared.EthDriver.{EthDriver}

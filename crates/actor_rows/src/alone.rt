@@ -1,4 +1,4 @@
-//! Each actor of these tests stands alone over queues whose other ends are worked by hand: between
+//! Each actor of these rows stands alone over queues whose other ends are worked by hand: between
 //! two calls by hand it has time to be at rest.
 
 ghost use Rattle.std.specs.Prelude.{List};
@@ -19,7 +19,7 @@ use serial_virt::{SerialVirtRx, SerialVirtTx};
 use turn_kit::event_place;
 use uart_driver::UartDriver;
 
-/// How many calls an actor of these tests makes at most until it is at rest.
+/// How many calls an actor of these rows makes at most until it is at rest.
 const ENOUGH: u32 = 60;
 
 /// An actor that stands alone at its queues.

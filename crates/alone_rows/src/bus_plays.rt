@@ -1,26 +1,33 @@
 //! Plays of buses.
+ghost use Rattle.i2c_text.specs.Buses.{IsReadBus};
+
 use crate::bus_texts::{CLAIMS, SEVEN, busy_text};
 use cargo_core::Memory;
 use i2c_play::{bus_bound, play_bus};
-use i2c_text::{BusFault, BusReport, BusStatus, read_bus};
+use i2c_text::{Bus, BusFault, BusReport, BusStatus, read_bus};
 use std::alloc::Global;
+
+// What a play of a bus that was read reports, with so many steps or as many as are enough.
+fn play(alloc: Global, bus: &Bus, seed: u64, steps: Option<u64>) -> Result<BusReport, Memory>
+    requires { IsReadBus bus.now }
+{
+    let limit = match steps {
+        Some(steps) => steps,
+        None => bus_bound(bus),
+    };
+    Ok(play_bus(alloc, bus, seed, limit)?)
+}
 
 /// What a play of a bus reports, with so many steps or as many as are enough; none where a line of
 /// its text is bad.
-fn played(
+pub fn played(
     alloc: Global,
     text: &str,
     seed: u64,
     steps: Option<u64>,
 ) -> Result<Option<BusReport>, Memory> {
     match read_bus(alloc, text.as_bytes()) {
-        Ok(bus) => {
-            let limit = match steps {
-                Some(steps) => steps,
-                None => bus_bound(&bus),
-            };
-            Ok(Some(play_bus(alloc, &bus, seed, limit)?))
-        }
+        Ok(bus) => Ok(Some(play(alloc, &bus, seed, steps)?)),
         Err(BusFault::BadLine(_)) => Ok(None),
         Err(BusFault::Memory(memory)) => Err(memory),
     }

@@ -1,26 +1,33 @@
 //! Plays of switches.
+ghost use Rattle.line_text.specs.PortsText.Given.{ArePorts};
+
 use crate::port_texts::{SENDS, TO_ITSELF, busy_text, target_of, two_to_one};
 use cargo_core::{FrameLog, Memory};
-use line_text::ports_text::{PortFault, PortReport, read_ports};
+use line_text::ports_text::{PortFault, PortReport, Ports, read_ports};
 use std::alloc::Global;
 use switch_play::{play_ports, ports_bound};
 
+// What a play of ports that were read reports, with so many steps or as many as are enough.
+fn play(alloc: Global, ports: &Ports, seed: u64, steps: Option<u64>) -> Result<PortReport, Memory>
+    requires { ArePorts ports.now }
+{
+    let limit = match steps {
+        Some(steps) => steps,
+        None => ports_bound(ports),
+    };
+    Ok(play_ports(alloc, ports, seed, limit)?)
+}
+
 /// What a play of a switch reports, with so many steps or as many as are enough; none where a line
 /// of its text is bad.
-fn played(
+pub fn played(
     alloc: Global,
     text: &str,
     seed: u64,
     steps: Option<u64>,
 ) -> Result<Option<PortReport>, Memory> {
     match read_ports(alloc, text.as_bytes()) {
-        Ok(ports) => {
-            let limit = match steps {
-                Some(steps) => steps,
-                None => ports_bound(&ports),
-            };
-            Ok(Some(play_ports(alloc, &ports, seed, limit)?))
-        }
+        Ok(ports) => Ok(Some(play(alloc, &ports, seed, steps)?)),
         Err(PortFault::BadLine(_)) => Ok(None),
         Err(PortFault::Memory(memory)) => Err(memory),
     }
@@ -124,8 +131,8 @@ fn has_both(alloc: Global, text: &str, seed: u64) -> Result<bool, Memory> {
     )
 }
 
-// Whether a play is quiet after just so many steps as it makes, and spent with one fewer.
-fn is_spent_before(alloc: Global, text: &str, seed: u64) -> Result<bool, Memory> {
+/// Whether a play is quiet after just so many steps as it makes, and spent with one fewer.
+pub fn is_spent_before(alloc: Global, text: &str, seed: u64) -> Result<bool, Memory> {
     let Some(whole) = played(alloc, text, seed, None)? else {
         return Ok(false);
     };

@@ -1,2 +1,4 @@
--- The proofs of the tests' helpers.
+-- The proofs of the rows' helpers.
+pub mod Moved
+pub mod Started
 pub mod SeatsLemmas

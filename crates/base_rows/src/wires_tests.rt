@@ -8,7 +8,7 @@ ghost use Rattle.wire_core.specs.Ends.{Producer};
 ghost use Rattle.wire_core.specs.Queues.{end_at};
 ghost use Rattle.cargo_core.specs.Capacities.{IsCapacity};
 
-use actor_rows::{queues, row};
+use crate::{queues, row};
 use cargo_core::{Body, Item, Memory, QueueKind, Word};
 use plain_wires::World;
 use ring_rows::{get, give};

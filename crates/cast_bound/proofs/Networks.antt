@@ -1,4 +1,4 @@
--- The network of a plan's actors puts no more than its entries have to be moved.
+-- The network of a plan's actors puts, and drops, no more than its entries have to be moved.
 use Rattle.std.proofs.Common.{◌≡◌, ◌≢◌, ◌⊎◌, ◌≤◌, ◌<◌, ◌+◌, ◌*◌, ℕ, true, nat_le, nat_lt, Option, Some, None, List, [], length, slice_get, refl, sym, ap, ◌∙◌, subst, arith, inl, inr}
 use Rattle.std.specs.Option.{option_map_or}
 use Rattle.std.proofs.Math.Nat.{mul_comm}
@@ -7,6 +7,7 @@ use Rattle.cargo_core.specs.declared.item.Item.{Item}
 use Rattle.wire_core.specs.declared.names.Entry.{Entry}
 use Rattle.wire_core.specs.declared.names.PoolRow.{PoolRow}
 use Rattle.wire_core.specs.Journal.{History, QueuesFlow}
+use Rattle.play_core.specs.Looks.{noes_together}
 use Rattle.play_core.specs.Moved.{moved}
 use Rattle.play_core.specs.Sheets.{RowsHold, Scene}
 use Rattle.sdf_plan.specs.declared.plan.Plan.{Plan}
@@ -28,11 +29,13 @@ use Rattle.net_law.specs.Parts.Numbers.{client_first}
 use Rattle.wired_law.specs.Wiring.{HasPart, HasWholeIn}
 use Rattle.cast_core.specs.Sources.{pool_at, first_blk_pool}
 use Rattle.cast_core.specs.Casts.{client_pools, net_place, scene_for}
-use Rattle.cast_core.proofs.Listing.{value_is}
+use Rattle.cast_core.proofs.Listing.{value_is, value_count}
 use Rattle.cast_core.proofs.Rooms.{pools_apart}
 use Rattle.net_law.specs.Hops.Hops.{net_put, net_moves, AreApart, IsNetwork}
 use Rattle.net_law.proofs.HopsLemmas.Moves.{net_moved}
 use Rattle.cast_bound.specs.PlayBound.Standing.{NetMoves, without_net, with_net}
+use Rattle.cast_bound.specs.Dropping.{copier_seats, net_seats}
+use Rattle.cast_bound.proofs.Drops.{net_gone_is}
 use Rattle.cast_bound.proofs.Sources.{place_is}
 
 -- what is in a pool's range
@@ -107,7 +110,7 @@ module _ (plan : Plan) (trace : Trace) (scene : Scene) (cast : List Part) (histo
       let pools : first_blk_pool plan ≡ 1 + 2 * length net.client = ap (λ (o : Option Net). option_map_or (λ (n : Net). 1 + 2 * length n.client) o 0) is in
       omega (arith, lt, many, pools)
 
-  is_network : IsNetwork scene (hostiles cast) (queues_of plan) (moved history journal) place
+  is_network : IsNetwork scene scene.frames (hostiles cast) (queues_of plan) (moved history journal) place
   is_network = record {
     pools_many = w.pools_many;
     programs_many = w.programs_many;
@@ -125,12 +128,15 @@ module _ (plan : Plan) (trace : Trace) (scene : Scene) (cast : List Part) (histo
   }
 
 pub net_within : (plan : Plan) (trace : Trace) (scene : Scene) (cast : List Part) (history : History) (journal : List Entry) → Valid plan → AllCalm cast → ((net : Net) → plan.net ≡ Some net → HasWholeIn scene (queues_of plan) (net_place plan trace) cast) → scene ≡ scene_for plan trace
-    → QueuesFlow history (queues_of plan) journal → RowsHold (sheet scene) (hostiles cast) cast (moved history journal) → NetMoves plan trace (moved history journal)
+    → QueuesFlow history (queues_of plan) journal → RowsHold (sheet scene) (hostiles cast) cast (moved history journal) → NetMoves plan trace (noes_together (net_seats (net_place plan trace)) (moved history journal)) (moved history journal)
 net_within plan trace scene cast history journal valid calm whole scene_is flows rows = by plan.net refl
   where
-    by : (o : Option Net) → plan.net ≡ o → NetMoves plan trace (moved history journal)
-    by None is = without_net is
+    by : (o : Option Net) → plan.net ≡ o → NetMoves plan trace (noes_together (net_seats (net_place plan trace)) (moved history journal)) (moved history journal)
+    by None is =
+        let many : length (net_place plan trace).macs ≡ 0 = value_count (length (net_clients plan)) _ ∙ ap (λ (o : Option Net). length (option_map_or (λ (n : Net). n.client) o [])) is in
+        without_net is (ap (λ n. noes_together (copier_seats (net_place plan trace) n) (moved history journal)) many)
     by (Some net) is =
         let frames : scene.frames ≡ trace.frames = ap (λ (s : Scene). s.frames) scene_is ∙ ap (λ (n : Option Net). option_map_or (λ (x : Net). trace.frames) n []) is in
-        let few = net_moved scene (hostiles cast) history (queues_of plan) journal (net_place plan trace) flows (is_network plan trace scene cast history journal valid calm net is (whole net is) rows) in
-        with_net net (net_place plan trace) is (place_is plan net is trace) (subst (λ fs. net_put 0 (length (net_place plan trace).macs) (moved history journal) ≤ net_moves (net_place plan trace) fs) frames few)
+        let few = net_moved scene scene.frames (hostiles cast) history (queues_of plan) journal (net_place plan trace) flows (is_network plan trace scene cast history journal valid calm net is (whole net is) rows) in
+        with_net net (net_place plan trace) is (place_is plan net is trace) (subst (λ fs. net_put 0 (length (net_place plan trace).macs) (moved history journal) + noes_together (net_seats (net_place plan trace)) (moved history journal) ≤ net_moves (net_place plan trace) fs) frames
+        (subst (λ n. net_put 0 (length (net_place plan trace).macs) (moved history journal) + n ≤ net_moves (net_place plan trace) scene.frames) (sym (net_gone_is (net_place plan trace) (moved history journal))) few))

@@ -5,7 +5,8 @@
 ghost use Rattle.std.specs.Prelude.{◌≡◌, ◌<◌, Some, None, List, [], length};
 ghost use Rattle.wire_core.specs.declared.names.Entry.{Entry};
 ghost use Rattle.wire_core.specs.Journal.{History, LegalJournal, BellsHold, QueuesFlow};
-ghost use Rattle.wire_core.specs.Marks.{Brisk, dropped};
+ghost use Rattle.wire_core.specs.Marks.{Brisk};
+ghost use Rattle.play_core.specs.Looks.{noes_together};
 ghost use Rattle.play_core.specs.Moved.{moved};
 ghost use Rattle.play_core.specs.Sheets.{RowsHold, Scene};
 ghost use Rattle.play_core.specs.Still.{IsPeopled};
@@ -23,16 +24,17 @@ ghost use Rattle.actor_set.specs.Parts.{Part};
 ghost use Rattle.actor_set.specs.Laws.Kinds.{AllCalm, sheet, hostiles};
 ghost use Rattle.wired_law.specs.Wiring.{HasWholeIn, HasBlkIn};
 ghost use Rattle.cast_core.specs.Casts.{net_place, blk_place, scene_for};
-ghost use Rattle.cast_bound.specs.Dropping.{drops_in, serial_seats, DropOnlyAt};
+ghost use Rattle.cast_bound.specs.Dropping.{drops_in, net_seats, serial_seats, line_seats};
+ghost use Rattle.cast_bound.specs.Dropping.{plan_seats, DropOnlyAt};
 ghost use Rattle.cast_bound.specs.PlayBound.Standing.{StandsFrom, Carries, serial_first, NetMoves};
 ghost use Rattle.cast_bound.specs.PlayBound.Standing.{SerialMoves, BlkMoves};
 
 pub mod play_bound;
 
 /// Where no actor of a plan is hostile, their rows hold and its queues hand over in order, each
-/// class puts no more to its queues than its entries have to be moved, the serial class with those
-/// that are dropped, where no actor drops elsewhere; so a journal that is legal and brisk is shorter
-/// than the budget of plan and trace.
+/// class puts no more to its queues than its entries have to be moved, the network and the serial
+/// class with those that are dropped, as their ends looked in vain; so a journal that is legal and
+/// brisk is shorter than the budget of plan and trace, where no actor drops elsewhere.
 pub fn cast_bound_law()
     ensures network { (plan : Plan) (trace : Trace) (scene : Scene) (cast : List Part)
         (history : History) (journal : List Entry) → Valid plan → AllCalm cast
@@ -41,7 +43,9 @@ pub fn cast_bound_law()
         → scene ≡ scene_for plan trace
         → QueuesFlow history (queues_of plan) journal
         → RowsHold (sheet scene) (hostiles cast) cast (moved history journal)
-        → NetMoves plan trace (moved history journal) }
+        → NetMoves plan trace
+        (noes_together (net_seats (net_place plan trace)) (moved history journal))
+        (moved history journal) }
     ensures block { (plan : Plan) (trace : Trace) (scene : Scene) (cast : List Part)
         (history : History) (journal : List Entry) → Valid plan → AllCalm cast
         → ((blk : Blk) → plan.blk ≡ Some blk
@@ -54,9 +58,9 @@ pub fn cast_bound_law()
         → ((serial : Serial) → plan.serial ≡ Some serial → (class : SerialClass)
         × StandsFrom (serial_first plan.net) (length serial.client) class × Carries trace class
         × IsSerial (λ p. (serial_sheet p).row (moved history journal)) (hostiles cast)
-        (queues_of plan) class × DropOnlyAt (serial_seats class) cast)
-        → (plan.serial ≡ None → DropOnlyAt [] cast)
-        → SerialMoves plan trace (dropped (drops_in cast) journal) (moved history journal) }
+        (queues_of plan) class × (serial_seats class ≡ line_seats plan))
+        → SerialMoves plan trace (noes_together (line_seats plan) (moved history journal))
+        (moved history journal) }
     ensures short { (plan : Plan) (trace : Trace) (cast : List Part) (history : History)
         (journal : List Entry) → Valid plan → AllCalm cast
         → length cast ≡ length (actors_of plan) → IsPeopled (queues_of plan) (length cast)
@@ -64,7 +68,11 @@ pub fn cast_bound_law()
         → QueuesFlow history (queues_of plan) []
         → LegalJournal (hostiles cast) history (queues_of plan) journal
         → Brisk (hostiles cast) (queues_of plan) (drops_in cast) journal
-        → NetMoves plan trace (moved history journal)
-        → SerialMoves plan trace (dropped (drops_in cast) journal) (moved history journal)
+        → DropOnlyAt (plan_seats plan trace) cast
+        → NetMoves plan trace
+        (noes_together (net_seats (net_place plan trace)) (moved history journal))
+        (moved history journal)
+        → SerialMoves plan trace (noes_together (line_seats plan) (moved history journal))
+        (moved history journal)
         → BlkMoves plan trace (moved history journal) → length journal < budget_of plan trace }
 {}

@@ -16,8 +16,8 @@ ghost use Rattle.cast_bound.specs.PlayBound.Standing.{NetMoves, SerialMoves, Blk
 
 /// Where no more was put to the queues of a plan, and dropped, than the hops that its budget counts,
 /// a journal that is legal and brisk is shorter than the budget. No more is put and dropped where
-/// each class that the plan has puts, and drops, no more than its entries have to be moved; so many
-/// are dropped in the serial class, and none elsewhere.
+/// each class that the plan has puts, and drops, no more than its entries have to be moved: so many
+/// frames are dropped in the network and so many bytes in the serial class.
 pub fn bound_law()
     ensures bounded { (plan : Plan) (trace : Trace) (hostile : Hostiles) (history : History)
         (journal : List Entry) (drops : Drops) → Valid plan → AreCalm hostile (queues_of plan)
@@ -30,8 +30,9 @@ pub fn bound_law()
         ≤ hops_of (counts_of plan trace)
         → length journal < budget_of plan trace }
     ensures classes { (plan : Plan) (trace : Trace) (history : History) (journal : List Entry)
-        (gone : ℕ) → NetMoves plan trace (moved history journal)
-        → SerialMoves plan trace gone (moved history journal)
+        (frames bytes : ℕ) → NetMoves plan trace frames (moved history journal)
+        → SerialMoves plan trace bytes (moved history journal)
         → BlkMoves plan trace (moved history journal)
-        → all_sent history (queues_of plan) journal + gone ≤ hops_of (counts_of plan trace) }
+        → all_sent history (queues_of plan) journal + (frames + bytes)
+        ≤ hops_of (counts_of plan trace) }
 {}

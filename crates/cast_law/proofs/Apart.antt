@@ -50,11 +50,11 @@ IsNotOf {C} queue clients n = (k : ℕ) (c : C) → slice_get clients k ≡ Some
 
 -- no two ends of a part on one side are of one queue
 abbrev NetApart : NetPart → Type 0
-NetApart (NetDevice rx_free rx_active tx_active tx_free frames) = (rx_free ≡ tx_active → ⊥) × (rx_active ≡ tx_free → ⊥)
+NetApart (NetDevice rx_free rx_active tx_active tx_free frames drops) = (rx_free ≡ tx_active → ⊥) × (rx_active ≡ tx_free → ⊥)
 NetApart (NetDriver ways) = AreDistinct (map (λ (w : Way). w.input) ways) × AreDistinct (map (λ (w : Way). w.output) ways)
 NetApart (NetReceiver active free pool clients) =
     AreOne (λ (c : Lessee). c.free) clients × AreOne (λ (c : Lessee). c.active) clients × IsNotOf (λ (c : Lessee). c.free) clients active × IsNotOf (λ (c : Lessee). c.active) clients free
-NetApart (CopierPart lease_active lease_free rx_active rx_free) = (lease_active ≡ rx_free → ⊥) × (rx_active ≡ lease_free → ⊥)
+NetApart (CopierPart lease_active lease_free rx_active rx_free drops) = (lease_active ≡ rx_free → ⊥) × (rx_active ≡ lease_free → ⊥)
 NetApart (NetClientPart program mac rx_active rx_free tx_active tx_free rx tx) = (rx_active ≡ tx_free → ⊥) × (rx_free ≡ tx_active → ⊥)
 
 abbrev SendApart : SendPart → Type 0

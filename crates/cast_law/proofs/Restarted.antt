@@ -226,6 +226,7 @@ module _ (olds news : List Part) (alike : AreAlike olds news) where
     pools_many = has.pools_many;
     programs_many = has.programs_many;
     device = has_part _ refl has.device;
+    waits = has.waits;
     driver = has_part _ refl has.driver;
     receiver = has_part _ refl has.receiver;
     sender = has_part _ refl has.sender;

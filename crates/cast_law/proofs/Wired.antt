@@ -157,7 +157,7 @@ module _ (plan : Plan) (trace : Trace) (actors : List Actor) (valid : Valid plan
   frames_there net is =
       let device = (net_named plan net is).device in
       let k = (eth_number plan).0 in
-      single frames_of cast k (NetworkPart (device_at 0 trace.frames)) (part_at EthDevice k device)
+      single frames_of cast k (NetworkPart (device_at 0 trace.frames false)) (part_at EthDevice k device)
       (λ j p at ne.
       let one = job_at j p at in
       elim one.2 [
@@ -288,7 +288,7 @@ module _ (plan : Plan) (trace : Trace) (actors : List Actor) (valid : Valid plan
     client_below c lt = let a = class_count in let b = counted in omega (arith, lt, a, b)
 
     net_is : (job : Job) (q : NetPart) → calm_part plan trace job ≡ Some (NetworkPart q) → IsOf plan job → IsOfNetwork place (scene_of cast).frames (NetworkPart q)
-    net_is EthDevice q e of = inl (sym (some_is e) ∙ ap (λ fs. NetworkPart (device_at 0 fs)) (sym frames_here))
+    net_is EthDevice q e of = inl (sym (some_is e) ∙ ap (λ fs. NetworkPart (device_at 0 fs false)) (sym frames_here))
     net_is EthDriver q e of = inr (inl (sym (some_is e)))
     net_is NetReceiver q e of = inr (inr (inl (sym (some_is e))))
     net_is NetSender q e of = absurd cc
@@ -337,7 +337,8 @@ module _ (plan : Plan) (trace : Trace) (actors : List Actor) (valid : Valid plan
     whole_is = record {
       pools_many = value_count count (client_pools plan) ∙ sym (value_count count (client_mac plan));
       programs_many = value_count count (client_program plan trace) ∙ sym (value_count count (client_mac plan));
-      device = ((eth_number plan).0, part_at EthDevice (eth_number plan).0 named.device ∙ ap (λ fs. Some (NetworkPart (device_at 0 fs))) (sym frames_here));
+      device = ((eth_number plan).0, part_at EthDevice (eth_number plan).0 named.device ∙ ap (λ fs. Some (NetworkPart (device_at 0 fs false))) (sym frames_here));
+      waits = refl;
       driver = ((actor_named plan net.driver).0, part_at EthDriver (actor_named plan net.driver).0 named.driver);
       receiver = ((actor_named plan net.rx_virt).0, part_at NetReceiver (actor_named plan net.rx_virt).0 named.receiver);
       sender = ((actor_named plan net.tx_virt).0, part_at NetSender (actor_named plan net.tx_virt).0 named.sender);

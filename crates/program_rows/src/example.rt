@@ -1,23 +1,25 @@
 //! `sddf_top`: the program as one call, over a shelf of texts and a sink, here both in memory.
 
 use cargo_core::Memory;
-use sddf_top::{MemShelf, MemSink, OpenGate, Played, serve};
+use sddf_top::{Gate, MemShelf, MemSink, OpenGate, Played, Shelf, serve};
 use std::alloc::Global;
 use std::rt::Files;
 use std::sync::Wait;
 use std::thread::Threads;
 use std::{fs, io};
 
-// The status with which `serve` answers words, over a shelf and a sink.
-fn status_of<R: Threads + Wait + Sync>(
+/// The status with which `serve` answers words, over a shelf and a sink. It says nothing of what is
+/// proved of the answer.
+pub fn status_of<R: Threads + Wait + Sync, F: Shelf, G: Gate + Sync>(
     rt: &R,
     alloc: Global,
     words: &[String],
-    shelf: &mut MemShelf,
+    shelf: &mut F,
     sink: &mut MemSink,
+    gate: &G,
 ) -> u8 {
     let mut played = Played::Nothing;
-    let status = serve(rt, alloc, words, shelf, sink, &OpenGate, &mut played);
+    let status = serve(rt, alloc, words, shelf, sink, gate, &mut played);
     played.forget();
     status.code()
 }
@@ -50,7 +52,7 @@ fn show_program<R: Threads + Wait + Sync>(
         list.push(String::from_str(alloc, word)?)?;
     }
     let mut sink = MemSink::new(alloc, 1000)?;
-    let status = status_of(rt, alloc, &list, &mut shelf, &mut sink);
+    let status = status_of(rt, alloc, &list, &mut shelf, &mut sink, &OpenGate);
     told(alloc, sink.written(), status)
 }
 

@@ -24,10 +24,10 @@ mod row;
 mod words;
 
 use arrivals::Arrivals;
-use example::print_example;
+use example::{print_example, status_of};
 use failing::print_cases;
 use outside::print_outsides;
-use sddf_top::{FileShelf, MemSink, Played, serve, serve_host};
+use sddf_top::{FileShelf, MemSink, serve_host};
 use std::alloc::Global;
 use std::io;
 use std::rt::Files;
@@ -115,21 +115,11 @@ fn told<R: Threads + Wait + Sync + Files + AllocGlobal>(
     let Ok(mut sink) = MemSink::new(rt.alloc(), ROOM) else {
         return Ok(String::from_str(rt.alloc(), "no memory\n")?);
     };
-    let mut played = Played::Nothing;
-    let status = serve(
-        rt,
-        rt.alloc(),
-        &words,
-        &mut shelf,
-        &mut sink,
-        gate,
-        &mut played,
-    );
-    played.forget();
+    let status = status_of(rt, rt.alloc(), &words, &mut shelf, &mut sink, gate);
     let mut text = String::new(rt.alloc());
     let written = std::str::from_utf8(sink.written()).unwrap_or("no text");
     add_lines(&mut text, written, row.starts_with("run "))?;
-    write!(text, "status {}\n", status.code())?;
+    write!(text, "status {status}\n")?;
     Ok(text)
 }
 

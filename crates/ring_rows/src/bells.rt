@@ -11,8 +11,8 @@ use cargo_core::{Body, Item};
 use spsc_queue::{Consumer, Producer, Ring};
 use std::marker::Brand;
 
-// Notifies the consumer where it wants that.
-fn notify_consumer(producer: &mut Producer, ring: &Ring)
+/// Notifies the consumer where it wants that; whether it did.
+pub fn notify_consumer(producer: &mut Producer, ring: &Ring) -> bool
     requires own { producer.old.ring ≡ ring.now.id }
     requires put { producer.old.knows.ringer ≡ Rung.Put }
     ensures own { producer.new.ring ≡ producer.old.ring }
@@ -20,10 +20,12 @@ fn notify_consumer(producer: &mut Producer, ring: &Ring)
     ensures free { producer.new.knows.ringer ≡ Rung.Free }
     ensures kind { producer.new.knows.kind ≡ producer.old.knows.kind }
 {
-    if producer.wanted(ring) {
-        producer.settle(ring);
-        producer.ring(ring);
+    if !producer.wanted(ring) {
+        return false;
     }
+    producer.settle(ring);
+    producer.ring(ring);
+    true
 }
 
 // Whether there is room, at a look or behind a notification; None where none came within so many
@@ -108,18 +110,20 @@ pub fn send_by_bells(
     sent
 }
 
-// Notifies the producer where it wants that.
-fn notify_producer(consumer: &mut Consumer, ring: &Ring)
+/// Notifies the producer where it wants that; whether it did.
+pub fn notify_producer(consumer: &mut Consumer, ring: &Ring) -> bool
     requires own { consumer.old.ring ≡ ring.now.id }
     requires put { consumer.old.knows.ringer ≡ Rung.Put }
     ensures own { consumer.new.ring ≡ consumer.old.ring }
     ensures waiter { consumer.new.knows.waiter ≡ consumer.old.knows.waiter }
     ensures free { consumer.new.knows.ringer ≡ Rung.Free }
 {
-    if consumer.wanted(ring) {
-        consumer.settle(ring);
-        consumer.ring(ring);
+    if !consumer.wanted(ring) {
+        return false;
     }
+    consumer.settle(ring);
+    consumer.ring(ring);
+    true
 }
 
 // Whether an entry stands there, at a look or behind a notification; None where none came within so

@@ -1,8 +1,10 @@
 //! A ring call by call on one thread, and between two threads.
 ghost use Rattle.std.specs.Prelude.{◌≡◌, ◌≤◌, true};
 ghost use Rattle.cargo_core.specs.declared.item.QueueKind.TheVariants as Kind;
+ghost use Rattle.wire_core.specs.declared.names.Ringer.TheVariants as Rung;
 ghost use Rattle.wire_core.specs.Ends.{is_busy_or_off, is_free_or_put};
 
+use crate::bells::{notify_consumer, notify_producer};
 use crate::{byte_ring, give_up, offer, poll, send, send_by_bells, take, take_by_bells};
 use cargo_core::{Body, Item, Memory};
 use spsc_queue::{Consumer, Ended, Producer, Ring};
@@ -40,43 +42,123 @@ fn a_ring_of_two_places_call_by_call(rt: HostRuntime) -> Result<(), Fail> {
     Ok(())
 }
 
+// A look, a wish and a look again: whether both looks said no.
+fn asks_in_vain(consumer: &mut Consumer, ring: &Ring) -> bool
+    requires own { consumer.old.ring ≡ ring.now.id }
+    requires calm { is_busy_or_off consumer.old.knows.waiter ≡ true }
+    ensures own { consumer.new.ring ≡ consumer.old.ring }
+    ensures ringer { consumer.new.knows.ringer ≡ consumer.old.knows.ringer }
+{
+    let first = consumer.see(ring);
+    consumer.ask(ring);
+    let second = consumer.see(ring);
+    !first && !second
+}
+
+// A put where there is room, of which the consumer is notified if it wants that: whether it was put,
+// and whether it was notified.
+fn puts(producer: &mut Producer, ring: &Ring, byte: u8) -> (bool, bool)
+    requires own { producer.old.ring ≡ ring.now.id }
+    requires calm { is_busy_or_off producer.old.knows.waiter ≡ true }
+    requires free { producer.old.knows.ringer ≡ Rung.Free }
+    requires kind { producer.old.knows.kind ≡ Kind.Byte }
+    ensures own { producer.new.ring ≡ producer.old.ring }
+    ensures calm { is_busy_or_off producer.new.knows.waiter ≡ true }
+    ensures free { producer.new.knows.ringer ≡ Rung.Free }
+    ensures kind { producer.new.knows.kind ≡ producer.old.knows.kind }
+{
+    if !producer.room(ring) {
+        return (false, false);
+    }
+    producer.put::<Brand>(ring, Item::Byte(byte), Body::Empty);
+    (true, notify_consumer(producer, ring))
+}
+
+// What a consumer takes that is notified; None where it wasn't, or nothing stands there.
+fn takes_woken(consumer: &mut Consumer, ring: &Ring) -> Option<Item>
+    requires own { consumer.old.ring ≡ ring.now.id }
+    requires free { is_free_or_put consumer.old.knows.ringer ≡ true }
+    ensures own { consumer.new.ring ≡ consumer.old.ring }
+{
+    if !consumer.wake(ring) {
+        return None;
+    }
+    if !consumer.see(ring) {
+        return None;
+    }
+    Some(consumer.take(ring).0)
+}
+
+// A consumer that wants no notification: whether one is pending.
+fn is_woken_off(consumer: &mut Consumer, ring: &Ring) -> bool
+    requires { consumer.old.ring ≡ ring.now.id }
+{
+    consumer.waive(ring);
+    consumer.wake(ring)
+}
+
 #[test]
 fn a_filled_queue_is_signalled_once(rt: HostRuntime) -> Result<(), Fail> {
     let (ring, mut producer, mut consumer) = byte_ring(rt.alloc(), 1)?;
-    assert!(rt; !consumer.see(&ring));
-    consumer.ask(&ring);
-    assert!(rt; !consumer.see(&ring));
-    assert!(rt; producer.room(&ring));
-    producer.put::<Brand>(&ring, Item::Byte(1), Body::Empty);
-    assert!(rt; producer.wanted(&ring));
-    producer.settle(&ring);
-    producer.ring(&ring);
-    assert!(rt; producer.room(&ring));
-    producer.put::<Brand>(&ring, Item::Byte(2), Body::Empty);
-    assert!(rt; !producer.wanted(&ring));
-    assert!(rt; consumer.wake(&ring));
-    assert!(rt; consumer.see(&ring));
-    assert!(rt; consumer.take(&ring).0 == Item::Byte(1));
-    consumer.waive(&ring);
-    assert!(rt; !consumer.wake(&ring));
+    assert!(rt; asks_in_vain(&mut consumer, &ring));
+    assert!(rt; puts(&mut producer, &ring, 1) == (true, true));
+    assert!(rt; puts(&mut producer, &ring, 2) == (true, false));
+    assert!(rt; takes_woken(&mut consumer, &ring) == Some(Item::Byte(1)));
+    assert!(rt; !is_woken_off(&mut consumer, &ring));
     Ok(())
+}
+
+// A wish for room, and a look: whether there is room.
+fn asks_for_room(producer: &mut Producer, ring: &Ring) -> bool
+    requires own { producer.old.ring ≡ ring.now.id }
+    requires calm { is_busy_or_off producer.old.knows.waiter ≡ true }
+    ensures own { producer.new.ring ≡ producer.old.ring }
+{
+    producer.ask(ring);
+    producer.room(ring)
+}
+
+// What a consumer takes, and whether the producer was notified of it.
+fn takes(consumer: &mut Consumer, ring: &Ring) -> Option<(Item, bool)>
+    requires own { consumer.old.ring ≡ ring.now.id }
+    requires calm { is_busy_or_off consumer.old.knows.waiter ≡ true }
+    requires free { consumer.old.knows.ringer ≡ Rung.Free }
+    ensures own { consumer.new.ring ≡ consumer.old.ring }
+{
+    if !consumer.see(ring) {
+        return None;
+    }
+    let (item, _body) = consumer.take(ring);
+    Some((item, notify_producer(consumer, ring)))
+}
+
+// Whether a producer is notified, and finds room.
+fn finds_room_woken(producer: &mut Producer, ring: &Ring) -> bool
+    requires { producer.old.ring ≡ ring.now.id }
+    ensures { producer.new.ring ≡ producer.old.ring }
+{
+    if !producer.wake(ring) {
+        return false;
+    }
+    producer.room(ring)
+}
+
+// A producer that wants no notification: whether one is pending.
+fn is_producer_woken_off(producer: &mut Producer, ring: &Ring) -> bool
+    requires { producer.old.ring ≡ ring.now.id }
+{
+    producer.waive(ring);
+    producer.wake(ring)
 }
 
 #[test]
 fn room_is_signalled_once(rt: HostRuntime) -> Result<(), Fail> {
     let (ring, mut producer, mut consumer) = byte_ring(rt.alloc(), 0)?;
     assert!(rt; offer(&mut producer, &ring, 1));
-    producer.ask(&ring);
-    assert!(rt; !producer.room(&ring));
-    assert!(rt; consumer.see(&ring));
-    assert!(rt; consumer.take(&ring).0 == Item::Byte(1));
-    assert!(rt; consumer.wanted(&ring));
-    consumer.settle(&ring);
-    consumer.ring(&ring);
-    assert!(rt; producer.wake(&ring));
-    assert!(rt; producer.room(&ring));
-    producer.waive(&ring);
-    assert!(rt; !producer.wake(&ring));
+    assert!(rt; !asks_for_room(&mut producer, &ring));
+    assert!(rt; takes(&mut consumer, &ring) == Some((Item::Byte(1), true)));
+    assert!(rt; finds_room_woken(&mut producer, &ring));
+    assert!(rt; !is_producer_woken_off(&mut producer, &ring));
     Ok(())
 }
 

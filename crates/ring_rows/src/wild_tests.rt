@@ -1,11 +1,12 @@
 //! A wild ring call by call on one thread, and between two threads.
 ghost use Rattle.std.specs.Prelude.{◌≡◌, ◌≤◌, true};
+ghost use Rattle.wire_core.specs.Ends.{is_busy_or_off};
+ghost use Rattle.spsc_queue.specs.Steps.{known_end};
 
 use crate::{give_up, offer, poll, scribble, send, send_wildly, take, wild_byte_ring};
-use cargo_core::{Body, Item, Memory, Word};
-use spsc_queue::Ended;
+use cargo_core::{Item, Memory, Word};
+use spsc_queue::{Consumer, Ended, Producer, Ring};
 use std::alloc::Global;
-use std::marker::Brand;
 use std::test::Fail;
 use std::thread::{Threads, join_mut};
 
@@ -24,29 +25,51 @@ fn leaves(ended: &mut Ended, first: u32, count: u32) -> bool {
     ended.next().is_none()
 }
 
+// Whether a look says yes behind a store of this tail.
+fn sees(producer: &mut Producer, consumer: &mut Consumer, ring: &Ring, tail: u64) -> bool
+    requires producer { producer.old.ring ≡ ring.now.id }
+    requires consumer { consumer.old.ring ≡ ring.now.id }
+    requires wild { ring.now.wild ≡ true }
+    requires calm { is_busy_or_off consumer.old.knows.waiter ≡ true }
+    ensures producer { producer.new.ring ≡ producer.old.ring }
+    ensures producer_end { known_end producer.new.knows ≡ known_end producer.old.knows }
+    ensures consumer { consumer.new.ring ≡ consumer.old.ring }
+    ensures calm { is_busy_or_off consumer.new.knows.waiter ≡ true }
+    ensures ringer { consumer.new.knows.ringer ≡ consumer.old.knows.ringer }
+{
+    producer.store(ring, Word::Tail, tail);
+    consumer.see(ring)
+}
+
+// Whether one notification is pending behind a store of this word.
+fn is_woken_once(producer: &mut Producer, consumer: &mut Consumer, ring: &Ring, word: u64) -> bool
+    requires producer { producer.old.ring ≡ ring.now.id }
+    requires consumer { consumer.old.ring ≡ ring.now.id }
+    requires wild { ring.now.wild ≡ true }
+    ensures producer { producer.new.ring ≡ producer.old.ring }
+    ensures producer_end { known_end producer.new.knows ≡ known_end producer.old.knows }
+    ensures consumer { consumer.new.ring ≡ consumer.old.ring }
+{
+    producer.store(ring, Word::Pending, word);
+    let first = consumer.wake(ring);
+    let again = consumer.wake(ring);
+    first && !again
+}
+
 // Around one put each tail that doesn't fit makes a look answer no, also while its slot is granted,
 // and one that fits shows what is there and nothing else.
 #[test]
 fn a_stored_tail_shows_no_entry_that_is_not_there(rt: HostRuntime) -> Result<(), Fail> {
     let (ring, mut producer, mut consumer) = wild_byte_ring(rt.alloc(), 2)?;
-    producer.store(&ring, Word::Tail, 77);
-    assert!(rt; !consumer.see(&ring));
-    producer.store(&ring, Word::Tail, 1);
-    assert!(rt; !consumer.see(&ring));
-    assert!(rt; producer.room(&ring));
-    producer.put::<Brand>(&ring, Item::Byte(9), Body::Empty);
-    producer.store(&ring, Word::Tail, 65_536);
-    assert!(rt; !consumer.see(&ring));
-    producer.store(&ring, Word::Tail, 4);
-    assert!(rt; consumer.see(&ring));
-    producer.store(&ring, Word::Tail, 0);
-    assert!(rt; !consumer.see(&ring));
-    producer.store(&ring, Word::Tail, 1);
-    assert!(rt; consumer.see(&ring));
-    assert!(rt; consumer.take(&ring).0 == Item::Byte(9));
-    producer.store(&ring, Word::Pending, 3);
-    assert!(rt; consumer.wake(&ring));
-    assert!(rt; !consumer.wake(&ring));
+    assert!(rt; !sees(&mut producer, &mut consumer, &ring, 77));
+    assert!(rt; !sees(&mut producer, &mut consumer, &ring, 1));
+    assert!(rt; offer(&mut producer, &ring, 9));
+    assert!(rt; !sees(&mut producer, &mut consumer, &ring, 65_536));
+    assert!(rt; sees(&mut producer, &mut consumer, &ring, 4));
+    assert!(rt; !sees(&mut producer, &mut consumer, &ring, 0));
+    assert!(rt; sees(&mut producer, &mut consumer, &ring, 1));
+    assert!(rt; poll(&mut consumer, &ring) == Some(Item::Byte(9)));
+    assert!(rt; is_woken_once(&mut producer, &mut consumer, &ring, 3));
     consumer.store(&ring, Word::Head, 60);
     assert!(rt; !producer.room(&ring));
     let mut ended = give_up(ring, producer, consumer)?;

@@ -1,9 +1,8 @@
 -- A play of a plan and a trace is shorter than their budget.
-use Rattle.std.proofs.Common.{◌≡◌, ◌<◌, ◌+◌, ◌*◌, ℕ, None, Some, Option, List, length, slice_get, [], refl, sym, ap, ◌∙◌, subst, Bool, true}
+use Rattle.std.proofs.Common.{◌≡◌, ◌<◌, ◌+◌, ◌*◌, ℕ, None, Some, Option, List, length, slice_get, [], refl, sym, ap, ◌∙◌, subst, Bool}
 use Rattle.std.specs.Option.{option_map_or}
 use Rattle.wire_core.specs.declared.names.Entry.{Entry}
 use Rattle.wire_core.specs.Journal.{LegalJournal, BellsHold, QueuesFlow}
-use Rattle.wire_core.specs.Ends.{Role}
 use Rattle.wire_core.specs.Marks.{Brisk}
 use Rattle.sdf_plan.specs.declared.plan.Plan.{Plan}
 use Rattle.sdf_plan.specs.declared.plan.Net.{Net}
@@ -23,7 +22,7 @@ use Rattle.serial_law.specs.Parts.{SerialPart}
 use Rattle.serial_law.specs.Serial.{SerialClass, IsSerial}
 use Rattle.serial_law.proofs.Arrivals.{as_there, RowAt}
 use Rattle.actor_set.specs.Parts.{Part}
-use Rattle.actor_set.specs.Laws.Kinds.{AllCalm, drop_seats, dropping_ends, has_seat, serial_part, sheet}
+use Rattle.actor_set.specs.Laws.Kinds.{AllCalm, dropping_ends, serial_part, sheet}
 use Rattle.actor_set.proofs.LawsLemmas.Calm.{calm_actor, sheet_is}
 use Rattle.wired_law.specs.Wiring.{HasWholeIn, HasBlkIn}
 use Rattle.cast_core.specs.Sources.{every_second, first_serial, serial_drops}
@@ -36,7 +35,7 @@ use Rattle.cast_bound.proofs.Blocks.{blk_within}
 use Rattle.cast_bound.proofs.Networks.{net_within}
 use Rattle.cast_bound.proofs.Bounds.{serial_within, short}
 use Rattle.cast_bound.proofs.Drops.{job_seats}
-use Rattle.cast_bound.specs.Dropping.{drops_in, serial_seats, DropOnlyAt}
+use Rattle.cast_bound.specs.Dropping.{drops_in, line_seats, plan_seats, serial_seats, DropOnlyAt}
 use Rattle.system_core.specs.Shows.{Setting, Shown, hostile_in, moved_in, RowsStand}
 use Rattle.system_core.proofs.Telling.{PlainRows, rows_plain}
 use Rattle.system_core.specs.Lawful.{StandsLawful}
@@ -81,17 +80,14 @@ module _ (plan : Plan) (trace : Trace) (valid : Valid plan) (none : HasNoRogue p
   flows_now : QueuesFlow s.setting.history (queues_of plan) s.journal
   flows_now = flows_at s.journal (last_moment (QueuesFlow s.setting.history s.setting.rows) s.journal stands.lawful.flows)
 
-  -- parts drop at ends of the plan's serial clients alone
-  seats_at : (k : ℕ) (p : Part) → slice_get s.setting.cast k ≡ Some p → (r : Role) (n : ℕ) → has_seat (drop_seats p) r n ≡ true → has_seat (dropping_ends (every_second (first_serial plan + 4) (length (serial_clients plan))) (serial_drops plan)) r n ≡ true
-  seats_at k p at =
+  -- parts drop at the ends of the plan's copiers and serial clients alone
+  only : DropOnlyAt (plan_seats plan trace) s.setting.cast
+  only k p at =
       let job = job_at plan trace s valid cast stands.fitted.scene_is k p (ap is_hostile (calm k p at)) at in
       job_seats plan trace job.0 p (sym (calm_jobs plan trace job.0 none) ∙ job.2)
 
   clients_are : {o : Option Serial} → plan.serial ≡ o → serial_clients plan ≡ option_map_or (λ (x : Serial). x.client) o []
   clients_are is = ap (λ (z : Option Serial). option_map_or (λ (x : Serial). x.client) z []) is
-
-  nowhere : plan.serial ≡ None → DropOnlyAt [] s.setting.cast
-  nowhere is k p at r n h = subst (λ (cs : List SerialClient). has_seat (dropping_ends (every_second (first_serial plan + 4) (length cs)) (serial_drops plan)) r n ≡ true) (clients_are is) (seats_at k p at r n h)
 
   module _ (serial : Serial) (has : plan.serial ≡ Some serial) where
     abbrev class : SerialClass
@@ -107,8 +103,8 @@ module _ (plan : Plan) (trace : Trace) (valid : Valid plan) (none : HasNoRogue p
     carries : Carries trace class
     carries = record { input = refl; scripts = refl }
 
-    only : DropOnlyAt (serial_seats class) s.setting.cast
-    only k p at r n h = subst (λ (cs : List SerialClient). has_seat (dropping_ends (every_second (first_serial plan + 4) (length cs)) (serial_drops plan)) r n ≡ true) (clients_are has) (seats_at k p at r n h)
+    seats_are : serial_seats class ≡ line_seats plan
+    seats_are = ap (λ (cs : List SerialClient). dropping_ends (every_second (first_serial plan + 4) (length cs)) (serial_drops plan)) (sym (clients_are has))
 
   pub bounded : length s.journal < budget_of plan trace
   bounded = short plan trace s.setting.cast s.setting.history s.journal valid calm cast.count
@@ -117,6 +113,7 @@ module _ (plan : Plan) (trace : Trace) (valid : Valid plan) (none : HasNoRogue p
       (flows_at [] stands.lawful.flows.0)
       (subst (λ rs. LegalJournal (hostile_in s.setting) s.setting.history rs s.journal) cast.rows stands.lawful.legal)
       (subst (λ rs. Brisk (hostile_in s.setting) rs (drops_in s.setting.cast) s.journal) cast.rows stands.lawful.brisk)
+      only
       (net_within plan trace s.setting.scene s.setting.cast s.setting.history s.journal valid calm (λ net has. subst (λ rs. HasWholeIn s.setting.scene rs (net_place plan trace) s.setting.cast) cast.rows (cast.whole net has)) cast.scene flows_now rows_now)
-      (serial_within plan trace s.setting.cast s.setting.history s.journal flows_now (λ serial has. (class serial has, class_at serial has, carries serial has, rows_of_class serial has, only serial has)) nowhere)
+      (serial_within plan trace s.setting.cast s.setting.history s.journal flows_now (λ serial has. (class serial has, class_at serial has, carries serial has, rows_of_class serial has, seats_are serial has)))
       (blk_within plan trace s.setting.scene s.setting.cast s.setting.history s.journal valid calm (λ blk has. subst (λ rs. HasBlkIn s.setting.scene rs (blk_place plan trace) s.setting.cast) cast.rows (cast.whole_block blk has)) flows_now rows_now)

@@ -25,6 +25,8 @@ pub mod Scripts
 pub mod Casting
 pub mod Begun
 pub mod Arriving
+pub mod Sending
+pub mod Leasing
 pub mod Networking
 pub mod Bounded
 pub mod Replying

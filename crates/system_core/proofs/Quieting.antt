@@ -1,4 +1,5 @@
--- Where nobody is runnable, all frames of the network went through, and all replies of the block class.
+-- Where nobody is runnable, all frames of the network went through but those that were dropped, and all
+-- replies of the block class.
 use Rattle.std.proofs.Common.{◌≡◌, ◌∙◌, Some, [], sym, subst, arith}
 use Rattle.std.proofs.lemmas.List.{length-map}
 use Rattle.wire_core.specs.Journal.{BellsHold, QueuesFlow}
@@ -32,7 +33,9 @@ use Rattle.system_core.specs.Plays.{runnable_now}
 use Rattle.system_core.specs.Lawful.{StandsLawful}
 use Rattle.system_core.specs.Builds.{IsCastOf}
 use Rattle.system_core.specs.GivesBack.{BlkGivesBack, NetGivesBack}
-use Rattle.system_core.specs.PlanPlays.{ShowsAllFrames, ShowsAllReplies}
+use Rattle.system_core.specs.Dropped.{NetDropsAsMany, calls_by}
+use Rattle.system_core.specs.PlanPlays.{ShowsAllFrames, ShowsAllReplies, net_dropped}
+use Rattle.system_core.proofs.Leasing.{net_drops_so, net_few}
 use Rattle.system_core.proofs.Networking.{shows_all_frames}
 use Rattle.system_core.proofs.Replying.{shows_all_replies}
 
@@ -78,14 +81,16 @@ module _ (s : Shown) (stands : StandsLawful s) (quiet : runnable_now s ≡ []) w
     abbrev place : NetPlace
     place = net_place plan trace
 
-    network : IsNetwork (hostile_in s.setting) s.setting.scene s.setting.rows needs place (moved_in s.setting s.journal)
+    network : IsNetwork (hostile_in s.setting) s.setting.scene s.setting.scene.frames [] s.setting.rows needs place (moved_in s.setting s.journal)
     network = network_there s.setting.scene s.setting.rows s.setting.cast (told_by s.setting.names) (moved_in s.setting s.journal) place (cast.whole net has) (pools_are plan trace net has valid) (net_rooms plan trace s.setting valid gives net has cast) rows_now
 
-    pub shows_whole_net : ShowsAllFrames place trace.frames s.state
+    pub shows_whole_net : ShowsAllFrames place trace.frames (net_dropped plan trace (calls_by stands.calls.past s.journal)) s.state
     shows_whole_net =
-        shows_all_frames plan net trace s cast has stands.told (none_there plan trace s.setting valid gives net has cast) gives
-        (arrives_all (hostile_in s.setting) s.setting.history s.setting.rows needs s.journal s.setting.scene place still_beside network)
-        (sends_all (hostile_in s.setting) s.setting.history s.setting.rows needs s.journal s.setting.scene place still_beside network)
+        shows_all_frames plan net trace s cast has stands.told (calls_by stands.calls.past s.journal) stands.calls.calls_are (none_there plan trace s.setting valid gives net has cast) gives
+        (arrives_all (hostile_in s.setting) s.setting.history s.setting.rows needs s.journal s.setting.scene s.setting.scene.frames [] place still_beside network)
+        (sends_all (hostile_in s.setting) s.setting.history s.setting.rows needs s.journal s.setting.scene s.setting.scene.frames [] place still_beside network)
+        (last_moment (λ j. NetDropsAsMany place (net_dropped plan trace (calls_by stands.calls.past j)) (moved_in s.setting j)) s.journal (net_drops_so plan trace s cast stands net has))
+        (net_few plan trace s cast stands net has)
 
   -- the block class of a plan
   module _ (plan : Plan) (valid : Valid plan) (gives : BlkGivesBack plan) (blk : Blk) (has : plan.blk ≡ Some blk) (trace : Trace) (cast : IsCastOf plan trace s.setting) where

@@ -13,13 +13,14 @@ use Rattle.wire_core.specs.Deeds.{Cargo}
 use Rattle.wire_core.specs.Lists.{Passed}
 use Rattle.wire_core.specs.Queues.{Queue, end_at}
 use Rattle.wire_core.specs.Journal.{History}
-use Rattle.class_expect.specs.NetExpect.Expecting.{Program, frames_for}
+use Rattle.class_expect.specs.NetExpect.Expecting.{Program}
 use Rattle.buffer_kit.specs.Entries.{frame_of}
+use Rattle.net_law.specs.Dropped.{left_for}
 use Rattle.net_law.specs.Owners.Names.{ClientPools}
 use Rattle.owner_law.specs.Pools.Places.{PoolAt, own_pool}
 use Rattle.net_law.specs.Parts.Numbers.{client_first, device_at, client_at}
 use Rattle.net_law.specs.TxParts.Numbers.{NetPlace}
-use Rattle.net_quiet.specs.TxCast.Casting.{NoneHostile, sends_at, sends_beside, wire_beside}
+use Rattle.net_quiet.specs.TxCast.Casting.{NoneHostile, net_kept, net_marks, sends_at, sends_beside, wire_beside}
 use Rattle.actor_set.specs.Parts.{Part, RoguePart, NetworkPart, BlockPart, HostilePart}
 use Rattle.actor_set.specs.Actors.{part_of}
 use Rattle.actor_set.specs.declared.actor.Actor.{Actor}
@@ -31,7 +32,7 @@ use Rattle.actor_set.specs.Laws.Records.{frames_got, frames_by, replies_got, rep
 use Rattle.actor_set.proofs.LawsLemmas.Rows.{frames_here, replies_here}
 use Rattle.client_programs.proofs.BlkLemmas.Asks.{replies_long}
 use Rattle.wired_law.specs.Wiring.{HasWhole, HasBlk, AreAtWork, IsOfNetwork}
-use Rattle.wired_law.proofs.Wiring.{recorded, sends_calm_here, sent_beside, told_beside}
+use Rattle.wired_law.proofs.Wiring.{kept_all, recorded, sends_calm_here, sent_beside, told_beside}
 use Rattle.wired_law.proofs.BlkReplies.Casts.{replied}
 use Rattle.play_core.specs.Moved.{taken}
 use Rattle.play_core.specs.Names.{Names, Noted, Wild, told_by, wild_in}
@@ -104,17 +105,22 @@ module _ (history : History) (rows : List QueueRow) (names : List Noted) (w : Li
       let d = ap length (h.shows_taken n) in
       omega (arith, a, b, c, d)
 
+  -- the device accepted all frames
+  kept_here : (net : NetPlace) → HasWhole rows net (map part_of actors) → net_kept net (scene_of (map part_of actors)).frames h.passed.calls ≡ (scene_of (map part_of actors)).frames
+  kept_here net whole = kept_all (scene_of (map part_of actors)) (end_at w) rows actors h.passed work net whole
+
   -- what the actors of these numbers recorded, one by one
   pub records_at : (net : NetPlace) → HasWhole rows net (map part_of actors) → (numbers : List ℕ) (c k j : ℕ) (program : Program) (mac : Mac) (pools : ClientPools) (got : List (List ℕ)) → slice_get numbers c ≡ Some k → slice_get (map part_of actors) k ≡ Some (NetworkPart (client_at net.first j program mac pools)) → 1 ≤ pools.rx.buffers
-      → slice_get net.macs j ≡ Some mac → slice_get (map (frames_from actors) numbers) c ≡ Some got → IsPrefix got (frames_for mac (scene_of (map part_of actors)).frames) × (length got ≡ length (taken history (client_first net.first j + 2) journal))
+      → slice_get net.macs j ≡ Some mac → slice_get (map (frames_from actors) numbers) c ≡ Some got → IsPrefix got (left_for (net_marks net h.passed.calls j) mac (scene_of (map part_of actors)).frames) × (length got ≡ length (taken history (client_first net.first j + 2) journal))
   records_at net whole numbers c k j program mac pools got number part some address at =
       let x = map_from part_of actors k (NetworkPart (client_at net.first j program mac pools)) part in
       let m = map_from (frames_from actors) numbers c got at in
       let same : m.0 ≡ k = some_is (sym m.1 ∙ number) in
       let is : frames_got x.0 ≡ got = sym (ap (λ o. option_map_or frames_got o []) x.1) ∙ (ap (frames_from actors) (sym same) ∙ m.2) in
       let begun = recorded (end_at w) rows actors h.passed net whole work k j x.0 program mac pools x.1 x.2 some (client_fits rows net (map part_of actors) (scene_of (map part_of actors)).frames whole j program mac pools (whole.only k (client_at net.first j program mac pools) part)) address in
+      let all = subst (λ fs. IsPrefix (frames_got x.0) (left_for (net_marks net h.passed.calls j) mac fs)) (kept_here net whole) begun in
       let long = shown_long x.0 (client_first net.first j + 2) (frames_here h.passed x.0 (h.stands k x.0 x.1) ∙ ap (frames_by h.passed) x.2) in
-      subst (λ g. IsPrefix g (frames_for mac (scene_of (map part_of actors)).frames) × (length g ≡ length (taken history (client_first net.first j + 2) journal))) is (begun, long)
+      subst (λ g. IsPrefix g (left_for (net_marks net h.passed.calls j) mac (scene_of (map part_of actors)).frames) × (length g ≡ length (taken history (client_first net.first j + 2) journal))) is (all, long)
 
   abbrev wild : Wild
   wild = wild_in (hostiles (map part_of actors)) rows
@@ -123,18 +129,20 @@ module _ (history : History) (rows : List QueueRow) (names : List Noted) (w : Li
   frames = (scene_of (map part_of actors)).frames
 
   -- what the device sent
-  pub wire_here : (net : NetPlace) → HasWhole rows net (map part_of actors) → (device : Option ℕ) (k : ℕ) → device ≡ Some k → slice_get (map part_of actors) k ≡ Some (NetworkPart (device_at net.first frames))
+  pub wire_here : (net : NetPlace) → HasWhole rows net (map part_of actors) → (device : Option ℕ) (k : ℕ) → device ≡ Some k → slice_get (map part_of actors) k ≡ Some (NetworkPart (device_at net.first frames net.device_drops))
       → (option_map (frames_from actors) device ≡ Some (wire_beside wild net frames h.passed)) × PrefixMerge (sends_beside wild net frames h.passed) (wire_beside wild net frames h.passed)
   wire_here net whole device k is part =
-      let x = map_from part_of actors k (NetworkPart (device_at net.first frames)) part in
+      let x = map_from part_of actors k (NetworkPart (device_at net.first frames net.device_drops)) part in
       let told : frames_got x.0 ≡ wire_beside wild net frames h.passed = told_beside (end_at w) rows actors h.passed net whole work h.sends k x.0 x.1 x.2 in (
         ap (option_map (frames_from actors)) is ∙ ap Some (ap (λ o. option_map_or frames_got o []) x.1 ∙ told),
         subst (PrefixMerge (sends_beside wild net frames h.passed)) told (sent_beside (end_at w) rows actors h.passed net whole work h.sends k x.0 x.1 x.2),
       )
 
   -- where no client of the network is hostile, each sends by its program
-  pub sends_plain : (net : NetPlace) → HasWhole rows net (map part_of actors) → NoneHostile wild net → sends_beside wild net frames h.passed ≡ sends_at net.programs net.macs frames
-  sends_plain net whole none = sends_calm_here (scene_of (map part_of actors)) (end_at w) rows actors h.passed work net whole none
+  pub sends_plain : (net : NetPlace) → HasWhole rows net (map part_of actors) → NoneHostile wild net → sends_beside wild net frames h.passed ≡ sends_at (net_marks net h.passed.calls) 0 net.programs net.macs frames
+  sends_plain net whole none =
+      sends_calm_here (scene_of (map part_of actors)) (end_at w) rows actors h.passed work net whole none
+      ∙ ap (sends_at (net_marks net h.passed.calls) 0 net.programs net.macs) (kept_here net whole)
 
   -- a hostile actor recorded nothing
   pub net_silent : (numbers : List ℕ) (c k : ℕ) (p : RoguePart) (got : List (List ℕ)) → slice_get numbers c ≡ Some k → slice_get (map part_of actors) k ≡ Some (HostilePart p) → slice_get (map (frames_from actors) numbers) c ≡ Some got → got ≡ []

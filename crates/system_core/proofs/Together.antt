@@ -23,6 +23,8 @@ use Rattle.system_core.proofs.Adopting.{apart_disarmed}
 use Rattle.cast_core.specs.Hostile.{HasNoRogue}
 use Rattle.system_core.specs.Builds.{IsBuilt, IsCastOf, BeginsAnew}
 use Rattle.system_core.specs.PlanPlays.{IsSystemOf, IsOfItsPlan, StaysOfItsPlan, IsPlayed, IsPlayedOn, HasEnded}
+use Rattle.system_core.specs.Dropped.{calls_by}
+use Rattle.system_core.proofs.Leasing.{net_anew, net_drops_so}
 use Rattle.system_core.proofs.Networking.{sends_are, shows_frames, wild_is}
 use Rattle.system_core.proofs.Quieting.{none_there, shows_whole_net, shows_whole_blk}
 use Rattle.system_core.proofs.Bounded.{bounded}
@@ -50,9 +52,11 @@ module _ (plan : Plan) (trace : Trace) (valid : Valid plan) (read : IsReadFor pl
     anew = λ begins serial has. serial_anew plan trace read s cast_is stands serial has begins;
     shows = λ serial has. serial_shows plan trace read s cast_is stands serial has beside;
     scripts = λ gives serial has. serial_scripts plan trace read s cast_is stands serial has gives;
-    shows_net = λ net has. shows_frames plan net trace s cast_is has stands.told;
-    plain = λ gives net has. sends_are plan net trace s cast_is has stands.told (none_there plan trace s.setting valid gives net has cast_is);
-    wild_net = λ net has. wild_is plan net trace s cast_is has stands.told;
+    drops_net = λ net has. net_drops_so plan trace s cast_is stands net has;
+    anew_net = λ begins net has. net_anew plan trace s cast_is stands net has begins;
+    shows_net = λ net has. shows_frames plan net trace s cast_is has stands.told (calls_by stands.calls.past s.journal) stands.calls.calls_are;
+    plain = λ gives net has. sends_are plan net trace s cast_is has stands.told (calls_by stands.calls.past s.journal) stands.calls.calls_are (none_there plan trace s.setting valid gives net has cast_is);
+    wild_net = λ net has. wild_is plan net trace s cast_is has stands.told (calls_by stands.calls.past s.journal) stands.calls.calls_are;
     shows_blk = λ blk has. shows_replies plan blk trace s cast_is has stands.told;
     whole = λ quiet calm serial has. serial_whole plan trace read s cast_is stands serial has beside whole quiet calm;
     whole_net = λ quiet gives net has. shows_whole_net s stands quiet plan valid gives net has trace cast_is;

@@ -6,20 +6,28 @@ use Rattle.cargo_core.specs.declared.item.Reply.{Reply}
 use Rattle.wire_core.specs.Fates.{without}
 use Rattle.sdf_plan.specs.declared.plan.Plan.{Plan}
 use Rattle.trace_text.specs.declared.trace.Trace.{Trace}
-use Rattle.trace_text.specs.Events.{net_clients, serial_clients, blk_clients}
-use Rattle.class_expect.specs.NetExpect.Expecting.{frames_for}
+use Rattle.trace_text.specs.Events.{net_clients, serial_clients, blk_clients, is_net_rogue}
+use Rattle.class_expect.specs.NetExpect.Expecting.{Echo, answers_for, frames_for}
 use Rattle.class_expect.specs.SerialSwitch.Switching.{input_of}
 use Rattle.serial_virt.specs.Shares.{policy_at}
+use Rattle.net_law.specs.Parts.Numbers.{policy_at as net_policy_at}
 use Rattle.expect_core.specs.Expected.{client_asks, client_entry, replies_in}
 use Rattle.expect_core.specs.Isolation.{AgreeOnFrames, AgreeOnInput, AgreeOnPartition}
-use Rattle.cast_core.specs.Sources.{client_mac, serial_drops}
+use Rattle.net_quiet.specs.TxCast.Casting.{sends_beside}
+use Rattle.cast_core.specs.Casts.{net_place}
+use Rattle.cast_core.specs.Sources.{client_mac, client_program, net_drops, serial_drops}
 use Rattle.system_core.specs.GivesBack.{BlkGivesBack, NetGivesBack, SerialGivesBack}
-use Rattle.system_core.specs.Shows.{Shown}
+use Rattle.system_core.specs.PlanPlays.{IsSystemOf}
+use Rattle.system_core.specs.Shows.{Shown, wild_by}
 use Rattle.system_core.specs.Reports.{report_of}
 
 -- what network client c must get: the frames for its address
 abbrev pub net_expected : Plan → Trace → (c : ℕ) → List (List ℕ)
 net_expected plan trace c = frames_for (client_mac plan c) trace.frames
+
+-- what network client c sends where it is an echo and gets all that: an answer to each
+abbrev pub echo_expected : Plan → Trace → (c : ℕ) → List (List ℕ)
+echo_expected plan trace c = answers_for (client_mac plan c) trace.frames
 
 -- what serial client c must get: its part of the input
 abbrev pub serial_expected : Plan → Trace → (c : ℕ) → List ℕ
@@ -55,6 +63,17 @@ pub record AgreeOnBlk (plan : Plan) (trace : Trace) (c : ℕ) (other : Plan) (to
   pub partition : AgreeOnPartition trace.image (client_entry plan c) told.image
       (client_entry other d)
 
+-- network client c is an echo, and not hostile
+pub record IsEchoAt (plan : Plan) (trace : Trace) (c : ℕ) : Type 0 where
+  pub echo : client_program plan trace c ≡ Echo
+  pub calm : is_net_rogue plan c ≡ false
+
+-- what each network client sends in a system, of whose beginnings its wire is a merge
+abbrev pub net_sends : (plan : Plan) (trace : Trace) (s : Shown) → IsSystemOf plan trace s
+    → List (List (List ℕ))
+net_sends plan trace s h =
+    sends_beside (wild_by s.setting) (net_place plan trace) trace.frames h.stands.told.passed
+
 -- a system is quiet, and the network's clients give back what they get
 abbrev pub NetRests : Plan → Shown → Type 0
 NetRests plan s = ((report_of s).quiet ≡ true) × NetGivesBack plan
@@ -77,6 +96,10 @@ pub record AreOfOneList {T : Type 0} (whole : List T) (Rests : Type 0) (got : Li
     (Ends : Type 0) (seen : List T) : Type 0 where
   pub one : IsRecordIn whole Rests got
   pub other : IsRecordIn whole Ends seen
+
+-- whether frames for network client c may be dropped
+abbrev pub net_may_drop : Plan → (c : ℕ) → Bool
+net_may_drop plan c = net_policy_at (net_drops plan) c
 
 -- whether bytes for serial client c may be dropped
 abbrev pub may_drop : Plan → (c : ℕ) → Bool

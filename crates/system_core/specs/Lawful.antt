@@ -15,13 +15,15 @@ use Rattle.cargo_core.specs.declared.item.Reply.{Reply}
 use Rattle.class_expect.specs.BlkExpect.Replies.{replies_of}
 use Rattle.blk_law.specs.Sheets.Numbers.{BlkPlace, blk_client_at}
 use Rattle.frame_core.specs.declared.mac.Mac.{Mac}
-use Rattle.class_expect.specs.NetExpect.Expecting.{Program, frames_for}
+use Rattle.class_expect.specs.NetExpect.Expecting.{Program}
 use Rattle.buffer_kit.specs.Conserving.{Count, counted, the_page, of_other_length}
+use Rattle.net_law.specs.Dropped.{left_for}
 use Rattle.net_law.specs.Owners.Names.{ClientPools}
 use Rattle.owner_law.specs.Pools.Places.{PoolAt}
 use Rattle.net_law.specs.Parts.Numbers.{client_first, device_at, client_at}
 use Rattle.net_law.specs.TxParts.Numbers.{NetPlace}
-use Rattle.net_quiet.specs.TxCast.Casting.{NoneHostile, sends_at, sends_beside, wire_beside}
+use Rattle.net_quiet.specs.TxCast.Casting.{NoneHostile, net_marks, sends_at, sends_beside}
+use Rattle.net_quiet.specs.TxCast.Casting.{wire_beside}
 use Rattle.play_core.specs.Moved.{Seat}
 use Rattle.play_core.specs.Rests.Showing.{HaveItems}
 use Rattle.play_core.specs.Sheets.{AreSeated, IsSeat}
@@ -97,8 +99,9 @@ abbrev pub record_at : Shown → ℕ → List ℕ
 record_at s k = option_map_or (record_by (moved_in s.setting s.journal))
     (slice_get s.setting.cast k) []
 
--- what the clients at a place of the network send: each by its program, but a hostile one the
--- frames of the good descriptors that were taken of it
+-- what the clients at a place of the network send: each by its program, where it gets the frames
+-- for its address without those that were dropped as the calls tell, but a hostile one the frames
+-- of the good descriptors that were taken of it
 abbrev pub sends_in : Shown → NetPlace → Passed → List (List (List ℕ))
 sends_in s net passed = sends_beside (wild_by s.setting) net s.setting.scene.frames passed
 
@@ -108,24 +111,25 @@ abbrev pub wire_of : Shown → NetPlace → Passed → List (List ℕ)
 wire_of s net passed = wire_beside (wild_by s.setting) net s.setting.scene.frames passed
 
 -- at a place of the network the record of a client that has buffers is a beginning of the frames
--- for its address, a frame for each entry that it took; and what was sent on the device's wire is
--- what the entries tell, a merge of beginnings of what the clients send, all by their programs
--- where none of them is hostile
+-- for its address without those that its copier dropped, as the calls tell, a frame for each entry
+-- that it took; and what was sent on the device's wire is what the entries tell, a merge of
+-- beginnings of what the clients send, all by their programs where none of them is hostile
 pub record TellsFrames (s : Shown) (passed : Passed) (net : NetPlace) : Type 0 where
   pub records : (c k j : ℕ) (program : Program) (mac : Mac) (pools : ClientPools)
       (got : List (List ℕ)) → slice_get s.setting.net.clients c ≡ Some k
       → slice_get s.setting.cast k
       ≡ Some (NetworkPart (client_at net.first j program mac pools))
       → 1 ≤ pools.rx.buffers → slice_get net.macs j ≡ Some mac → slice_get s.state.net c ≡ Some got
-      → IsPrefix got (frames_for mac s.setting.scene.frames)
+      → IsPrefix got (left_for (net_marks net passed.calls j) mac s.setting.scene.frames)
       × (length got
       ≡ length ((moved_in s.setting s.journal).taken (client_first net.first j + 2)))
   pub wire : (k : ℕ) → s.setting.net.device ≡ Some k → slice_get s.setting.cast k
-      ≡ Some (NetworkPart (device_at net.first s.setting.scene.frames))
+      ≡ Some (NetworkPart (device_at net.first s.setting.scene.frames net.device_drops))
       → (s.state.wire ≡ Some (wire_of s net passed))
       × PrefixMerge (sends_in s net passed) (wire_of s net passed)
   pub plain : NoneHostile (wild_by s.setting) net
-      → sends_in s net passed ≡ sends_at net.programs net.macs s.setting.scene.frames
+      → sends_in s net passed ≡ sends_at (net_marks net passed.calls) 0 net.programs net.macs
+      s.setting.scene.frames
 
 -- at a place of the block class a client's record is a beginning of what it must get, a reply for
 -- each response that it took, where these are no more than its requests
@@ -214,5 +218,6 @@ pub record StandsLawful (s : Shown) : Type 0 where
   pub fitted : IsFitted s.setting
   pub lawful : IsLawful s.setting s.journal
   pub told : IsTold s
-  -- and of the bytes for serial clients those were dropped that its calls tell
+  -- and of the bytes for serial clients, and the frames for network clients, those were dropped
+  -- that its calls tell
   pub calls : HaveTold s.setting.history s.setting.cast s.journal told.passed.calls

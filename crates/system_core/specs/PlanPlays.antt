@@ -3,6 +3,7 @@
 use Rattle.std.specs.Prelude.{◌≡◌, ◌+◌, ◌<◌, ◌≤◌, ℕ, Bool, true, Some, List, [], length, slice_get}
 use Rattle.cargo_core.specs.Lists.{IsPrefix, Merge, PrefixMerge}
 use Rattle.wire_core.specs.declared.names.Entry.{Entry}
+use Rattle.wire_core.specs.declared.names.Event.{Event}
 use Rattle.wire_core.specs.Ends.{Role}
 use Rattle.wire_core.specs.Fates.{marked, noes_at, without}
 use Rattle.wire_core.specs.Picks.{PickedFrom}
@@ -11,9 +12,10 @@ use Rattle.wire_core.specs.Lists.{Passed}
 use Rattle.class_expect.specs.SerialSwitch.Switching.{input_of}
 use Rattle.frame_core.specs.declared.mac.Mac.{Mac}
 use Rattle.class_expect.specs.NetExpect.Expecting.{frames_for}
+use Rattle.net_law.specs.Dropped.{Marks as NetMarks, left_for}
 use Rattle.net_law.specs.Parts.Numbers.{client_first}
 use Rattle.net_law.specs.TxParts.Numbers.{NetPlace}
-use Rattle.net_quiet.specs.TxCast.Casting.{sends_at, sends_beside, wire_beside}
+use Rattle.net_quiet.specs.TxCast.Casting.{net_marks, sends_at, sends_beside, wire_beside}
 use Rattle.cast_core.specs.Casts.{net_place, blk_place}
 use Rattle.cast_core.specs.Hostile.{HasNoRogue}
 use Rattle.play_core.specs.Looks.{events_of}
@@ -40,7 +42,7 @@ use Rattle.system_core.specs.Shows.{State, Shown, runs, moved_in, wild_by}
 use Rattle.system_core.specs.Plays.{runnable_now}
 use Rattle.system_core.specs.Lawful.{StandsLawful}
 use Rattle.system_core.specs.Builds.{IsCastOf, BeginsAnew, class_of}
-use Rattle.system_core.specs.Dropped.{DropsAsMany, calls_by, dropped_by}
+use Rattle.system_core.specs.Dropped.{DropsAsMany, NetDropsAsMany, calls_by, dropped_by}
 use Rattle.system_core.specs.GivesBack.{SerialGivesBack, BlkGivesBack, NetGivesBack}
 use Rattle.system_core.specs.Pools.{TellsOwners}
 use Rattle.system_core.specs.declared.system.Ending.{Ending}
@@ -75,28 +77,39 @@ pub record ShowsWhole (count : ℕ) (trace : Trace) (marks : Marks) (s : State) 
       → length got + marked (marks c) ≡ length (input_of count c trace.input)
   pub line : (said : List ℕ) × (s.line ≡ Some said) × Merge trace.says said
 
--- each network client recorded a beginning of the frames for its address, and a hostile one
--- nothing; and what was sent on the wire is what the entries tell that the device took, a merge of
--- beginnings of what the clients send: each by its program, but one at whose queue a hostile actor
+-- each network client recorded a beginning of the frames for its address without what is marked
+-- of them as dropped, and a hostile one nothing; and what was sent on the wire is what the entries
+-- tell that the device took, a merge of beginnings of what the clients send: each by its program,
+-- an echo the answers to the frames that weren't dropped, but one at whose queue a hostile actor
 -- has an end the frames of the good descriptors that were taken of it
 pub record ShowsFrames (rogue : ℕ → Bool) (wild : Wild) (net : NetPlace) (frames : List (List ℕ))
-    (passed : Passed) (s : State) : Type 0 where
+    (marks : NetMarks) (passed : Passed) (s : State) : Type 0 where
   pub count_is : length s.net ≡ length net.macs
   pub records : (c : ℕ) (mac : Mac) (got : List (List ℕ)) → slice_get net.macs c ≡ Some mac
-      → slice_get s.net c ≡ Some got → IsPrefix got (frames_for mac frames)
+      → slice_get s.net c ≡ Some got → IsPrefix got (left_for (marks c) mac frames)
   pub hostile : (c : ℕ) (got : List (List ℕ)) → rogue c ≡ true → slice_get s.net c ≡ Some got
       → got ≡ []
   pub wire : s.wire ≡ Some (wire_beside wild net frames passed)
   pub merges : PrefixMerge (sends_beside wild net frames passed)
       (wire_beside wild net frames passed)
 
--- each network client recorded all frames for its address, and what was sent on the wire is a merge
--- of all that the clients send
-pub record ShowsAllFrames (net : NetPlace) (frames : List (List ℕ)) (s : State) : Type 0 where
+-- each network client recorded all frames for its address without what is marked of them as
+-- dropped, and what was sent on the wire is a merge of all that the clients send, an echo the
+-- answers to those
+pub record ShowsAllFrames (net : NetPlace) (frames : List (List ℕ)) (marks : NetMarks)
+    (s : State) : Type 0 where
   pub records : (c : ℕ) (mac : Mac) (got : List (List ℕ)) → slice_get net.macs c ≡ Some mac
-      → slice_get s.net c ≡ Some got → got ≡ frames_for mac frames
+      → slice_get s.net c ≡ Some got → got ≡ left_for (marks c) mac frames
+  -- so it lacks as many of the frames for its address as are marked
+  pub lacks : (c : ℕ) (mac : Mac) (got : List (List ℕ)) → slice_get net.macs c ≡ Some mac
+      → slice_get s.net c ≡ Some got
+      → length got + marked (marks c) ≡ length (frames_for mac frames)
   pub wire : (sent : List (List ℕ)) × (s.wire ≡ Some sent) × Merge
-      (sends_at net.programs net.macs frames) sent
+      (sends_at marks 0 net.programs net.macs frames) sent
+
+-- of the frames for each network client of a plan, whether it was dropped, as these calls tell
+abbrev pub net_dropped : Plan → Trace → List Event → NetMarks
+net_dropped plan trace calls = net_marks (net_place plan trace) calls
 
 -- each block client recorded a beginning of what it must get, and a hostile one nothing
 pub record ShowsReplies (rogue : ℕ → Bool) (blk : BlkPlace) (s : State) : Type 0 where
@@ -147,16 +160,29 @@ pub record IsSystemOf (plan : Plan) (trace : Trace) (s : Shown) : Type 0 where
   -- where no serial client is hostile, all say their scripts
   pub scripts : SerialGivesBack plan → (serial : Serial) → plan.serial ≡ Some serial
       → serial_says plan trace serial (moved_in s.setting s.journal) ≡ trace.says
+  -- of the frames for each network client as many were dropped at each moment as its copier's looks
+  -- for a buffer were in vain, if it may drop, and none else
+  pub drops_net : (net : Net) → plan.net ≡ Some net → EachMoment (λ j.
+      NetDropsAsMany (net_place plan trace)
+      (net_dropped plan trace (calls_by stands.calls.past j))
+      (moved_in s.setting j)) s.journal
+  pub anew_net : BeginsAnew s.setting → (net : Net) → plan.net ≡ Some net
+      → (j : List Entry) (c : ℕ) → c < length net.client
+      → net_dropped plan trace (calls_by stands.calls.past j) c
+      ≡ net_dropped plan trace (events_of j) c
   pub shows_net : (net : Net) → plan.net ≡ Some net
       → ShowsFrames (is_net_rogue plan) (wild_by s.setting) (net_place plan trace) trace.frames
+      (net_dropped plan trace (calls_by stands.calls.past s.journal))
       stands.told.passed s.state
   -- of its clients' queues for sending those have a hostile end whose client is hostile
   pub wild_net : (net : Net) → plan.net ≡ Some net → (c : ℕ) → c < length net.client
       → wild_by s.setting (client_first 0 c + 4) ≡ is_net_rogue plan c
-  -- where no client of the network is hostile, all send by their programs
+  -- where no client of the network is hostile, all send by their programs, an echo the answers to
+  -- the frames for it that weren't dropped
   pub plain : NetGivesBack plan → (net : Net) → plan.net ≡ Some net
       → sends_beside (wild_by s.setting) (net_place plan trace) trace.frames stands.told.passed
-      ≡ sends_at (net_place plan trace).programs (net_place plan trace).macs trace.frames
+      ≡ sends_at (net_dropped plan trace (calls_by stands.calls.past s.journal)) 0
+      (net_place plan trace).programs (net_place plan trace).macs trace.frames
   pub shows_blk : (blk : Blk) → plan.blk ≡ Some blk
       → ShowsReplies (is_blk_rogue plan) (blk_place plan trace) s.state
   -- where nobody is runnable, all bytes of the serial class arrived but those that were dropped, if
@@ -164,9 +190,11 @@ pub record IsSystemOf (plan : Plan) (trace : Trace) (s : Shown) : Type 0 where
   pub whole : runnable_now s ≡ [] → SerialGivesBack plan → (serial : Serial)
       → plan.serial ≡ Some serial → ShowsWhole (length serial.client) trace
       (dropped_by (class_of plan trace serial) (calls_by stands.calls.past s.journal)) s.state
-  -- and all frames of the network, where none of its clients is hostile, whoever else is
+  -- and all frames of the network but those that were dropped, where none of its clients is
+  -- hostile, whoever else is
   pub whole_net : runnable_now s ≡ [] → NetGivesBack plan → (net : Net) → plan.net ≡ Some net
-      → ShowsAllFrames (net_place plan trace) trace.frames s.state
+      → ShowsAllFrames (net_place plan trace) trace.frames
+      (net_dropped plan trace (calls_by stands.calls.past s.journal)) s.state
   -- and all replies of the block class, where none of its clients is
   pub whole_blk : runnable_now s ≡ [] → BlkGivesBack plan → (blk : Blk) → plan.blk ≡ Some blk
       → ShowsAllReplies (blk_place plan trace) s.state

@@ -1,5 +1,5 @@
 //! A plan in which a domain has another name, wherever the plan names it: made by hand, so that the
-//! name may be one that no text spells.
+//! name may be one that no text spells. After want of memory the plan isn't whole.
 
 use cargo_core::{Memory, Series, Text};
 use sdf_plan::{Channel, Domain, Plan, Serial};
@@ -16,66 +16,77 @@ fn rename_text(alloc: Global, name: &mut Text, old: &str, new: &str) -> Result<(
 
 fn rename_domains(
     alloc: Global,
-    domains: Series<Domain>,
+    domains: &mut Vec<Domain>,
     old: &str,
     new: &str,
-) -> Result<Series<Domain>, Memory> {
-    let mut domains = domains.into_vec();
-    for domain in &mut domains {
+) -> Result<(), Memory> {
+    for domain in domains {
         rename_text(alloc, &mut domain.name, old, new)?;
     }
-    Ok(Series::from_vec(domains))
+    Ok(())
 }
 
 fn rename_channel(
     alloc: Global,
-    channel: Channel,
+    channel: &mut Channel,
     old: &str,
     new: &str,
-) -> Result<Channel, Memory> {
-    let mut ends = channel.end.into_vec();
+) -> Result<(), Memory> {
+    let mut ends = replace(&mut channel.end, Series::new(alloc)).into_vec();
+    let mut done = Ok(());
     for end in &mut ends {
-        rename_text(alloc, &mut end.pd, old, new)?;
+        if done.is_ok() {
+            done = rename_text(alloc, &mut end.pd, old, new);
+        }
     }
-    Ok(Channel {
-        end: Series::from_vec(ends),
-    })
+    channel.end = Series::from_vec(ends);
+    done
 }
 
 fn rename_channels(
     alloc: Global,
-    channels: Series<Channel>,
+    channels: &mut Vec<Channel>,
     old: &str,
     new: &str,
-) -> Result<Series<Channel>, Memory> {
-    let mut channels_now = Series::new(alloc);
-    for channel in channels.into_vec() {
-        channels_now.push(rename_channel(alloc, channel, old, new)?)?;
+) -> Result<(), Memory> {
+    for channel in channels {
+        rename_channel(alloc, channel, old, new)?;
     }
-    Ok(channels_now)
+    Ok(())
+}
+
+fn rename_clients(alloc: Global, serial: &mut Serial, old: &str, new: &str) -> Result<(), Memory> {
+    let mut clients = replace(&mut serial.client, Series::new(alloc)).into_vec();
+    let mut done = Ok(());
+    for client in &mut clients {
+        if done.is_ok() {
+            done = rename_text(alloc, &mut client.pd, old, new);
+        }
+    }
+    serial.client = Series::from_vec(clients);
+    done
 }
 
 fn rename_serial(alloc: Global, serial: &mut Serial, old: &str, new: &str) -> Result<(), Memory> {
     rename_text(alloc, &mut serial.driver, old, new)?;
     rename_text(alloc, &mut serial.rx_virt, old, new)?;
     rename_text(alloc, &mut serial.tx_virt, old, new)?;
-    let mut clients = replace(&mut serial.client, Series::new(alloc)).into_vec();
-    for client in &mut clients {
-        rename_text(alloc, &mut client.pd, old, new)?;
-    }
-    serial.client = Series::from_vec(clients);
-    Ok(())
+    rename_clients(alloc, serial, old, new)
 }
 
 /// Gives a domain another name: in the domains, the channels and the serial class. The other
-/// classes keep their names. After want of memory the plan isn't whole.
+/// classes keep their names.
 pub fn rename_domain(alloc: Global, plan: &mut Plan, old: &str, new: &str) -> Result<(), Memory> {
-    let domains = replace(&mut plan.protection_domain, Series::new(alloc));
-    plan.protection_domain = rename_domains(alloc, domains, old, new)?;
-    let channels = replace(&mut plan.channel, Series::new(alloc));
-    plan.channel = rename_channels(alloc, channels, old, new)?;
-    if let Some(serial) = &mut plan.serial {
-        rename_serial(alloc, serial, old, new)?;
+    let mut domains = replace(&mut plan.protection_domain, Series::new(alloc)).into_vec();
+    let named = rename_domains(alloc, &mut domains, old, new);
+    plan.protection_domain = Series::from_vec(domains);
+    let mut channels = replace(&mut plan.channel, Series::new(alloc)).into_vec();
+    let ended = rename_channels(alloc, &mut channels, old, new);
+    plan.channel = Series::from_vec(channels);
+    named?;
+    ended?;
+    match &mut plan.serial {
+        Some(serial) => rename_serial(alloc, serial, old, new),
+        None => Ok(()),
     }
-    Ok(())
 }

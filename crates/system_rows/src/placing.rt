@@ -1,22 +1,47 @@
 //! Where buffers may be beside hostile clients, by the pools of a report and by a journal.
 
-use crate::block_clients;
-use cargo_core::{Code, Item, Memory};
+use crate::blocks::block_clients;
+use cargo_core::{Code, Item};
 use expect_core::Report;
 use region_layout::Layout;
 use sdf_plan::Plan;
-use std::alloc::Global;
 use trace_text::{is_blk_rogue, is_net_rogue};
 use wire_core::{Entry, Op, PoolRow, QueueId};
 
-/// What goes to the driver of a class: the queue to it, how many clients the class has, and how many
-/// entries may be none of a client.
+/// What goes to the driver of a class: the queue to it, how many clients the class has, the last
+/// words of the names of a client's pool and of the queue to which it puts, and how many entries may
+/// be none of a client.
 #[derive(Clone, Copy)]
 struct Driver<'a> {
     class: &'a str,
     queue: &'a str,
     clients: usize,
+    pool: &'a str,
+    puts: &'a str,
     beside: u64,
+}
+
+// Whether a name is that of something of a client, as `net.0.tx`.
+fn is_of(name: &str, class: &str, client: usize, last: &str) -> bool {
+    match name.split_once(".") {
+        Some((first, rest)) if first == class => {
+            let (number, rest) = rest.split_once(".").unwrap_or((rest, ""));
+            number.parse::<usize>().ok() == Some(client) && rest == last
+        }
+        _ => false,
+    }
+}
+
+// The number of the queue of a client, or of a driver.
+fn queue_of(layout: &Layout, class: &str, client: usize, last: &str) -> Option<QueueId> {
+    let mut number = 0u16;
+    for row in layout.queues() {
+        if is_of(row.name.as_str(), class, client, last) {
+            return Some(QueueId(number));
+        }
+        number = number.saturating_add(1);
+    }
+    None
 }
 
 // The number of the queue of a name.
@@ -31,10 +56,15 @@ fn queue_named(layout: &Layout, name: &str) -> Option<QueueId> {
     None
 }
 
-// The row of the pool of a name.
-fn pool_named<'a>(layout: &'a Layout, name: &str) -> Option<&'a PoolRow> {
+/// The row of a pool of a client.
+pub fn pool_of<'a>(
+    layout: &'a Layout,
+    class: &str,
+    client: usize,
+    last: &str,
+) -> Option<&'a PoolRow> {
     for row in layout.pools() {
-        if row.name.as_str() == name {
+        if is_of(row.name.as_str(), class, client, last) {
             return Some(row);
         }
     }
@@ -69,32 +99,13 @@ fn begins_buffer(address: u64, pool: &PoolRow) -> bool {
     }
 }
 
-// The address that an item names.
-fn address_of(item: &Option<Item>) -> Option<u64> {
-    match item {
-        Some(Item::Net(desc)) => Some(desc.addr),
-        Some(Item::Req(request)) => Some(request.addr),
-        _ => None,
-    }
-}
-
 // Whether a put names a buffer of a pool.
 fn names(entry: &Entry, pool: &PoolRow) -> bool {
-    match address_of(&entry.event.item) {
-        Some(address) => begins_buffer(address, pool),
-        None => false,
+    match &entry.event.item {
+        Some(Item::Net(desc)) => begins_buffer(desc.addr, pool),
+        Some(Item::Req(request)) => begins_buffer(request.addr, pool),
+        _ => false,
     }
-}
-
-// How many puts to a queue name a buffer of a pool.
-fn count_named(journal: &[Entry], queue: QueueId, pool: &PoolRow) -> u64 {
-    let mut count = 0u64;
-    for entry in journal {
-        if puts(entry, queue) && names(entry, pool) {
-            count = count.saturating_add(1);
-        }
-    }
-    count
 }
 
 // How many network clients a plan has.
@@ -108,8 +119,7 @@ fn network_clients(plan: &Plan) -> usize {
 /// Whether each pool's line counts all its buffers once, and lent ones of the receiving pool alone.
 pub fn do_add_up(report: &Report) -> bool {
     let mut right = true;
-    for k in 0..report.pools.len() {
-        let pool = report.pools.get(k);
+    for pool in report.pools.as_slice() {
         let all = u64::from(pool.queues)
             .saturating_add(u64::from(pool.hands))
             .saturating_add(u64::from(pool.lent));
@@ -120,10 +130,9 @@ pub fn do_add_up(report: &Report) -> bool {
 }
 
 // How many buffers of a pool are in hands; none where there is no such pool.
-fn hands_of(report: &Report, name: &str) -> Option<u64> {
-    for k in 0..report.pools.len() {
-        let pool = report.pools.get(k);
-        if pool.name.as_str() == name {
+fn hands_of(report: &Report, class: &str, client: usize, last: &str) -> Option<u64> {
+    for pool in report.pools.as_slice() {
+        if is_of(pool.name.as_str(), class, client, last) {
             return Some(u64::from(pool.hands));
         }
     }
@@ -132,63 +141,50 @@ fn hands_of(report: &Report, name: &str) -> Option<u64> {
 
 // Whether the buffers in which a network client sends are all in queues and in its own hand, where
 // it has those that it took and didn't put.
-fn has_its_own(
-    alloc: Global,
-    layout: &Layout,
-    report: &Report,
-    journal: &[Entry],
-    client: usize,
-) -> Result<bool, Memory> {
-    let pool = format!(in alloc; "net.{client}.tx")?;
-    let sends = format!(in alloc; "net.{client}.tx.active")?;
-    let gets = format!(in alloc; "net.{client}.tx.free")?;
-    let (Some(row), Some(hands), Some(sends), Some(gets)) = (
-        pool_named(layout, pool.as_str()),
-        hands_of(report, pool.as_str()),
-        queue_named(layout, sends.as_str()),
-        queue_named(layout, gets.as_str()),
+fn has_its_own(layout: &Layout, report: &Report, journal: &[Entry], client: usize) -> bool {
+    let (Some(row), Some(hands)) = (
+        pool_of(layout, "net", client, "tx"),
+        hands_of(report, "net", client, "tx"),
     ) else {
-        return Ok(false);
+        return false;
+    };
+    let (Some(sends), Some(gets)) = (
+        queue_of(layout, "net", client, "tx.active"),
+        queue_of(layout, "net", client, "tx.free"),
+    ) else {
+        return false;
     };
     let own = u64::from(row.buffers)
         .saturating_add(count(journal, gets, Op::Take))
         .saturating_sub(count(journal, sends, Op::Put));
-    Ok(hands == own)
+    hands == own
+}
+
+// Whether all buffers of a block client are with it.
+fn keeps_all(layout: &Layout, report: &Report, client: usize) -> bool {
+    match (
+        pool_of(layout, "blk", client, ""),
+        hands_of(report, "blk", client, ""),
+    ) {
+        (Some(row), Some(hands)) => hands == u64::from(row.buffers),
+        (None, None) => true,
+        _ => false,
+    }
 }
 
 /// Whether in a quiet play all buffers of the clients that aren't hostile are in queues or with
 /// their client: nobody else keeps one.
-pub fn are_at_home(
-    alloc: Global,
-    plan: &Plan,
-    layout: &Layout,
-    report: &Report,
-    journal: &[Entry],
-) -> Result<bool, Memory> {
+pub fn are_at_home(plan: &Plan, layout: &Layout, report: &Report, journal: &[Entry]) -> bool {
     let mut right = true;
     for client in 0..network_clients(plan) {
         if !is_net_rogue(plan, client as u64) {
-            let receives = format!(in alloc; "net.{client}.rx")?;
-            right = hands_of(report, receives.as_str()) == Some(0) && right;
-            right = has_its_own(alloc, layout, report, journal, client)? && right;
+            right = hands_of(report, "net", client, "rx") == Some(0) && right;
+            right = has_its_own(layout, report, journal, client) && right;
         }
     }
     for client in 0..block_clients(plan) {
         if !is_blk_rogue(plan, client as u64) {
-            let name = format!(in alloc; "blk.{client}")?;
-            let all = pool_named(layout, name.as_str()).map(|row| u64::from(row.buffers));
-            right = hands_of(report, name.as_str()) == all && right;
-        }
-    }
-    Ok(right)
-}
-
-// Whether the requests to a queue that name a buffer of a pool stay in the partition of a client.
-fn stay_within(journal: &[Entry], queue: QueueId, pool: &PoolRow, client: usize) -> bool {
-    let mut right = true;
-    for entry in journal {
-        if puts(entry, queue) && names(entry, pool) {
-            right = stays_within(&entry.event.item, client) && right;
+            right = keeps_all(layout, report, client) && right;
         }
     }
     right
@@ -209,82 +205,82 @@ fn stays_within(item: &Option<Item>, client: usize) -> bool {
     }
 }
 
+// How many puts to the driver name a buffer of a pool of a client; none where requests leave the
+// client's partition.
+fn count_right(
+    journal: &[Entry],
+    to_driver: QueueId,
+    pool: &PoolRow,
+    class: &str,
+    client: usize,
+) -> Option<u64> {
+    let mut count = 0u64;
+    for entry in journal {
+        if puts(entry, to_driver) && names(entry, pool) {
+            if class == "blk" && !stays_within(&entry.event.item, client) {
+                return None;
+            }
+            count = count.saturating_add(1);
+        }
+    }
+    Some(count)
+}
+
 // How many entries to the driver name a buffer of a client; none where it put fewer, where its
 // requests leave its partition, or where there is no such client.
-fn count_right(
-    alloc: Global,
+fn count_of(
     layout: &Layout,
     journal: &[Entry],
     to_driver: QueueId,
-    class: &str,
+    driver: Driver<'_>,
     client: usize,
-) -> Result<Option<u64>, Memory> {
-    let (pool, puts) = if class == "net" {
-        (
-            format!(in alloc; "net.{client}.tx")?,
-            format!(in alloc; "net.{client}.tx.active")?,
-        )
-    } else {
-        (
-            format!(in alloc; "blk.{client}")?,
-            format!(in alloc; "blk.{client}.req")?,
-        )
-    };
+) -> Option<u64> {
     let (Some(pool), Some(puts)) = (
-        pool_named(layout, pool.as_str()),
-        queue_named(layout, puts.as_str()),
+        pool_of(layout, driver.class, client, driver.pool),
+        queue_of(layout, driver.class, client, driver.puts),
     ) else {
-        return Ok(None);
+        return None;
     };
-    let sent = count_named(journal, to_driver, pool);
-    let within = class == "net" || stay_within(journal, to_driver, pool, client);
-    if within && sent <= count(journal, puts, Op::Put) {
-        Ok(Some(sent))
-    } else {
-        Ok(None)
+    match count_right(journal, to_driver, pool, driver.class, client) {
+        Some(sent) if sent <= count(journal, puts, Op::Put) => Some(sent),
+        _ => None,
     }
 }
 
 // Whether what goes to a driver is right, where so many entries may name no buffer of a client.
-fn goes_to_driver(
-    alloc: Global,
-    layout: &Layout,
-    journal: &[Entry],
-    driver: Driver<'_>,
-) -> Result<bool, Memory> {
+fn goes_to_driver(layout: &Layout, journal: &[Entry], driver: Driver<'_>) -> bool {
     let Some(queue) = queue_named(layout, driver.queue) else {
-        return Ok(true);
+        return true;
     };
     let mut named = driver.beside;
     for client in 0..driver.clients {
-        match count_right(alloc, layout, journal, queue, driver.class, client)? {
+        match count_of(layout, journal, queue, driver, client) {
             Some(sent) => named = named.saturating_add(sent),
-            None => return Ok(false),
+            None => return false,
         }
     }
-    Ok(count(journal, queue, Op::Put) <= named)
+    count(journal, queue, Op::Put) <= named
 }
 
 /// Whether what goes to the drivers of the network and of the disk is right: it names buffers of
 /// clients, those of each client no more often than it put any, and what the disk is asked for is
 /// in the partition of the client. The first request to the disk is none of a client.
-pub fn goes_right(
-    alloc: Global,
-    plan: &Plan,
-    layout: &Layout,
-    journal: &[Entry],
-) -> Result<bool, Memory> {
+pub fn goes_right(plan: &Plan, layout: &Layout, journal: &[Entry]) -> bool {
     let net = Driver {
         class: "net",
         queue: "net.tx.active",
         clients: network_clients(plan),
+        pool: "tx",
+        puts: "tx.active",
         beside: 0,
     };
     let blk = Driver {
         class: "blk",
         queue: "blk.req",
         clients: block_clients(plan),
+        pool: "",
+        puts: "req",
         beside: 1,
     };
-    Ok(goes_to_driver(alloc, layout, journal, net)? && goes_to_driver(alloc, layout, journal, blk)?)
+    goes_to_driver(layout, journal, net) && goes_to_driver(layout, journal, blk)
 }

@@ -25,7 +25,7 @@ pub struct Buffers {
 #[derive(Clone, Copy)]
 pub struct Hostile<'a> {
     pub class: &'a str,
-    pub client: usize,
+    pub client: u64,
     pub inputs: u64,
     pub buffers: Buffers,
 }
@@ -92,95 +92,72 @@ fn edge(buffers: Buffers, number: u64) -> u64 {
 
 fn word_name(number: u64) -> &'static str {
     match number {
-        0 => "head",
-        1 => "tail",
-        2 => "flag",
-        3 => "flag_back",
-        4 => "pending",
-        _ => "pending_back",
+        0 => "head ",
+        1 => "tail ",
+        2 => "flag ",
+        3 => "flag_back ",
+        4 => "pending ",
+        _ => "pending_back ",
     }
 }
 
 impl<'a> Hostile<'a> {
-    fn add_take(&self, to: &mut String, draws: &mut Draws) -> Result<(), Memory> {
-        let queue = draws.below(self.inputs);
-        write!(to, "rogue {} {} take {queue}\n", self.class, self.client)?;
-        Ok(())
-    }
-
     // The number of an output.
     fn output(&self, draws: &mut Draws) -> u64 {
         self.inputs.saturating_add(draws.below(self.inputs))
     }
 
-    fn add_put(
+    // Adds the line of an act: its name, its queue, a word, and numbers.
+    fn add_line(
         &self,
         to: &mut String,
+        name: &str,
         queue: u64,
-        address: u64,
-        length: u64,
+        word: &str,
+        numbers: &[u64],
     ) -> Result<(), Memory> {
         write!(
             to,
-            "rogue {} {} put {queue} {address} {length}\n",
+            "rogue {} {} {name} {queue} {word}",
             self.class, self.client
         )?;
+        for k in 0..numbers.len() {
+            if k > 0 {
+                to.push_str(" ")?;
+            }
+            write!(to, "{}", numbers[k])?;
+        }
+        to.push_str("\n")?;
         Ok(())
     }
 
-    fn add_give(
-        &self,
-        to: &mut String,
-        queue: u64,
-        place: u64,
-        address: u64,
-        length: u64,
-    ) -> Result<(), Memory> {
-        write!(
-            to,
-            "rogue {} {} give {queue} {place} {address} {length}\n",
-            self.class, self.client
-        )?;
-        Ok(())
-    }
-
-    fn add_store(&self, to: &mut String, draws: &mut Draws) -> Result<(), Memory> {
-        let queue = draws.below(self.inputs.saturating_mul(2));
-        let word = word_name(draws.below(6));
-        let value = draws.among(&VALUES);
-        write!(
-            to,
-            "rogue {} {} store {queue} {word} {value}\n",
-            self.class, self.client
-        )?;
-        Ok(())
-    }
-
-    // A page that is given as often as is said.
-    fn add_gives(&self, to: &mut String, draws: &mut Draws, times: u64) -> Result<(), Memory> {
+    // A page that is given.
+    fn add_give(&self, to: &mut String, draws: &mut Draws, twice: bool) -> Result<(), Memory> {
         let queue = self.output(draws);
         let place = draws.below(self.buffers.many.saturating_mul(2).saturating_add(1));
-        let address = draws.address(self.buffers);
-        let length = draws.length();
-        for _ in 0..times {
-            self.add_give(to, queue, place, address, length)?;
+        let numbers = [place, draws.address(self.buffers), draws.length()];
+        if twice {
+            self.add_line(to, "give", queue, "", &numbers)?;
         }
-        Ok(())
+        self.add_line(to, "give", queue, "", &numbers)
     }
 
     // One act, or two.
     fn add_act(&self, to: &mut String, draws: &mut Draws) -> Result<(), Memory> {
         match draws.below(8) {
-            0 | 1 => self.add_take(to, draws),
+            0 | 1 => self.add_line(to, "take", draws.below(self.inputs), "", &[]),
             2 => {
                 let queue = self.output(draws);
-                let address = draws.address(self.buffers);
-                let length = draws.length();
-                self.add_put(to, queue, address, length)
+                let numbers = [draws.address(self.buffers), draws.length()];
+                self.add_line(to, "put", queue, "", &numbers)
             }
-            3 | 4 => self.add_gives(to, draws, 1),
-            5 => self.add_gives(to, draws, 2),
-            _ => self.add_store(to, draws),
+            3 | 4 => self.add_give(to, draws, false),
+            5 => self.add_give(to, draws, true),
+            _ => {
+                let queue = draws.below(self.inputs.saturating_mul(2));
+                let word = word_name(draws.below(6));
+                self.add_line(to, "store", queue, word, &[draws.among(&VALUES)])
+            }
         }
     }
 
@@ -194,10 +171,9 @@ impl<'a> Hostile<'a> {
             number.checked_rem(edges(self.buffers)).unwrap_or(0),
         );
         let queue = self.output(&mut draws);
-        self.add_put(to, queue, edge, 60)?;
-        self.add_give(to, queue, 0, edge, 60)?;
-        let acts = draws.below(ACTS);
-        for _ in 0..acts {
+        self.add_line(to, "put", queue, "", &[edge, 60])?;
+        self.add_line(to, "give", queue, "", &[0, edge, 60])?;
+        for _ in 0..draws.below(ACTS) {
             self.add_act(to, &mut draws)?;
         }
         Ok(())

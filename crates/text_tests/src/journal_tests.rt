@@ -40,6 +40,11 @@ fn entry(actor: u16, op: Op, answer: Answer, item: Option<Item>) -> Entry {
     }
 }
 
+// The text of a journal.
+fn spelled(alloc: Global, layout: &Layout, journal: &[Entry]) -> Result<String, Fail> {
+    Ok(write_journal(alloc, layout, journal)?)
+}
+
 #[test]
 fn journal_spells_calls_sides_answers_and_items(rt: HostRuntime) -> Result<(), Fail> {
     let alloc = rt.alloc();
@@ -80,7 +85,7 @@ fn journal_spells_calls_sides_answers_and_items(rt: HostRuntime) -> Result<(), F
         entry(1, Op::Store(Word::Pending, u64::MAX), Answer::Done, None),
         entry(1, Op::Store(Word::PendingBack, 2), Answer::Done, None),
     ];
-    let text = write_journal(alloc, &layout, &journal)?;
+    let text = spelled(alloc, &layout, &journal)?;
     assert_eq!(rt;
         text.as_str(),
         "app0 net.0.tx.active room yes\n\

@@ -7,6 +7,21 @@ use sdf_plan::Place;
 use std::alloc::Global;
 use std::test::Fail;
 
+// The text of a place.
+fn place_text(alloc: Global, place: Place) -> Result<String, Fail> {
+    Ok(write_place(alloc, place)?)
+}
+
+// The text of a report.
+fn report_text(alloc: Global, report: &Report) -> Result<String, Fail> {
+    Ok(write_report(alloc, report)?)
+}
+
+// The text of its summary.
+fn summary_text(alloc: Global, report: &Report) -> Result<String, Fail> {
+    Ok(write_summary(alloc, report)?)
+}
+
 #[test]
 fn places_print_as_the_keys_that_lead_to_them(rt: HostRuntime) -> Result<(), Fail> {
     let alloc = rt.alloc();
@@ -26,7 +41,7 @@ fn places_print_as_the_keys_that_lead_to_them(rt: HostRuntime) -> Result<(), Fai
         (Place::BlkClient(4294967295), "blk.client[4294967295]"),
     ];
     for (place, text) in rows {
-        let printed = write_place(alloc, place)?;
+        let printed = place_text(alloc, place)?;
         assert!(rt; printed.as_str() == text, "{text}");
     }
     Ok(())
@@ -53,12 +68,12 @@ fn serial_reports_show_the_line_and_each_client(rt: HostRuntime) -> Result<(), F
     report.line = Some(Bytes::from_slice(alloc, b"abc")?);
     report.serial.push(Bytes::new(alloc))?;
     report.serial.push(Bytes::from_slice(alloc, b"hi")?)?;
-    let text = write_report(alloc, &report)?;
+    let text = report_text(alloc, &report)?;
     assert_eq!(rt;
         text.as_str(),
         "quiet\nsteps 12\nuart 3\n616263\nserial 0 bytes 0\nserial 1 bytes 2\n6869\nbad 0\n"
     );
-    let text = write_summary(alloc, &report)?;
+    let text = summary_text(alloc, &report)?;
     assert_eq!(rt;
         text.as_str(),
         "quiet\nsteps 12\nuart 3\nserial 0 bytes 0\nserial 1 bytes 2\nbad 0\n"
@@ -66,10 +81,13 @@ fn serial_reports_show_the_line_and_each_client(rt: HostRuntime) -> Result<(), F
     Ok(())
 }
 
-#[test]
-fn replies_show_runs_and_pools_their_buffers(rt: HostRuntime) -> Result<(), Fail> {
-    let alloc = rt.alloc();
-    let mut report = empty_report(alloc);
+// A reply.
+fn reply(resp: BlkResp, bytes: Bytes) -> Reply {
+    Reply { resp, bytes }
+}
+
+// Two replies: one with bytes, and one that refuses.
+fn two_replies(alloc: Global) -> Result<Series<Reply>, Fail> {
     let read = BlkResp {
         status: BlkStatus::Ok,
         count: 1,
@@ -81,22 +99,29 @@ fn replies_show_runs_and_pools_their_buffers(rt: HostRuntime) -> Result<(), Fail
         id: 2,
     };
     let mut replies = Series::new(alloc);
-    let bytes = Bytes::from_slice(alloc, &[171, 171, 0])?;
-    replies.push(Reply { resp: read, bytes })?;
-    let bytes = Bytes::new(alloc);
-    replies.push(Reply {
-        resp: refused,
-        bytes,
-    })?;
-    report.blk.push(replies)?;
-    report.pools.push(Census {
+    replies.push(reply(read, Bytes::from_slice(alloc, &[171, 171, 0])?))?;
+    replies.push(reply(refused, Bytes::new(alloc)))?;
+    Ok(replies)
+}
+
+// A pool of four buffers.
+fn one_pool(alloc: Global) -> Result<Census, Fail> {
+    Ok(Census {
         name: Text::new(alloc, "blk.0")?,
         buffers: 4,
         queues: 0,
         hands: 3,
         lent: 1,
-    })?;
-    let text = write_report(alloc, &report)?;
+    })
+}
+
+#[test]
+fn replies_show_runs_and_pools_their_buffers(rt: HostRuntime) -> Result<(), Fail> {
+    let alloc = rt.alloc();
+    let mut report = empty_report(alloc);
+    report.blk.push(two_replies(alloc)?)?;
+    report.pools.push(one_pool(alloc)?)?;
+    let text = report_text(alloc, &report)?;
     assert_eq!(rt;
         text.as_str(),
         "quiet\nsteps 12\nblk 0 replies 2\n1 ok 1 2*ab,1*00\n2 no_device 0\n\

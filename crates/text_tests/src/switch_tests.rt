@@ -18,10 +18,22 @@ fn switched(alloc: Global, input: &[u8], client: u32) -> Result<Bytes, Memory> {
     Ok(given)
 }
 
-// Whether the switch and the slow program both give a client this.
+// What it gets by the slow program.
+fn by_pieces(alloc: Global, input: &[u8], client: u32) -> Result<Bytes, Memory> {
+    Ok(plain_input_of(alloc, input, 2, client)?)
+}
+
+// Whether both give a client the same.
+fn agree(alloc: Global, input: &[u8], client: u32) -> Result<bool, Memory> {
+    let by_switch = switched(alloc, input, client)?;
+    let by_pieces = by_pieces(alloc, input, client)?;
+    Ok(by_switch.as_slice() == by_pieces.as_slice())
+}
+
+// Whether both give a client this.
 fn gives(alloc: Global, input: &[u8], client: u32, want: &[u8]) -> Result<bool, Memory> {
     let by_switch = switched(alloc, input, client)?;
-    let by_pieces = plain_input_of(alloc, input, 2, client)?;
+    let by_pieces = by_pieces(alloc, input, client)?;
     Ok(by_switch.as_slice() == want && by_pieces.as_slice() == want)
 }
 
@@ -50,9 +62,7 @@ fn short_inputs_are_read_as_the_slow_program_reads_them(rt: HostRuntime) -> Resu
                 for length in 0..4 {
                     let input = &whole[..length];
                     for client in 0..2 {
-                        let by_switch = switched(alloc, input, client)?;
-                        let by_pieces = plain_input_of(alloc, input, 2, client)?;
-                        assert!(rt; by_switch.as_slice() == by_pieces.as_slice());
+                        assert!(rt; agree(alloc, input, client)?);
                     }
                 }
             }

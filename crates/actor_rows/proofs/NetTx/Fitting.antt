@@ -14,7 +14,7 @@ use Rattle.turn_kit.specs.declared.ends.Outlet.{Outlet}
 use Rattle.buffer_kit.specs.Virtualising.{VirtOwns, from_queues, new_intake, new_outlet, to_queues}
 use Rattle.net_virt_tx.specs.declared.NetVirtTx.{NetVirtTx}
 use Rattle.net_virt_tx.specs.Sending.{FitsTx, SameTx, TxStandsFor}
-use Rattle.actor_rows.specs.Hands.{OnlyAt, AreQueues}
+use Rattle.base_rows.specs.Hands.{OnlyAt, AreQueues}
 use Rattle.actor_rows.proofs.Fitting.{map_get, some_is}
 use Rattle.actor_rows.specs.Standings.{queue}
 use Rattle.actor_rows.specs.NetTx.Standings.{IsNewAlone, Stands}

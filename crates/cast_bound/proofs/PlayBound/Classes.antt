@@ -129,12 +129,12 @@ net_hops plan trace =
 from_none : (n : ℕ) → n ≡ 0 + n
 from_none n = omega arith
 
--- no more is put to the network's queues than is counted
-net_within : (plan : Plan) (trace : Trace) (m : Moved) → NetMoves plan trace m → sum_below (put_at m) (serial_first plan.net) ≤ net_hops plan trace
-net_within plan trace m (without_net none) =
+-- no more is put to the network's queues than is counted, with what is dropped there
+net_within : (plan : Plan) (trace : Trace) (gone : ℕ) (m : Moved) → NetMoves plan trace gone m → sum_below (put_at m) (serial_first plan.net) + gone ≤ net_hops plan trace
+net_within plan trace gone m (without_net none nothing) =
     let e : sum_below (put_at m) (serial_first plan.net) ≡ 0 = ap (λ n. sum_below (put_at m) (serial_first n)) none in
-    omega (arith, e)
-net_within plan trace m (with_net net place is stands few) =
+    omega (arith, e, nothing)
+net_within plan trace gone m (with_net net place is stands few) =
     let size : sum_below (put_at m) (serial_first plan.net) ≡ sum_below (put_at m) (8 + 6 * length net.client) = ap (λ n. sum_below (put_at m) (serial_first n)) is in
     let many : sum_below (put_at m) (8 + 6 * length net.client) ≡ net_put place.first (length place.macs) m =
     (λ i. sum_below (λ n. length (m.sent (from_none n i))) (8 + 6 * length net.client)) ∙ (λ i. sum_below (λ n. length (m.sent (sym stands.first i + n))) (8 + 6 * sym stands.clients i)) in
@@ -171,14 +171,14 @@ blk_within plan trace m (with_blk blk is few) =
     let read : first_read_hops (option_map (λ (b : Blk). length b.client) plan.blk) ≡ 4 = ap (λ b. first_read_hops (option_map (λ (x : Blk). length x.client) b)) is in
     omega (arith, size, few, read)
 
-pub classes_within : (plan : Plan) (trace : Trace) (history : History) (journal : List Entry) (gone : ℕ) → NetMoves plan trace (moved history journal) → SerialMoves plan trace gone (moved history journal) → BlkMoves plan trace (moved history journal) → all_sent history (queues_of plan) journal + gone ≤ hops_of (counts_of plan trace)
-classes_within plan trace history journal gone net serial blk =
+pub classes_within : (plan : Plan) (trace : Trace) (history : History) (journal : List Entry) (frames bytes : ℕ) → NetMoves plan trace frames (moved history journal) → SerialMoves plan trace bytes (moved history journal) → BlkMoves plan trace (moved history journal) → all_sent history (queues_of plan) journal + (frames + bytes) ≤ hops_of (counts_of plan trace)
+classes_within plan trace history journal frames bytes net serial blk =
     let f = put_at (moved history journal) in
     let many = length (option_map_or (blk_queues plan) plan.blk []) in
     let size : all_sent history (queues_of plan) journal ≡ sum_below f (blk_first plan + many) = ap (sum_below f) (rows_count plan) in
     let parts = sum_parts f (blk_first plan) many in
     let fronts = sum_parts f (serial_first plan.net) (serial_many plan.serial) in
-    let a = net_within plan trace (moved history journal) net in
-    let b = serial_within plan trace gone (moved history journal) serial in
+    let a = net_within plan trace frames (moved history journal) net in
+    let b = serial_within plan trace bytes (moved history journal) serial in
     let c = blk_within plan trace (moved history journal) blk in
     omega (arith, size, parts, fronts, a, b, c)

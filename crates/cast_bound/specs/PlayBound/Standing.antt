@@ -46,13 +46,13 @@ abbrev pub serial_first : Option Net → ℕ
 serial_first None = 0
 serial_first (Some net) = 8 + 6 * length net.client
 
--- no more was put to the queues of the network than its entries have to be moved, where the plan
--- has one
-pub data NetMoves (plan : Plan) (trace : Trace) (m : Moved) : Type 0 where
-  without_net : plan.net ≡ None → NetMoves plan trace m
+-- no more was put to the queues of the network than its entries have to be moved, with those that
+-- were dropped there, where the plan has one
+pub data NetMoves (plan : Plan) (trace : Trace) (gone : ℕ) (m : Moved) : Type 0 where
+  without_net : plan.net ≡ None → gone ≡ 0 → NetMoves plan trace gone m
   with_net : (net : Net) (place : NetPlace) → plan.net ≡ Some net → IsPlaceOf trace net place
-      → net_put place.first (length place.macs) m ≤ net_moves place trace.frames
-      → NetMoves plan trace m
+      → net_put place.first (length place.macs) m + gone ≤ net_moves place trace.frames
+      → NetMoves plan trace gone m
 
 -- and so of the serial class, with those entries that were dropped there
 pub data SerialMoves (plan : Plan) (trace : Trace) (gone : ℕ) (m : Moved) : Type 0 where

@@ -24,13 +24,13 @@ use Rattle.buffer_kit.specs.Conserving.{Count, counted, the_page, weight, weighe
 use Rattle.buffer_kit.specs.Virtualising.{from_queues, to_queues}
 use Rattle.buffer_kit.proofs.Conserving.{counted-at}
 use Rattle.net_copier.specs.declared.NetCopier.{NetCopier}
-use Rattle.net_copier.proofs.Holding.{held_row as copier_row}
+use Rattle.net_copier.proofs.Holding.{row_of as copier_row}
 use Rattle.net_virt_tx.specs.declared.NetVirtTx.{NetVirtTx}
 use Rattle.net_virt_tx.proofs.Rounds.{row_of as sender_row}
 use Rattle.client_programs.specs.declared.rogue.Rogue.{Rogue}
 use Rattle.net_law.specs.Owners.Names.{ClientPools}
 use Rattle.net_law.specs.Parts.Parts.{Lessee}
-use Rattle.net_law.specs.Parts.Numbers.{client_at, client_first, copier_at, driver_at, lessees_from, receiver_at}
+use Rattle.net_law.specs.Parts.Numbers.{client_at, client_first, copier_at, driver_at, lessees_from, policy_at, receiver_at}
 use Rattle.net_law.specs.Parts.Playing.{client_part, copier_part, device_part, driver_part, receiver_part}
 use Rattle.eth_driver.specs.Four.{four_pipes}
 use Rattle.device_model.specs.Disk.Disks.{req, resp}
@@ -255,7 +255,7 @@ module _ (rows : List QueueRow) (place : PoolPlace) (actors : List Actor) (passe
             let c = whole.client k program.0 mac.0 q (record { address = mac.1; pools = at; plays = program.1 }) e in
             (e, calm_end rows place actors passed m a c.0 (NetworkPart (client_at net.first k program.0 mac.0 (own_pools q))) c.1 refl (aloof program.0 mac.0) 1 (outlet (client_first net.first k + 3)) refl)
 
-  copier_is : (net : NetPlace) (frames : List (List ℕ)) (c : NetCopier) → IsOfNetwork net frames (NetworkPart (copier_part c)) → (k : ℕ) × (k < length net.macs) × (copier_part c ≡ copier_at net.first k)
+  copier_is : (net : NetPlace) (frames : List (List ℕ)) (c : NetCopier) → IsOfNetwork net frames (NetworkPart (copier_part c)) → (k : ℕ) × (k < length net.macs) × (copier_part c ≡ copier_at net.first k (policy_at net.drops k))
   copier_is net frames c (inl e) = absurd cc
   copier_is net frames c (inr (inl e)) = absurd cc
   copier_is net frames c (inr (inr (inl e))) = absurd cc
@@ -263,8 +263,8 @@ module _ (rows : List QueueRow) (place : PoolPlace) (actors : List Actor) (passe
   copier_is net frames c (inr (inr (inr (inr (inl k))))) = let e = k.2 in (k.0, k.1, cc)
   copier_is net frames c (inr (inr (inr (inr (inr k))))) = let e = k.5 in absurd cc
 
-  pub copier_queues : (first k : ℕ) (c : NetCopier) → copier_part c ≡ copier_at first k → (c.lease_input.queue.0 ≡ client_first first k) × (c.lease_output.queue.0 ≡ client_first first k + 1) × (c.buffer_output.queue.0 ≡ client_first first k + 2) × (c.buffer_input.queue.0 ≡ client_first first k + 3)
-  copier_queues first k c e = (cc, cc, cc, cc)
+  pub copier_queues : (first k : ℕ) (drops : Bool) (c : NetCopier) → copier_part c ≡ copier_at first k drops → (c.lease_input.queue.0 ≡ client_first first k) × (c.lease_output.queue.0 ≡ client_first first k + 1) × (c.buffer_output.queue.0 ≡ client_first first k + 2) × (c.buffer_input.queue.0 ≡ client_first first k + 3)
+  copier_queues first k drops c e = (cc, cc, cc, cc)
 
   copier_puts : (j : ℕ) (c : NetCopier) (at : slice_get actors j ≡ Some (Kinds.NetCopier c)) → Takes (part_of (Kinds.NetCopier c)) → Puts (part_of (Kinds.NetCopier c))
   copier_puts j c at takes = by place.net refl a.placed.net
@@ -295,7 +295,7 @@ module _ (rows : List QueueRow) (place : PoolPlace) (actors : List Actor) (passe
       by None here none = absurd (none.none j (copier_part c) part_at)
       by (Some net) here has =
           let k = copier_is net (scene rows place actors passed m a).frames c (has.0.only j (copier_part c) part_at) in
-          let queues = copier_queues net.first k.0 c k.2 in
+          let queues = copier_queues net.first k.0 (policy_at net.drops k.0) c k.2 in
           let lease = lease_calm net here has.0 k.0 k.1 in
           let wi : w c.lease_input.queue.0 ≡ false = ap w queues.0 ∙ lease.0 in
           let wo : w c.lease_output.queue.0 ≡ false = ap w queues.1 ∙ lease.1 in

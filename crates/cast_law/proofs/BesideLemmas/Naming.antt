@@ -39,7 +39,7 @@ module _ (naming : Naming) (wild : Wild) where
     nothing_at_off p none = nothing_off (sheet scene p).ends none
 
     net_off : (p : NetPart) → AllCalmEnds (sheet scene (NetworkPart p)).ends → NamesPart naming scene p → NamesPart off_wild scene p
-    net_off (NetDevice rx_free rx_active tx_active tx_free frames) calm names = (
+    net_off (NetDevice rx_free rx_active tx_active tx_free frames drops) calm names = (
       (names.0.0, (at_calm rx_free (calm 0 (intake rx_free) refl) ∙ names.0.1.0, at_calm rx_active (calm 1 (outlet rx_active) refl) ∙ names.0.1.1)),
       (names.1.0, (at_calm tx_active (calm 2 (intake tx_active) refl) ∙ names.1.1.0, at_calm tx_free (calm 3 (outlet tx_free) refl) ∙ names.1.1.1)),
     )
@@ -63,7 +63,7 @@ module _ (naming : Naming) (wild : Wild) where
       where
         borrower : (k : ℕ) (c : Borrower) → slice_get (lender_of scene.frames active free pool clients).clients k ≡ Some c → (x : Lessee) × (slice_get clients k ≡ Some x) × (c.active ≡ x.active) × (c.free ≡ x.free)
         borrower k c at = let x = map_from (borrower_of scene.frames) clients k c at in (x.0, x.1, ap (λ (y : Borrower). y.active) (sym x.2), ap (λ (y : Borrower). y.free) (sym x.2))
-    net_off (NetCopier lease_active lease_free rx_active rx_free) calm names = (
+    net_off (NetCopier lease_active lease_free rx_active rx_free drops) calm names = (
       (names.0.0, at_calm lease_active (calm 0 (intake lease_active) refl) ∙ names.0.1, at_calm lease_free (calm 3 (outlet lease_free) refl) ∙ names.0.2),
       (names.1.0, (at_calm rx_free (calm 1 (intake rx_free) refl) ∙ names.1.1.0, at_calm rx_active (calm 2 (outlet rx_active) refl) ∙ names.1.1.1)),
     )

@@ -14,7 +14,7 @@ use Rattle.play_core.specs.Wants.{intake, outlet}
 use Rattle.play_core.proofs.Lists.{some_is, there_below}
 use Rattle.owner_law.specs.Pools.Places.{PoolAt}
 use Rattle.net_law.specs.Owners.Names.{ClientPools}
-use Rattle.net_law.specs.Parts.Numbers.{client_first, copier_at}
+use Rattle.net_law.specs.Parts.Numbers.{client_first, copier_at, policy_at}
 use Rattle.net_law.specs.TxParts.Parts.{Shipper}
 use Rattle.net_law.specs.TxParts.Numbers.{NetPlace, sender_at, shippers_from}
 use Rattle.net_law.proofs.PartsLemmas.Pairs.{twice, pair_first, pair_second}
@@ -218,7 +218,7 @@ module _ (rows : List QueueRow) (n : Option NetPlace) (b : Option BlkPlace) (cas
 
   -- who serves a hostile client
   abbrev pub IsServing : Part → Type 0
-  IsServing p = ((net : NetPlace) × (k : ℕ) × (q : ClientPools) × (n ≡ Some net) × (slice_get net.pools k ≡ Some q) × (p ≡ NetworkPart (copier_at net.first k)))
+  IsServing p = ((net : NetPlace) × (k : ℕ) × (q : ClientPools) × (n ≡ Some net) × (slice_get net.pools k ≡ Some q) × (p ≡ NetworkPart (copier_at net.first k (policy_at net.drops k))))
       ⊎ ((net : NetPlace) × (n ≡ Some net) × (p ≡ SendingPart (sender_at net.first net.most net.pools)))
       ⊎ ((blk : BlkPlace) × (b ≡ Some blk) × (p ≡ BlockPart (virt_at blk)))
 
@@ -230,10 +230,10 @@ module _ (rows : List QueueRow) (n : Option NetPlace) (b : Option BlkPlace) (cas
     below : k < length net.macs
     below = let lt = there_below net.pools k p there in omega (arith, lt, whole.pools_many)
 
-    copier_seat : (i q : ℕ) (r : Role) → slice_get (sheet scene (NetworkPart (copier_at net.first k))).ends i ≡ Some (record { queue = q; role = r }) → (row : QueueRow) → slice_get rows q ≡ Some row → owner_of row r ≡ (whole.copier k below).0
+    copier_seat : (i q : ℕ) (r : Role) → slice_get (sheet scene (NetworkPart (copier_at net.first k (policy_at net.drops k)))).ends i ≡ Some (record { queue = q; role = r }) → (row : QueueRow) → slice_get rows q ≡ Some row → owner_of row r ≡ (whole.copier k below).0
     copier_seat i q r at row row_at =
         let x = whole.copier k below in
-        let seat = seated x.0 (NetworkPart (copier_at net.first k)) x.1 i (record { queue = q; role = r }) at in
+        let seat = seated x.0 (NetworkPart (copier_at net.first k (policy_at net.drops k))) x.1 i (record { queue = q; role = r }) at in
         ap (λ (w : QueueRow). owner_of w r) (some_is (sym row_at ∙ seat.1)) ∙ seat.2
 
     ship : (c : Shipper) × (slice_get (shippers_from 0 net.most 0 net.pools) k ≡ Some c) × (c.active ≡ client_first 0 (0 + k) + 4) × (c.free ≡ client_first 0 (0 + k) + 5)
@@ -323,14 +323,14 @@ module _ (rows : List QueueRow) (n : Option NetPlace) (b : Option BlkPlace) (cas
           net (inl e) =
               let own = copier_seat h.net h.here h.k h.pools h.is.there 2 (client_first h.net.first h.k + 2) Producer refl w (ap (slice_get rows) (sym e.1) ∙ w_at) in
               let x = (net_whole h.net h.here).0.copier h.k (below h.net h.here h.k h.pools h.is.there) in
-              inl (h.net, h.k, h.pools, h.here, h.is.there, found x.0 (NetworkPart (copier_at h.net.first h.k)) x.1 (sym own ∙ owns Producer (turn Consumer e.0)))
+              inl (h.net, h.k, h.pools, h.here, h.is.there, found x.0 (NetworkPart (copier_at h.net.first h.k (policy_at h.net.drops h.k))) x.1 (sym own ∙ owns Producer (turn Consumer e.0)))
           net (inr (inl e)) =
               let own = sender_out h.net h.here h.k h.pools h.is.there w (ap (slice_get rows) (sym e.1) ∙ w_at) in
               inr (inl (h.net, h.here, found (net_whole h.net h.here).0.sender.0 (SendingPart (sender_at h.net.first h.net.most h.net.pools)) (net_whole h.net h.here).0.sender.1 (sym own ∙ owns Producer (turn Consumer e.0))))
           net (inr (inr (inl e))) =
               let own = copier_seat h.net h.here h.k h.pools h.is.there 1 (client_first h.net.first h.k + 3) Consumer refl w (ap (slice_get rows) (sym e.1) ∙ w_at) in
               let x = (net_whole h.net h.here).0.copier h.k (below h.net h.here h.k h.pools h.is.there) in
-              inl (h.net, h.k, h.pools, h.here, h.is.there, found x.0 (NetworkPart (copier_at h.net.first h.k)) x.1 (sym own ∙ owns Consumer (turn Producer e.0)))
+              inl (h.net, h.k, h.pools, h.here, h.is.there, found x.0 (NetworkPart (copier_at h.net.first h.k (policy_at h.net.drops h.k))) x.1 (sym own ∙ owns Consumer (turn Producer e.0)))
           net (inr (inr (inr e))) =
               let own = sender_in h.net h.here h.k h.pools h.is.there w (ap (slice_get rows) (sym e.1) ∙ w_at) in
               inr (inl (h.net, h.here, found (net_whole h.net h.here).0.sender.0 (SendingPart (sender_at h.net.first h.net.most h.net.pools)) (net_whole h.net h.here).0.sender.1 (sym own ∙ owns Consumer (turn Producer e.0))))

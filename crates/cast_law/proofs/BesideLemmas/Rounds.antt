@@ -25,13 +25,13 @@ use Rattle.buffer_kit.specs.Virtualising.{from_queues, to_queues}
 use Rattle.buffer_kit.proofs.Conserving.{counted-at}
 use Rattle.pipe_driver.specs.Drivers.{PipesStandFor}
 use Rattle.eth_driver.specs.Four.{four_pipes}
-use Rattle.device_model.specs.Ethernet.Devices.{HoldingDeviceStands}
+use Rattle.device_model.specs.Ethernet.Devices.{DeviceStandsFor}
 use Rattle.net_copier.specs.declared.NetCopier.{NetCopier}
 use Rattle.net_virt_tx.specs.declared.NetVirtTx.{NetVirtTx}
 use Rattle.net_virt_tx.specs.declared.client.Client.{Client}
 use Rattle.net_virt_tx.specs.Traffics.{senders}
 use Rattle.net_law.specs.Owners.Names.{ClientPools}
-use Rattle.net_law.specs.Parts.Numbers.{client_first, copier_at, device_at, driver_at}
+use Rattle.net_law.specs.Parts.Numbers.{client_first, copier_at, device_at, driver_at, policy_at}
 use Rattle.net_law.specs.TxParts.Numbers.{NetPlace, sender_at}
 use Rattle.net_law.specs.TxParts.Playing.{send_part}
 use Rattle.net_quiet.proofs.PoolsLemmas.Carrying.{carries_none}
@@ -187,11 +187,11 @@ module _ (rows : List QueueRow) (place : PoolPlace) (actors : List Actor) (passe
           let r = rogue_actor x.0 rogue x.2 in
           (r.0, x.1 ∙ ap (λ y. Some y) r.1, r.2)
 
-      copier : (i : ℕ) × (c : NetCopier) × (slice_get actors i ≡ Some (Kinds.NetCopier c)) × (Rattle.net_law.specs.Parts.Playing.copier_part c ≡ copier_at net.first k)
+      copier : (i : ℕ) × (c : NetCopier) × (slice_get actors i ≡ Some (Kinds.NetCopier c)) × (Rattle.net_law.specs.Parts.Playing.copier_part c ≡ copier_at net.first k (policy_at net.drops k))
       copier =
           let p = whole.copier k under in
-          let x = map_from part_of actors p.0 (NetworkPart (copier_at net.first k)) p.1 in
-          let c = copier_actor net.first k x.0 x.2 in
+          let x = map_from part_of actors p.0 (NetworkPart (copier_at net.first k (policy_at net.drops k))) p.1 in
+          let c = copier_actor net.first k (policy_at net.drops k) x.0 x.2 in
           (p.0, c.0, x.1 ∙ ap (λ y. Some y) c.1, c.2)
 
       sender : (v : NetVirtTx) × (slice_get actors whole.sender.0 ≡ Some (Kinds.NetVirtTx v)) × (send_part v ≡ sender_at net.first net.most net.pools)
@@ -215,9 +215,9 @@ module _ (rows : List QueueRow) (place : PoolPlace) (actors : List Actor) (passe
           )
 
       -- by copier and sending virtualiser
-      module _ (i : ℕ) (c : NetCopier) (c_at : slice_get actors i ≡ Some (Kinds.NetCopier c)) (c_is : Rattle.net_law.specs.Parts.Playing.copier_part c ≡ copier_at net.first k) (v : NetVirtTx) (v_at : slice_get actors whole.sender.0 ≡ Some (Kinds.NetVirtTx v)) (v_is : send_part v ≡ sender_at net.first net.most net.pools) where
+      module _ (i : ℕ) (c : NetCopier) (c_at : slice_get actors i ≡ Some (Kinds.NetCopier c)) (c_is : Rattle.net_law.specs.Parts.Playing.copier_part c ≡ copier_at net.first k (policy_at net.drops k)) (v : NetVirtTx) (v_at : slice_get actors whole.sender.0 ≡ Some (Kinds.NetVirtTx v)) (v_is : send_part v ≡ sender_at net.first net.most net.pools) where
         queues : (c.lease_input.queue.0 ≡ client_first net.first k) × (c.lease_output.queue.0 ≡ client_first net.first k + 1) × (c.buffer_output.queue.0 ≡ client_first net.first k + 2) × (c.buffer_input.queue.0 ≡ client_first net.first k + 3)
-        queues = copier_queues rows place actors after m a net.first k c c_is
+        queues = copier_queues rows place actors after m a net.first k (policy_at net.drops k) c c_is
 
         leases : weighed f (after.taken c.lease_input.queue.0) ≡ 0
         leases =
@@ -255,13 +255,13 @@ module _ (rows : List QueueRow) (place : PoolPlace) (actors : List Actor) (passe
         way =
             let dx = map_from part_of actors whole.driver.0 (NetworkPart (driver_at net.first)) whole.driver.1 in
             let dr = driver_actor net.first dx.0 dx.2 in
-            let ex = map_from part_of actors whole.device.0 (NetworkPart (device_at net.first (scene rows place actors after m a).frames)) whole.device.1 in
-            let ev = device_actor net.first (scene rows place actors after m a).frames ex.0 ex.2 in
+            let ex = map_from part_of actors whole.device.0 (NetworkPart (device_at net.first (scene rows place actors after m a).frames net.device_drops)) whole.device.1 in
+            let ev = device_actor net.first (scene rows place actors after m a).frames net.device_drops ex.0 ex.2 in
             let p = dr.0 in
             let e = ev.0 in
             let moves : PipesStandFor (four_pipes p.driver.pipes) after = a.work.stands whole.driver.0 (Kinds.EthDriver p) (dx.1 ∙ ap (λ y. Some y) dr.1) in
-            let wires : HoldingDeviceStands e after = a.work.stands whole.device.0 (Kinds.EthDevice e) (ex.1 ∙ ap (λ y. Some y) ev.1) in
-            let wire = device_sends net.first (scene rows place actors after m a).frames e ev.2 in
+            let wires : DeviceStandsFor e after = a.work.stands whole.device.0 (Kinds.EthDevice e) (ex.1 ∙ ap (λ y. Some y) ev.1) in
+            let wire = device_sends net.first (scene rows place actors after m a).frames net.device_drops e ev.2 in
             let driven = driver_sends net.first p.driver.pipes dr.2 in (
               p.driver.pipes.rest.rest.first,
               e.wire.pipe,

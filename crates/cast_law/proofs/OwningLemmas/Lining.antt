@@ -41,9 +41,9 @@ use Rattle.buffer_kit.proofs.Conserving.{pool_counted}
 use Rattle.pipe_driver.specs.Lengths.{two_pipes}
 use Rattle.eth_driver.specs.Four.{four_pipes}
 use Rattle.pipe_driver.proofs.Holding.{balance_of as pipes_balance}
-use Rattle.device_model.proofs.EthernetLemmas.Holding.{held_balance as device_balance}
+use Rattle.device_model.proofs.EthernetLemmas.Holding.{balance_of as device_balance}
 use Rattle.device_model.proofs.DiskLemmas.Holding.{balance_of as disk_balance}
-use Rattle.net_copier.proofs.Holding.{held_balance as copier_balance}
+use Rattle.net_copier.proofs.Holding.{balance_of as copier_balance}
 use Rattle.net_virt_tx.proofs.Rounds.{row_of as sender_row}
 use Rattle.client_programs.proofs.NetLemmas.Holding.{balance_of as client_balance}
 use Rattle.client_programs.proofs.BlkLemmas.Standing.{balance_of as asker_balance}

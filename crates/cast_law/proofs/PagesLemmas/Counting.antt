@@ -76,10 +76,10 @@ module _ (pool number : ℕ) where
   part_count scene (RxPart rx clients drops) = refl
   part_count scene (TxPart tx clients) = refl
   part_count scene (ClientPart rx tx script) = refl
-  part_count scene (NetworkPart (NetDevice rx_free rx_active tx_active tx_free frames)) = refl
+  part_count scene (NetworkPart (NetDevice rx_free rx_active tx_active tx_free frames drops)) = refl
   part_count scene (NetworkPart (NetDriver ways)) = refl
   part_count scene (NetworkPart (NetReceiver active free p clients)) = omega (arith, one_count p)
-  part_count scene (NetworkPart (NetCopier lease_active lease_free rx_active rx_free)) = refl
+  part_count scene (NetworkPart (NetCopier lease_active lease_free rx_active rx_free drops)) = refl
   part_count scene (NetworkPart (NetClient program mac rx_active rx_free tx_active tx_free rx tx)) =
       let both = sum_by-append (λ x. cond {A = ℕ} (x == number) 1 0) (pool_hand rx pool) (pool_hand tx pool) in
       omega (arith, both, sum_by-cons (pool_weighs the) rx (tx ∷ []), page_count rx, one_count tx)

@@ -22,12 +22,12 @@ use Rattle.serial_virt.specs.Sending.{TxStandsFor, TxRow, tx_hand}
 use Rattle.serial_virt.specs.declared.tx.SerialVirtTx.{SerialVirtTx}
 use Rattle.serial_virt.proofs.Sharing.{rx_row}
 use Rattle.serial_virt.proofs.Holding.{rx_balance, tx_balance}
-use Rattle.device_model.proofs.EthernetLemmas.Holding.{held_balance as device_balance}
+use Rattle.device_model.proofs.EthernetLemmas.Holding.{balance_of as device_balance, row_of as device_row}
 use Rattle.net_virt_rx.specs.declared.NetVirtRx.{NetVirtRx}
 use Rattle.net_virt_rx.specs.Receiving.{RxStandsFor as NetRxStandsFor}
 use Rattle.net_virt_rx.proofs.Rounds.{row_of as receiver_row}
 use Rattle.net_virt_tx.proofs.Rounds.{row_of as sender_row}
-use Rattle.net_copier.proofs.Holding.{held_row as copier_row, held_balance as copier_balance}
+use Rattle.net_copier.proofs.Holding.{row_of as copier_row, balance_of as copier_balance}
 use Rattle.client_programs.proofs.NetLemmas.Standing.{row_of as client_row}
 use Rattle.client_programs.proofs.NetLemmas.Holding.{balance_of as client_balance}
 use Rattle.net_law.specs.Parts.Playing.{receiver_part, ReceivesInTurn}
@@ -59,7 +59,7 @@ use Rattle.actor_set.specs.declared.actor.Actor.TheVariants as Kinds
 use Rattle.actor_set.specs.Laws.Kinds.{manner_of, sheet}
 use Rattle.actor_set.specs.Laws.Turning.{InTurn}
 use Rattle.actor_set.proofs.LawsLemmas.BlkRows.{disk_row_of}
-use Rattle.actor_set.proofs.LawsLemmas.NetRows.{device_row_of, items_at}
+use Rattle.actor_set.proofs.LawsLemmas.NetRows.{items_at}
 use Rattle.play_core.specs.Manners.{Calm}
 use Rattle.cast_law.specs.Pools.Holders.{NamesAt, IsSized, TakesNet, actor_holder}
 
@@ -120,7 +120,7 @@ module _ (naming : Naming) (scene : Scene) (passed : Passed) (m : Moved) (items 
   actor_on order (Kinds.SerialVirtRx x) calm names net whole turn st = serial_receiver_on naming passed m x names (rx_row x passed st)
   actor_on order (Kinds.SerialVirtTx x) calm names net whole turn st = serial_sender_on naming passed m x names (tx_row x passed st)
   actor_on order (Kinds.SerialClient x) calm names net whole turn st = terminal_on naming passed m x.terminal names (terminal_row x.terminal passed st)
-  actor_on order (Kinds.EthDevice x) calm names net whole turn st = device_on naming scene passed m x names (device_row_of x passed st)
+  actor_on order (Kinds.EthDevice x) calm names net whole turn st = device_on naming scene passed m x names (device_row x passed st)
   actor_on order (Kinds.EthDriver x) calm names net whole turn st = driver_on naming scene passed m (four_pipes x.driver.pipes) names (pipes_row (four_pipes x.driver.pipes) passed st)
   actor_on order (Kinds.NetVirtRx x) calm names net whole turn st = receiver_on naming scene passed m x names turn.takes.given_net (receiver_row x passed st)
   actor_on order (Kinds.NetCopier x) calm names net whole turn st = copier_on naming scene passed m x names (copier_row x passed st)

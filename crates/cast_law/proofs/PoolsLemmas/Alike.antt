@@ -52,7 +52,7 @@ module _ (a naming : Naming) (so : SaysSo a naming) where
       out (inr x) = inr (x.0, frames_so w.output h.0 x.0 x.1)
 
   pub part_so : (scene : Scene) (p : NetPart) → NamesPart naming scene p → NamesPart a scene p
-  part_so scene (NetDevice rx_free rx_active tx_active tx_free frames) h = ((h.0.0, pair_so h.0.0 rx_free rx_active h.0.1), (h.1.0, pair_so h.1.0 tx_active tx_free h.1.1))
+  part_so scene (NetDevice rx_free rx_active tx_active tx_free frames drops) h = ((h.0.0, pair_so h.0.0 rx_free rx_active h.0.1), (h.1.0, pair_so h.1.0 tx_active tx_free h.1.1))
   part_so scene (NetDriver ways) h = λ k w at. way_so w (h k w at)
   part_so scene (NetReceiver active free pool clients) h = record {
     frames = frames_so active _ _ h.frames;
@@ -60,7 +60,7 @@ module _ (a naming : Naming) (so : SaysSo a naming) where
     leases = λ k c at. leases_so c.active _ (h.leases k c at);
     returns = λ k c at. returns_so c.free _ (h.returns k c at);
   }
-  part_so scene (NetCopier lease_active lease_free rx_active rx_free) h = ((h.0.0, leases_so lease_active h.0.0 h.0.1, returns_so lease_free h.0.0 h.0.2), (h.1.0, pair_so h.1.0 rx_free rx_active h.1.1))
+  part_so scene (NetCopier lease_active lease_free rx_active rx_free drops) h = ((h.0.0, leases_so lease_active h.0.0 h.0.1, returns_so lease_free h.0.0 h.0.2), (h.1.0, pair_so h.1.0 rx_free rx_active h.1.1))
   part_so scene (NetClient program mac rx_active rx_free tx_active tx_free rx tx) h = (pair_so _ rx_active rx_free h.0, pair_so _ tx_active tx_free h.1)
 
   pub send_so : (p : SendPart) → NamesSend naming p → NamesSend a p

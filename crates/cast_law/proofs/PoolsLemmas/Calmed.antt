@@ -353,6 +353,7 @@ module _ (rows : List QueueRow) (n : Option NetPlace) (b : Option BlkPlace) (cas
       pools_many = whole.pools_many;
       programs_many = whole.programs_many;
       device = has_part _ refl whole.device;
+      waits = whole.waits;
       driver = has_part _ refl whole.driver;
       receiver = has_part _ refl whole.receiver;
       sender = has_part _ refl whole.sender;

@@ -12,7 +12,7 @@ use Rattle.play_core.proofs.Lists.{some_is, there_is}
 use Rattle.owner_law.specs.Things.{NoBuffers, Naming, naming_of}
 use Rattle.owner_law.proofs.Carrying.{get_first}
 use Rattle.net_law.specs.RxOwners.Virtualiser.{AreNet}
-use Rattle.net_law.specs.Parts.Numbers.{device_at, driver_at, receiver_at, copier_at, client_at, layout_naming}
+use Rattle.net_law.specs.Parts.Numbers.{device_at, driver_at, receiver_at, copier_at, client_at, layout_naming, policy_at}
 use Rattle.net_law.proofs.PartsLemmas.Numbering.{device_named, driver_named, receiver_named, copier_named, client_named}
 use Rattle.net_law.proofs.PartsLemmas.Owning.{net_puts}
 use Rattle.net_law.specs.Parts.Parts.{NetPart}
@@ -157,13 +157,13 @@ module _ (rows : List QueueRow) (cast : List Part) (calm : AllCalm cast) (seated
             side (inr far) = from_is (first_naming scene n) blk s.queue (omega (arith, far)) ∙ blk_past blk (s.queue - blk.first) (omega (arith, far))
 
     network_named : (net : NetPlace) → HasWhole rows net cast → net.first ≡ 0 → (a : Naming) → SaysSo a (layout_naming scene net.pool net.macs net.pools) → (p : Part) → IsOfNetwork net scene.frames p → NamesAt a scene p
-    network_named net whole first a so p (inl e) = subst (NamesAt a scene) (sym (e ∙ ap (λ q. NetworkPart (device_at q scene.frames)) first)) (part_so a _ so scene (device_at 0 scene.frames) (device_named scene net.pool net.macs net.pools scene.frames))
+    network_named net whole first a so p (inl e) = subst (NamesAt a scene) (sym (e ∙ ap (λ q. NetworkPart (device_at q scene.frames net.device_drops)) first)) (part_so a _ so scene (device_at 0 scene.frames net.device_drops) (device_named scene net.pool net.macs net.pools scene.frames net.device_drops))
     network_named net whole first a so p (inr (inl e)) = subst (NamesAt a scene) (sym (e ∙ ap (λ q. NetworkPart (driver_at q)) first)) (part_so a _ so scene (driver_at 0) (driver_named scene net.pool net.macs net.pools))
     network_named net whole first a so p (inr (inr (inl e))) = subst (NamesAt a scene) (sym (e ∙ ap (λ q. NetworkPart (receiver_at q net.pool net.macs)) first)) (part_so a _ so scene (receiver_at 0 net.pool net.macs) (receiver_named scene net.pool net.macs net.pools (sym whole.pools_many)))
     network_named net whole first a so p (inr (inr (inr (inl e)))) = subst (NamesAt a scene) (sym (e ∙ ap (λ q. SendingPart (sender_at q net.most net.pools)) first)) (send_so a _ so (sender_at 0 net.most net.pools) (sender_named scene net.most net.pool net.macs net.pools))
     network_named net whole first a so p (inr (inr (inr (inr (inl x))))) =
         let q = there_is net.pools x.0 (omega (arith, x.1, whole.pools_many)) in
-        subst (NamesAt a scene) (sym (x.2 ∙ ap (λ f. NetworkPart (copier_at f x.0)) first)) (part_so a _ so scene (copier_at 0 x.0) (copier_named scene net.pool net.macs net.pools x.0 q.0 q.1))
+        subst (NamesAt a scene) (sym (x.2 ∙ ap (λ f. NetworkPart (copier_at f x.0 (policy_at net.drops x.0))) first)) (part_so a _ so scene (copier_at 0 x.0 (policy_at net.drops x.0)) (copier_named scene net.pool net.macs net.pools x.0 q.0 (policy_at net.drops x.0) q.1))
     network_named net whole first a so p (inr (inr (inr (inr (inr x))))) = subst (NamesAt a scene) (sym (x.5 ∙ ap (λ f. NetworkPart (client_at f x.0 x.1 x.2 (own_pools x.3))) first)) (part_so a _ so scene (client_at 0 x.0 x.1 x.2 (own_pools x.3)) (client_named scene net.pool net.macs net.pools x.0 x.3 x.1 x.2 x.4.pools))
 
     block_named : (blk : BlkPlace) → HasBlk rows blk cast → HasApartPools blk → (a : Naming) → IsNamedAt a blk → (p : BlkPart) → IsOfBlock blk p → NamesServed a p

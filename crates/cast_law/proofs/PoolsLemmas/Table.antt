@@ -10,7 +10,7 @@ use Rattle.play_core.specs.Wants.{intake, outlet}
 use Rattle.play_core.proofs.Lists.{there_is, there_below}
 use Rattle.net_law.specs.Owners.Names.{ClientPools}
 use Rattle.net_law.specs.Parts.Parts.{Lessee}
-use Rattle.net_law.specs.Parts.Numbers.{device_at, driver_at, client_first, lessees_from, receiver_at, copier_at, client_at}
+use Rattle.net_law.specs.Parts.Numbers.{device_at, driver_at, client_first, lessees_from, receiver_at, copier_at, client_at, policy_at}
 use Rattle.net_law.specs.Parts.Table.{net_sheet}
 use Rattle.net_law.proofs.PartsLemmas.Pairs.{twice, pair_first, pair_second}
 use Rattle.net_law.specs.TxParts.Parts.{Shipper}
@@ -63,8 +63,8 @@ module _ (rows : List QueueRow) (net : NetPlace) (cast : List Part) (calm : AllC
   abbrev pub scene : Scene
   scene = scene_of cast
 
-  pub at_device : HasPart cast (NetworkPart (device_at 0 scene.frames))
-  at_device = subst (λ n. HasPart cast (NetworkPart (device_at n scene.frames))) first whole.device
+  pub at_device : HasPart cast (NetworkPart (device_at 0 scene.frames net.device_drops))
+  at_device = subst (λ n. HasPart cast (NetworkPart (device_at n scene.frames net.device_drops))) first whole.device
 
   pub at_driver : HasPart cast (NetworkPart (driver_at 0))
   at_driver = subst (λ n. HasPart cast (NetworkPart (driver_at n))) first whole.driver
@@ -75,8 +75,8 @@ module _ (rows : List QueueRow) (net : NetPlace) (cast : List Part) (calm : AllC
   pub at_sender : HasPart cast (SendingPart (sender_at 0 net.most net.pools))
   at_sender = subst (λ n. HasPart cast (SendingPart (sender_at n net.most net.pools))) first whole.sender
 
-  pub at_copier : (k : ℕ) → k < length net.macs → HasPart cast (NetworkPart (copier_at 0 k))
-  at_copier k lt = subst (λ n. HasPart cast (NetworkPart (copier_at n k))) first (whole.copier k lt)
+  pub at_copier : (k : ℕ) → k < length net.macs → HasPart cast (NetworkPart (copier_at 0 k (policy_at net.drops k)))
+  at_copier k lt = subst (λ n. HasPart cast (NetworkPart (copier_at n k (policy_at net.drops k)))) first (whole.copier k lt)
 
   -- each client is there, with its pools
   pub at_client : (k : ℕ) (q : ClientPools) → slice_get net.pools k ≡ Some q → (program : Program) × (mac : Mac) × HasPart cast (NetworkPart (client_at 0 k program mac (own_pools q)))
@@ -152,7 +152,7 @@ module _ (rows : List QueueRow) (net : NetPlace) (cast : List Part) (calm : AllC
         let seat = pair_second (λ (x : Shipper). intake x.active) (λ x. outlet x.free) (shippers_from 0 net.most 0 net.pools) k c.0 c.1 in
         (at_sender.0, _, suc (suc (suc (twice k))), at_sender.1, tt, seat ∙ ap (λ n. Some (outlet n)) (plain 5 c.3))
 
-    copies : (i : ℕ) (n : ℕ) (r : Role) → slice_get (net_sheet scene (copier_at 0 k)).ends i ≡ Some (record { queue = n; role = r }) → HasEnd n r
+    copies : (i : ℕ) (n : ℕ) (r : Role) → slice_get (net_sheet scene (copier_at 0 k (policy_at net.drops k))).ends i ≡ Some (record { queue = n; role = r }) → HasEnd n r
     copies i n r at = ((at_copier k lt).0, _, i, (at_copier k lt).1, tt, at)
 
     plays : (i : ℕ) (n : ℕ) (r : Role) → ((program : Program) (mac : Mac) → slice_get (net_sheet scene (client_at 0 k program mac (own_pools pools_here.0))).ends i ≡ Some (record { queue = n; role = r })) → HasEnd n r

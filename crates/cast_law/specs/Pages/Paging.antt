@@ -108,10 +108,10 @@ page_holders scene (x ∷ actors) passed stand = page_holder scene x passed (sta
 -- the pools of a part of the network: that which its receiving virtualiser lends, and both of a
 -- client
 abbrev pub net_part_pools : NetPart → List PoolAt
-net_part_pools (NetDevice rx_free rx_active tx_active tx_free frames) = []
+net_part_pools (NetDevice rx_free rx_active tx_active tx_free frames drops) = []
 net_part_pools (NetDriver ways) = []
 net_part_pools (NetReceiver active free pool clients) = pool ∷ []
-net_part_pools (NetCopier lease_active lease_free rx_active rx_free) = []
+net_part_pools (NetCopier lease_active lease_free rx_active rx_free drops) = []
 net_part_pools (NetClient program mac rx_active rx_free tx_active tx_free rx tx) = rx ∷ tx ∷ []
 
 -- the pools of a part of the block class: the virtualiser's own, and a client's

@@ -47,10 +47,10 @@ NamesAt naming scene (HostilePart p) = NothingAt naming scene (HostilePart p)
 
 -- the pool that a part of the network lends has its size by its number
 abbrev pub LendsSized : (ℕ → ℕ) → NetPart → Type 0
-LendsSized sizes (NetDevice rx_free rx_active tx_active tx_free frames) = Unit {0}
+LendsSized sizes (NetDevice rx_free rx_active tx_active tx_free frames drops) = Unit {0}
 LendsSized sizes (NetDriver ways) = Unit {0}
 LendsSized sizes (NetReceiver active free pool clients) = sizes pool.number ≡ pool.buffers
-LendsSized sizes (NetCopier lease_active lease_free rx_active rx_free) = Unit {0}
+LendsSized sizes (NetCopier lease_active lease_free rx_active rx_free drops) = Unit {0}
 LendsSized sizes (NetClient program mac rx_active rx_free tx_active tx_free rx tx) = Unit {0}
 
 -- so has that of any part

@@ -6,16 +6,16 @@ use Rattle.expect_core.specs.declared.report.Report.{Report}
 use Rattle.region_layout.specs.declared.layout.Layout.{Layout}
 use Rattle.report_text.specs.Reports.{report_text}
 use Rattle.wire_core.specs.declared.names.Entry.{Entry}
-use Rattle.view_text.specs.PictureKit.Svg.{svg_text}
-use Rattle.view_text.specs.declared.picture_kit.shape.Picture.{Picture}
-use Rattle.view_text.specs.declared.layout_view.picture_style.page.TheConstants.{PAGE_FRONT, PAGE_END}
-use Rattle.view_text.specs.declared.layout_view.picture_style.sheet.TheConstants.{PICTURE_STYLE}
+use Rattle.picture_kit.specs.Svg.{svg_text}
+use Rattle.picture_kit.specs.declared.shape.Picture.{Picture}
+use Rattle.pictures.specs.declared.layout_view.picture_style.page.TheConstants.{PAGE_FRONT, PAGE_END}
+use Rattle.pictures.specs.declared.layout_view.picture_style.sheet.TheConstants.{PICTURE_STYLE}
 use Rattle.view_plays.specs.PlayView.PageText.Page.{page_text}
 use Rattle.view_plays.specs.declared.play_view.page_text.page.Part.{Part}
-use Rattle.view_text.specs.PlayPicture.FillPicture.Fills.{counts_of as fills_of}
-use Rattle.view_text.specs.PlayPicture.Pictures.{picture_of}
-use Rattle.view_text.specs.PlayPicture.PoolPicture.Pictures.{picture_of as pools_of}
-use Rattle.view_text.specs.LayoutView.Drawn.{layout_shapes}
+use Rattle.pictures.specs.PlayPicture.FillPicture.Fills.{counts_of as fills_of}
+use Rattle.pictures.specs.PlayPicture.Pictures.{picture_of}
+use Rattle.pictures.specs.PlayPicture.PoolPicture.Pictures.{picture_of as pools_of}
+use Rattle.pictures.specs.LayoutView.Drawn.{layout_shapes}
 use Rattle.command_words.specs.declared.play_words.ask.Drawing.{Drawing}
 use Rattle.command_words.specs.declared.play_words.options.Name.TheVariants as An
 use Rattle.command_words.specs.declared.play_words.options.Setting.{Setting}

@@ -5,11 +5,11 @@ use Rattle.sdf_plan.specs.declared.place.Refusal.{Refusal}
 use Rattle.sdf_plan.specs.declared.plan.Plan.{Plan}
 use Rattle.sdf_model.specs.Counts.{text_most}
 use Rattle.region_layout.specs.Layouts.{layout_of}
-use Rattle.view_text.specs.ExportText.System.{system_text}
-use Rattle.view_text.specs.ExportText.Symbols.{bad_symbol}
+use Rattle.export_text.specs.System.{system_text}
+use Rattle.export_text.specs.Symbols.{bad_symbol}
 use Rattle.region_layout.specs.declared.layout.Layout.{Layout}
-use Rattle.view_text.specs.ExportText.ConfigText.Config.{config_text, HeaderRows}
-use Rattle.view_text.specs.LayoutView.Drawn.{layout_svg, layout_graph}
+use Rattle.export_text.specs.ConfigText.Config.{config_text, HeaderRows}
+use Rattle.pictures.specs.LayoutView.Drawn.{layout_svg, layout_graph}
 use Rattle.view_plays.specs.declared.view_core.answer.Answer.{Answer}
 use Rattle.view_plays.specs.declared.view_core.answer.Answer.TheVariants as Is
 use Rattle.view_plays.specs.declared.view_core.ended.Ended.{Ended}

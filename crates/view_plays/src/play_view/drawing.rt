@@ -11,16 +11,16 @@ use cargo_core::{Bytes, Memory, Text};
 use command_words::play_words::{Drawing, Name, Setting, number_of};
 use expect_core::Report;
 use layout_laws::seats::seat_law;
+use picture_kit::{Picture, write_svg};
+use pictures::layout_view::picture;
+use pictures::layout_view::picture_style::{PAGE_END, PAGE_FRONT, PICTURE_STYLE};
+use pictures::play_picture::fill_picture::fill_picture;
+use pictures::play_picture::pool_picture::pool_picture;
+use pictures::play_picture::{Cast, play_picture};
 use region_layout::Layout;
 use report_text::write_report;
 use sdf_plan::Plan;
 use std::alloc::Global;
-use view_text::layout_view::picture;
-use view_text::layout_view::picture_style::{PAGE_END, PAGE_FRONT, PICTURE_STYLE};
-use view_text::picture_kit::{Picture, write_svg};
-use view_text::play_picture::fill_picture::fill_picture;
-use view_text::play_picture::pool_picture::pool_picture;
-use view_text::play_picture::{Cast, play_picture};
 use wire_core::Entry;
 
 /// How many steps are drawn where no end is named.

@@ -3,7 +3,7 @@ ghost use Rattle.std.specs.Prelude.{◌≡◌, IfOk};
 ghost use Rattle.sdf_plan.specs.Elements.{IsNumbered};
 ghost use Rattle.sdf_check.specs.Valid.{Valid};
 ghost use Rattle.region_layout.specs.Layouts.{layout_of};
-ghost use Rattle.view_text.specs.ExportText.ConfigText.Config.{config_text};
+ghost use Rattle.export_text.specs.ConfigText.Config.{config_text};
 ghost use Rattle.view_plays.specs.ViewCore.Deciding.{Show, Refuse, decision_of, view_text, rows_of};
 ghost use Rattle.view_plays.specs.ViewCore.Deciding.{unnameable, PlanShows};
 ghost use Rattle.view_plays.specs.ViewCore.Lines.{identifier_line};
@@ -13,12 +13,12 @@ use crate::view_core::ask::View;
 use crate::view_core::ended::Ended;
 use crate::view_core::line::write_no_identifier;
 use cargo_core::{Bytes, Memory};
+use export_text::config_text::{Rows, write_config};
+use export_text::{first_bad_symbol, write_system};
+use pictures::layout_view::{draw_graph, draw_layout};
 use region_layout::lay_out;
 use sdf_plan::{Place, Plan};
 use std::alloc::Global;
-use view_text::export_text::config_text::{Rows, write_config};
-use view_text::export_text::{first_bad_symbol, write_system};
-use view_text::layout_view::{draw_graph, draw_layout};
 
 // The header of a plan.
 fn write_header(alloc: Global, plan: &Plan) -> Result<Bytes, Memory>

@@ -1,22 +1,29 @@
-use Rattle.std.proofs.Common.{◌<◌, ℕ, List, sym, subst}
+use Rattle.std.proofs.Common.{◌<◌, ℕ, List, map, sym, subst}
 use Rattle.frame_core.specs.declared.mac.Mac.{Mac}
 use Rattle.cargo_core.specs.declared.item.Ask.{Ask}
-use Rattle.class_expect.specs.NetExpect.Expecting.{frames_for}
+use Rattle.frame_core.specs.Frames.{turned_round}
+use Rattle.class_expect.specs.NetExpect.Expecting.{answers_for, frames_for}
 use Rattle.class_expect.specs.SerialSwitch.Switching.{input_of}
 use Rattle.class_expect.specs.BlkExpect.Replies.{replies_of}
 use Rattle.expect_core.specs.Expected.{client_asks, client_entry}
 use Rattle.cast_core.specs.Sources.{client_mac}
-use Rattle.system_core.specs.Isolation.{BlkRests, IsRecordBut, IsRecordIn, NetRests, SerialRests, may_drop}
-use Rattle.system_core.proofs.Isolating.{frames_of, input_for, of_one, replies_for}
+use Rattle.system_core.specs.Isolation.{BlkRests, IsRecordBut, IsRecordIn, NetRests, SerialRests, may_drop, net_may_drop}
+use Rattle.system_core.proofs.Isolating.{echoes_of, frames_of, input_for, of_one, replies_for}
 use Rattle.system_core.proofs.isolation.isolation_law.Goals as goal
 
 pub returns-clause-net : goal.returns-clause-net
-returns-clause-net k plan other trace told s t c d got seen h g same at to =
-    let mac = client_mac plan c in
-    of_one (frames_for mac trace.frames) (frames_for mac told.frames) (NetRests plan s) (NetRests other t) got seen
-    (λ quiet rests. k.isolation_law.ensures.net mac trace.frames told.frames quiet rests got seen same.frames)
-    (frames_of plan trace s c got h same.here at)
-    (subst (λ (m : Mac). IsRecordIn (frames_for m told.frames) (NetRests other t) seen) (sym same.mac) (frames_of other told t d seen g same.there to))
+returns-clause-net k plan other trace told s t c d got seen h g same at to = record {
+  one = frames_of plan trace s c got h same.here at;
+  other = subst (λ (xs : List (List ℕ)). IsRecordBut xs (net_may_drop other d) (NetRests other t) seen) (sym same.frames)
+      (subst (λ (m : Mac). IsRecordBut (frames_for m told.frames) (net_may_drop other d) (NetRests other t) seen) (sym same.mac) (frames_of other told t d seen g same.there to));
+}
+
+pub returns-clause-echoes : goal.returns-clause-echoes
+returns-clause-echoes k plan other trace told s t c d sent seen h g same is_echo and_there at to = record {
+  one = echoes_of plan trace s c sent h same.here is_echo at;
+  other = subst (λ (xs : List (List ℕ)). IsRecordBut (map (λ (frame : List ℕ). turned_round frame (client_mac plan c)) xs) (net_may_drop other d) (Unit {0}) seen) (sym same.frames)
+      (subst (λ (m : Mac). IsRecordBut (answers_for m told.frames) (net_may_drop other d) (Unit {0}) seen) (sym same.mac) (echoes_of other told t d seen g same.there and_there to));
+}
 
 pub returns-clause-serial : goal.returns-clause-serial
 returns-clause-serial k plan other trace told s t c got seen h g same at to =

@@ -1,8 +1,8 @@
 -- The text of a page: its pictures, each under a heading, and its report.
 use Rattle.std.specs.Prelude.{ℕ, List, [], ◌++◌, codes}
 use Rattle.std.specs.List.{flat_map}
-use Rattle.view_text.specs.XmlText.Spelling.{escaped}
-use Rattle.view_text.specs.PictureKit.Svg.{svg_text}
+use Rattle.picture_kit.specs.XmlText.Spelling.{escaped}
+use Rattle.picture_kit.specs.Svg.{svg_text}
 use Rattle.view_plays.specs.declared.play_view.page_text.page.Part.{Part}
 
 -- a text between a begin and an end

@@ -1,13 +1,13 @@
 //! A page in HTML: a front, each picture under its heading, the report, and an end.
 ghost use Rattle.std.specs.Prelude.{◌≡◌, ◌++◌, IfOk, OnOk};
-ghost use Rattle.view_text.specs.XmlText.Spelling.{escaped};
+ghost use Rattle.picture_kit.specs.XmlText.Spelling.{escaped};
 ghost use Rattle.view_plays.specs.PlayView.PageText.Page.{between, heading_text, part_text, parts_text, report_text};
 ghost use Rattle.view_plays.specs.PlayView.PageText.Page.{style_text, page_text};
 
 use cargo_core::{Bytes, Memory, Text};
+use picture_kit::xml_text::push_escaped;
+use picture_kit::{Picture, write_svg};
 use std::alloc::Global;
-use view_text::picture_kit::{Picture, write_svg};
-use view_text::xml_text::push_escaped;
 
 /// A picture under a heading.
 #[derive(Debug, Drop)]

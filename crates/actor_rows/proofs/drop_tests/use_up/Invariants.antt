@@ -1,5 +1,0 @@
-use Rattle.actor_rows.specs.Sizes.{DeviceStands}
-use Rattle.actor_rows.proofs.drop_tests.use_up.Given as goal
-
-abbrev pub invariant-loop-call : goal.invariant-loop-call
-invariant-loop-call l = DeviceStands l.world l.device

@@ -1,5 +1,0 @@
-use Rattle.actor_rows.specs.Standings.{RxStands}
-use Rattle.actor_rows.proofs.serial_tests.tell.Given as goal
-
-abbrev pub invariant-loop-byte : goal.invariant-loop-byte
-invariant-loop-byte l = RxStands l.world l.virt

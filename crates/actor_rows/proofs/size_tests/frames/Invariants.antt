@@ -1,5 +1,0 @@
-use Rattle.std.proofs.Common.{◌<◌, ◌^◌, length, All}
-use Rattle.actor_rows.proofs.size_tests.frames.Given as goal
-
-abbrev pub invariant-loop-frame : goal.invariant-loop-frame
-invariant-loop-frame l = All (λ frame. length frame < 2 ^ 16) l.log

@@ -1,8 +1,0 @@
-use Rattle.actor_rows.proofs.Sizing.{new_device}
-use Rattle.actor_rows.proofs.size_tests.run_device.Goals as goal
-
-pub settle-requires : goal.settle-requires
-settle-requires c = new_device _ c.requires.fed _ _ c.requires.short c.requires.new
-
-pub returns : goal.returns
-returns c = c.settle.ensures.long

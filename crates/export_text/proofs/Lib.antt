@@ -1,0 +1,6 @@
+mod ElementLemmas
+mod NumberLemmas
+mod NameLemmas
+mod FieldLemmas
+mod FileLemmas
+pub mod ConfigText

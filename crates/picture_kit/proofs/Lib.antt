@@ -1,0 +1,2 @@
+mod QuoteLemmas
+pub mod XmlText

@@ -1,0 +1,2 @@
+pub mod LayoutView
+pub mod PlayPicture

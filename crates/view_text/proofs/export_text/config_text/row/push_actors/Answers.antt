@@ -1,7 +1,0 @@
-use Rattle.view_text.specs.ExportText.ConfigText.Config.{actor_text}
-use Rattle.view_text.proofs.ExportText.ConfigText.LineLemmas.{numbered-step}
-use Rattle.view_text.proofs.export_text.config_text.row.push_actors.Goals as goal
-
-pub loop-at-preserved : goal.loop-at-preserved
-loop-at-preserved c =
-    numbered-step actor_text c.args.actors.now c.loop-at.at c.index-actors-at.result _ _ _ c.loop-at-test.true c.index-actors-at.is c.in_ok-push_actor.ensures c.loop-at.invariant

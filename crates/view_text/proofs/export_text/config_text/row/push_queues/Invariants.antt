@@ -1,8 +1,0 @@
-use Rattle.std.proofs.Common.{◌≡◌, ◌++◌, drop}
-use Rattle.view_text.specs.ExportText.ConfigText.Lines.{each_numbered}
-use Rattle.view_text.specs.ExportText.ConfigText.Config.{queue_text}
-use Rattle.view_text.proofs.export_text.config_text.row.push_queues.Given as goal
-
--- what was written and what is left is the whole
-abbrev pub invariant-loop-at : goal.invariant-loop-at
-invariant-loop-at l = l.to ++ each_numbered queue_text l.at (drop l.at l.queues) ≡ l.fn.to ++ each_numbered queue_text 0 l.queues

@@ -1,7 +1,0 @@
-use Rattle.view_text.specs.ExportText.ConfigText.Config.{region_text}
-use Rattle.view_text.proofs.ExportText.ConfigText.LineLemmas.{numbered-step}
-use Rattle.view_text.proofs.export_text.config_text.row.push_regions.Goals as goal
-
-pub loop-at-preserved : goal.loop-at-preserved
-loop-at-preserved c =
-    numbered-step region_text c.args.regions.now c.loop-at.at c.index-regions-at.result _ _ _ c.loop-at-test.true c.index-regions-at.is c.in_ok-push_region.ensures c.loop-at.invariant

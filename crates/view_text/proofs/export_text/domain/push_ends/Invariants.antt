@@ -1,6 +1,0 @@
-use Rattle.std.proofs.Common.{◌≡◌, ◌++◌, take, map}
-use Rattle.view_text.specs.ExportText.System.{end_tag}
-use Rattle.view_text.proofs.export_text.domain.push_ends.Given as goal
-
-abbrev pub invariant-loop-end : goal.invariant-loop-end
-invariant-loop-end l = l.tags ≡ l.fn.tags ++ map end_tag (take l.end-index l.ends)

@@ -1,6 +1,0 @@
-use Rattle.view_text.proofs.ExportText.NumberLemmas.{grouped-step}
-use Rattle.view_text.proofs.export_text.number.push_grouped.Goals as goal
-
-pub loop-at-preserved : goal.loop-at-preserved
-loop-at-preserved c =
-    grouped-step _ _ _ c.args.digits.now c.loop-at.at c.loop-at-test.true c.in_ok-push_digit.ensures c.loop-at.invariant

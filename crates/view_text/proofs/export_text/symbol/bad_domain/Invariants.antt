@@ -1,6 +1,0 @@
-use Rattle.std.proofs.Common.{◌≡◌, drop}
-use Rattle.view_text.specs.ExportText.Symbols.{bad_domain}
-use Rattle.view_text.proofs.export_text.symbol.bad_domain.Given as goal
-
-abbrev pub invariant-loop-at : goal.invariant-loop-at
-invariant-loop-at l = bad_domain 0 l.domains ≡ bad_domain l.at (drop l.at l.domains)

@@ -1,7 +1,0 @@
-use Rattle.std.proofs.Common.{◌≡◌, ◌++◌, take}
-use Rattle.std.specs.List.{flat_map}
-use Rattle.view_text.specs.ExportText.System.{channel_tags}
-use Rattle.view_text.proofs.export_text.system.push_channels.Given as goal
-
-abbrev pub invariant-loop-channel : goal.invariant-loop-channel
-invariant-loop-channel l = l.tags ≡ l.fn.tags ++ flat_map channel_tags (take l.channel-index l.channels)

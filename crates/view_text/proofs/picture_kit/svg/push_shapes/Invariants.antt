@@ -1,6 +1,0 @@
-use Rattle.std.proofs.Common.{◌≡◌, ◌++◌, take}
-use Rattle.view_text.specs.PictureKit.Svg.{shapes_text}
-use Rattle.view_text.proofs.picture_kit.svg.push_shapes.Given as goal
-
-abbrev pub invariant-loop-shape : goal.invariant-loop-shape
-invariant-loop-shape l = l.to ≡ l.initial.to ++ shapes_text (take l.shape-index l.shapes)

@@ -1,6 +1,0 @@
-use Rattle.std.proofs.Common.{◌≡◌, ◌≤◌, drop}
-use Rattle.view_text.specs.PlayPicture.FillPicture.Fills.{longest_queue}
-use Rattle.view_text.proofs.play_picture.fill_picture.picture.longest_queue.Given as goal
-
-abbrev pub invariant-loop-queue : goal.invariant-loop-queue
-invariant-loop-queue l = (longest_queue l.most (drop l.queue-index l.queues) ≡ longest_queue 0 l.queues) × (l.most ≤ 900)

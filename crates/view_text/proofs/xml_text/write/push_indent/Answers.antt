@@ -1,5 +1,0 @@
-use Rattle.view_text.proofs.XmlText.WriteLemmas.{indent-step}
-use Rattle.view_text.proofs.xml_text.write.push_indent.Goals as goal
-
-pub loop-preserved : goal.loop-preserved
-loop-preserved c = indent-step _ _ _ c.args.depth c.loop.counter c.loop-test.true c.in_ok-extend_from_slice.ensures.ok c.loop.invariant

@@ -1,6 +1,0 @@
-use Rattle.std.proofs.Common.{◌≡◌, ◌++◌, ◌-◌}
-use Rattle.view_text.specs.XmlText.Spelling.{indent}
-use Rattle.view_text.proofs.xml_text.write.push_indent.Given as goal
-
-abbrev pub invariant-loop : goal.invariant-loop
-invariant-loop l = l.to ++ indent (l.depth - l.counter) ≡ l.fn.to ++ indent l.depth
