@@ -3,6 +3,9 @@ use Rattle.std.specs.Option.{option_and_then}
 use Rattle.std.specs.Result.{result_ok, MatchResult}
 use Rattle.std.specs.List.{slice_split, onto_first, position_or_len, position}
 use Rattle.std.proofs.lemmas.Bool.{ltb-true, ltb-false, lt-leb, le-leb, eq-eqb, eqb-true, cases_Bool}
+use Rattle.std.proofs.lemmas.Bool.{false_from_ne_true, lt-ltb, le-ltb}
+use Rattle.std.proofs.lemmas.List.Sums.{position_or_len_is}
+use Rattle.memchr.specs.Find.{IsFirstByte, is_byte}
 use Rattle.std.proofs.lemmas.List.Splits.{slice_split_first}
 use Rattle.hex.specs.declared.error.FromHexError.{FromHexError}
 use Rattle.hex.specs.Hex.{decode_of, decode_sized}
@@ -30,6 +33,18 @@ position_some m n k h = elim (cases_Bool (ltb m n)) [
   | inl is ↦ (ltb-true m n is, (let e = rw is at h in cc))
   | inr isnt ↦ absurd (let e = rw isnt at h in cc)
 ]
+
+-- the place that a search for a byte gives
+pub first_place : (c : ℕ) (text : List ℕ) (r : Option ℕ) → IsFirstByte (is_byte c) text r
+    → r ≡ position (λ b. eqb b c) text
+first_place c text None none =
+    let end = position_or_len_is (λ b. eqb b c) text (length text) 0 (omega arith)
+    (λ k h. false_from_ne_true _ (none k (omega arith) h)) (λ h. absurd (omega arith)) in
+    rw end (rw (le-ltb (length text) (length text) (omega arith)) refl)
+first_place c text (Some k) found =
+    let at = position_or_len_is (λ b. eqb b c) text k 0 (omega (arith, found.0.high))
+    (λ j h. false_from_ne_true _ (found.0.before j (omega arith) h)) (λ h. found.1) in
+    rw at (rw (lt-ltb k (length text) found.0.high) refl)
 
 pub parts_none : (c : ℕ) (text : List ℕ) → position (λ b. eqb b c) text ≡ None → parts_of c text ≡ text ∷ []
 parts_none c text h = split_none (λ b. eqb b c) text (position_none (position_or_len (λ b. eqb b c) text) (length text) h)

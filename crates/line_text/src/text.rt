@@ -3,6 +3,8 @@ ghost use Rattle.std.specs.Prelude.{position, ◌==◌, ◌≡◌, ◌+◌, ◌<
 ghost use Rattle.std.specs.Prelude.{IfSome};
 ghost use Rattle.line_text.specs.Texts.{parts_of, lines_of, same_text, is_skipped};
 
+use memchr::memchr;
+
 /// Whether two texts are the same.
 pub fn same_text(a: &[u8], b: &str) -> bool
     ensures { result ≡ same_text a.now b.now }
@@ -11,10 +13,11 @@ pub fn same_text(a: &[u8], b: &str) -> bool
 }
 
 // The place of the first byte of a value.
+#[tactic(auto, using(crate::proofs::Pieces::first_place))]
 fn place_of(text: &[u8], at: u8) -> Option<usize>
     ensures { result ≡ position (λ b. b == at) text.now }
 {
-    text.iter().position(|b| *b == at)
+    memchr(at, text)
 }
 
 /// The text before the first byte of a value, and that after it; None where there is no such byte.
