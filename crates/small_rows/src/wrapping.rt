@@ -38,6 +38,8 @@ fn waits(actor: &Actor) -> bool
 {
     match actor {
         Actor::SerialVirtRx(virt) => !virt.drops.contains(&true),
+        Actor::EthDevice(device) => !device.drops,
+        Actor::NetCopier(copier) => !copier.drops,
         _ => true,
     }
 }
