@@ -92,12 +92,12 @@ fn edge(buffers: Buffers, number: u64) -> u64 {
 
 fn word_name(number: u64) -> &'static str {
     match number {
-        0 => "head ",
-        1 => "tail ",
-        2 => "flag ",
-        3 => "flag_back ",
-        4 => "pending ",
-        _ => "pending_back ",
+        0 => " head",
+        1 => " tail",
+        2 => " flag",
+        3 => " flag_back",
+        4 => " pending",
+        _ => " pending_back",
     }
 }
 
@@ -118,14 +118,11 @@ impl<'a> Hostile<'a> {
     ) -> Result<(), Memory> {
         write!(
             to,
-            "rogue {} {} {name} {queue} {word}",
+            "rogue {} {} {name} {queue}{word}",
             self.class, self.client
         )?;
-        for k in 0..numbers.len() {
-            if k > 0 {
-                to.push_str(" ")?;
-            }
-            write!(to, "{}", numbers[k])?;
+        for number in numbers {
+            write!(to, " {number}")?;
         }
         to.push_str("\n")?;
         Ok(())
